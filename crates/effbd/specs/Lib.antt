@@ -1,0 +1,15 @@
+pub mod Ranges
+pub mod Answers
+pub mod Records
+pub mod Diagrams
+pub mod Nesting
+pub mod Layout
+pub mod States
+pub mod Moves
+pub mod Nets
+pub mod Firing
+pub mod Patterns
+pub mod Image
+pub mod Annex
+pub mod BusEnds
+pub mod History

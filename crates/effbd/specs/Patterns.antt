@@ -1,0 +1,163 @@
+-- Document 01, "Net": the net of a diagram, transition by transition, and its translation into a lent area (refusal 10). Assumes nothing.
+use Prim.Native.Nat.{ℕ, zero, suc, _+_}
+use mathlib.Core.Bool.{Bool, true, false, cond, _&&_}
+use mathlib.Core.List.{List, [], _∷_, _++_, map}
+use lib.ListN.{length, getD, drop}
+use lib.Dec.{ltb, eqb}
+use Rattle.effbd.specs.Ranges.{only, tabulate}
+use Rattle.effbd.specs.Answers.{Outcome, accepted, refused}
+use Rattle.effbd.specs.Diagrams.{Kind, function, and-open, branch, and-close, or-open, or-close, it-open, it-close, lp-open, lp-close, loop-exit, end, Diagram, rowCount, initialCount, kind, isKind, alpha, beta, turnLimit, takes, gives}
+use Rattle.effbd.specs.Nesting.{owner, close, branchOf, loop, inLoop, readDiagram}
+use Rattle.effbd.specs.Layout.{Place, byPlace, places, placeOf}
+use Rattle.effbd.specs.States.{enteredRow, branchEntries}
+use Rattle.effbd.specs.Nets.{Arc, takeArc, clearArc, giveArc, Transition, Net, netBytes}
+
+-- a transition by the names of its places
+pub record Pattern : Type 0 where
+  pub earliest : ℕ
+  pub latest : ℕ
+  pub take : Place → ℕ
+  pub clear : Place → Bool
+  pub give : Place → ℕ
+
+-- weights: none; 1 at each row of a set; n at row r; and nothing cleared
+abbrev pub none : ℕ → ℕ
+none x = 0
+
+abbrev pub oneAt : (ℕ → Bool) → ℕ → ℕ
+oneAt S x = cond (S x) 1 0
+
+abbrev pub weightOf : ℕ → ℕ → ℕ → ℕ
+weightOf r n x = cond (only r x) n 0
+
+abbrev pub nowhere : Place → Bool
+nowhere p = false
+
+-- "interval [0, 0] unless said"
+abbrev pub atOnce : (Place → ℕ) → (Place → Bool) → (Place → ℕ) → Pattern
+atOnce take clear give = record { earliest = 0; latest = 0; take = take; clear = clear; give = give }
+
+-- one mark on P of each row of a set
+abbrev pub marksP : (ℕ → Bool) → Place → ℕ
+marksP S = byPlace (oneAt S) none none none
+
+-- a transition that stands for none
+abbrev pub noPattern : Pattern
+noPattern = atOnce (λ p. 0) nowhere (λ p. 0)
+
+module _ (d : Diagram) where
+  -- "The *entry place* of s is P of the row that entering s changes"
+  abbrev pub entryRow : ℕ → ℕ → Bool
+  entryRow q = only (enteredRow d q)
+
+  -- "clears all places of its loop's rows": all places of a set of rows; "R = count at each IT open in them"
+  abbrev pub clearsRows : (ℕ → Bool) → Place → Bool
+  clearsRows W = byPlace W W W (λ k. false)
+
+  abbrev pub restoresR : (ℕ → Bool) → ℕ → ℕ
+  restoresR W q = cond (W q && isKind d it-open q) (turnLimit d q) 0
+
+  -- "Transitions, by label"
+  abbrev pub patternsAs : Kind → ℕ → List Pattern
+  -- "first takes P and its takes, gives Q; second, [α, β], takes Q, gives entry of r + 1 and its gives"
+  patternsAs function r =
+      atOnce (byPlace (oneAt (only r)) none none (takes d r)) nowhere (byPlace none (oneAt (only r)) none none)
+      ∷ record {
+        earliest = alpha d r;
+        latest = beta d r;
+        take = byPlace none (oneAt (only r)) none none;
+        clear = nowhere;
+        give = byPlace (oneAt (entryRow (suc r))) none none (gives d r);
+      }
+      ∷ []
+  -- "AND open: takes P, gives every branch's entry. AND close: takes P of every BRANCH row, gives entry of r + 1"
+  patternsAs and-open r = atOnce (marksP (only r)) nowhere (marksP (branchEntries d r)) ∷ []
+  patternsAs and-close r = atOnce (marksP (branchOf d (owner d r))) nowhere (marksP (entryRow (suc r))) ∷ []
+  -- "BRANCH of an OR: takes P of the open, gives entry of r + 1"
+  patternsAs branch r = cond (isKind d or-open (owner d r)) (atOnce (marksP (only (owner d r))) nowhere (marksP (entryRow (suc r))) ∷ []) []
+  -- "OR close, LP open: P to entry of r + 1. IT close, LP close: P to P of the open"
+  patternsAs or-close r = atOnce (marksP (only r)) nowhere (marksP (entryRow (suc r))) ∷ []
+  patternsAs lp-open r = atOnce (marksP (only r)) nowhere (marksP (entryRow (suc r))) ∷ []
+  patternsAs it-close r = atOnce (marksP (only r)) nowhere (marksP (only (owner d r))) ∷ []
+  patternsAs lp-close r = atOnce (marksP (only r)) nowhere (marksP (only (owner d r))) ∷ []
+  -- "IT open: first takes P and one R, gives one Q and entry of r + 1; second takes P and count Q, gives count R and the entry after its close"
+  patternsAs it-open r =
+      atOnce (byPlace (oneAt (only r)) none (oneAt (only r)) none) nowhere (byPlace (oneAt (entryRow (suc r))) (oneAt (only r)) none none)
+      ∷ atOnce (byPlace (oneAt (only r)) (weightOf r (turnLimit d r)) none none) nowhere
+      (byPlace (oneAt (entryRow (suc (close d r)))) none (weightOf r (turnLimit d r)) none)
+      ∷ []
+  -- "LE: takes P, clears all places of its loop's rows, gives R = count at each IT open in them and the entry after the loop"
+  patternsAs loop-exit r =
+      atOnce (marksP (only r)) (clearsRows (inLoop d r))
+      (byPlace (oneAt (entryRow (suc (close d (loop d r))))) none (restoresR (inLoop d r)) none)
+      ∷ []
+  patternsAs or-open r = []
+  patternsAs end r = []
+
+  abbrev pub patterns : ℕ → List Pattern
+  patterns r = patternsAs (kind d r) r
+
+  -- the transitions of the rows below n, in the order of their numbers: the row, which is the label, and which of its transitions
+  pub record Name : Type 0 where
+    pub label : ℕ
+    pub index : ℕ
+
+  unfoldable pub names : ℕ → List Name
+  names zero = []
+  names (suc n) = names n ++ tabulate (length (patterns n)) (λ i. record { label = n; index = i })
+
+-- "places rising, zero weights left out": the arcs of kind k of a weight at each of n places
+unfoldable pub arcsOf : ℕ → ℕ → (ℕ → ℕ) → List Arc
+arcsOf k zero weight = []
+arcsOf k (suc n) weight = arcsOf k n weight ++ cond (eqb (weight n) 0) [] (record { kind = k; first = n; second = weight n } ∷ [])
+
+-- "clear ranges rising and disjoint": the ranges of n places from place p on that are cleared, as few as can be
+abbrev pub clearRange : ℕ → ℕ → Arc
+clearRange first last = record { kind = clearArc; first = first; second = last }
+
+abbrev pub joinRange : ℕ → List Arc → List Arc
+joinRange p [] = clearRange p p ∷ []
+joinRange p (x ∷ xs) = cond (eqb (x .first) (suc p)) (clearRange p (x .second) ∷ xs) (clearRange p p ∷ x ∷ xs)
+
+unfoldable pub rangesFrom : ℕ → ℕ → (ℕ → Bool) → List Arc
+rangesFrom zero p cleared = []
+rangesFrom (suc n) p cleared = let later = rangesFrom n (suc p) cleared in cond (cleared p) (joinRange p later) later
+
+module _ (d : Diagram) where
+  -- the pattern of a name, and its transition by numbers: takes, clears, gives
+  abbrev pub patternOf : Name d → Pattern
+  patternOf x = getD (patterns d (x .label)) (x .index) noPattern
+
+  unfoldable pub transitionOf : Name d → Transition
+  transitionOf x = record {
+    label = x .label;
+    earliest = patternOf x .earliest;
+    latest = patternOf x .latest;
+    arcs = arcsOf takeArc (places d) (λ p. patternOf x .take (placeOf d p))
+        ++ (rangesFrom (places d) 0 (λ p. patternOf x .clear (placeOf d p)) ++ arcsOf giveArc (places d) (λ p. patternOf x .give (placeOf d p)));
+  }
+
+  -- "Fresh marks: 1 at the place that entering row 0 marks, R = count at each IT open, initial counts, else 0"
+  abbrev pub freshMark : Place → ℕ
+  freshMark = byPlace (oneAt (entryRow d 0)) none (restoresR d (λ q. true)) (initialCount d)
+
+  unfoldable pub netOf : Net
+  netOf = record { marks = tabulate (places d) (λ p. freshMark (placeOf d p)); transitions = map transitionOf (names d (rowCount d)) }
+
+-- what a translation returns, and what the lent area holds afterwards: "A translation returns the net's length; area bytes beyond it
+-- keep their values"; 10 with the "bytes needed"
+pub record Translated : Type 0 where
+  pub answer : Outcome ℕ
+  pub area : List ℕ
+
+abbrev pub written : List ℕ → List ℕ → Translated
+written net area = cond (ltb (length area) (length net))
+    (record { answer = refused 10 (length net); area = area })
+    (record { answer = accepted (length net); area = net ++ drop (length net) area })
+
+abbrev pub translatedAs : Outcome Diagram → List ℕ → Translated
+translatedAs (accepted d) area = written (netBytes (netOf d)) area
+translatedAs (refused number value) area = record { answer = refused number value; area = area }
+
+unfoldable pub translated : (file area : List ℕ) → Translated
+translated file area = translatedAs (readDiagram file) area

@@ -1,0 +1,27 @@
+-- Bounded tests, searches and tables of numbers, which the definitions share. Assumes nothing.
+use Prim.Native.Nat.{ℕ, zero, suc}
+use mathlib.Core.Bool.{Bool, true, false, _&&_}
+use mathlib.Core.List.{List, [], _∷_}
+use lib.Dec.{leb, eqb}
+
+-- every number below n passes
+abbrev pub allBelow : ℕ → (ℕ → Bool) → Bool
+allBelow zero f = true
+allBelow (suc n) f = f n && allBelow n f
+
+-- the least number below n that passes, or n
+abbrev pub least : ℕ → (ℕ → Bool) → ℕ
+least zero f = zero
+least (suc n) f = elim (f zero) [ true ↦ zero | false ↦ suc (least n (λ i. f (suc i))) ]
+
+-- sets of numbers, as tests: the set of r alone; of all from a to b
+abbrev pub only : ℕ → ℕ → Bool
+only r q = eqb q r
+
+abbrev pub within : ℕ → ℕ → ℕ → Bool
+within a b q = leb a q && leb q b
+
+-- f 0, f 1, .. up to but not including f n
+abbrev pub tabulate : {A : Type 0} → ℕ → (ℕ → A) → List A
+tabulate zero f = []
+tabulate (suc n) f = f zero ∷ tabulate n (λ i. f (suc i))

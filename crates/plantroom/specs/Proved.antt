@@ -1,0 +1,27 @@
+-- The table of examples holds: computed.
+use mathlib.Core.Path.{_≡_, refl}
+use mathlib.Core.Bool.{true}
+use Rattle.effbd.specs.Records.{areBytes, kindTable, entryIn, lengthOf, fieldsOf, faultAt, readMany}
+use Rattle.effbd.specs.Diagrams.{kindOf, headFault, itemFault, usesAt, usesFine, rowAt, rowRight, rowFine, rowFault}
+use Rattle.effbd.specs.Nesting.{stack, owner, close, branchOf, loop, nestingBroken, exitMisplaced, thirteenthOpen, nestingFault, firstFaulty, nested, afterRows, afterItems, readDiagram}
+use Rattle.effbd.specs.Layout.{placeOf}
+use Rattle.effbd.specs.States.{stateWords, stateOf, enteredRow, branchEntries, freshWords}
+use Rattle.effbd.specs.Moves.{moveOf, wordsOutcome, moveWords, checkedMove, stepDiagram}
+use Rattle.effbd.specs.Nets.{arcBytes, transitionBytes, markBytes, netBytes, arcDue, arcFine, above, transitionFine, netHeadFault, markFault, arcFault, transitionFault, readTail, afterPlaces, readNet}
+use Rattle.effbd.specs.Firing.{weightAt, clearedAt, effectOf, covers, takenAndCleared, firedState, overflows, fire, fireLowest, letsPass, tickedState, netWait, netMove, checkedNetMove, stepNet, freshNetWords}
+use Rattle.effbd.specs.Patterns.{names, arcsOf, rangesFrom, transitionOf, netOf}
+use Rattle.effbd.specs.Annex.{digits, number, numbers, arcLines, transitionLines, netLines, printed, annexText}
+use Rattle.effbd.specs.BusEnds.{telegram, taken}
+use Rattle.plantroom.specs.Table.{fileOf, sameWords, plays, holds, allHold, examples, annexOfA, followerSays, followerHolds, tableHolds}
+
+-- THEOREM: document 01's examples A to I, with every number that it gives
+pub examples-hold : tableHolds ≡ true
+unfolding areBytes kindTable entryIn lengthOf fieldsOf faultAt readMany
+    kindOf headFault itemFault usesAt usesFine rowAt rowRight rowFine rowFault
+    stack owner close branchOf loop nestingBroken exitMisplaced thirteenthOpen nestingFault firstFaulty nested afterRows afterItems readDiagram
+    placeOf stateWords stateOf enteredRow branchEntries freshWords moveOf wordsOutcome moveWords checkedMove stepDiagram
+    arcBytes transitionBytes markBytes netBytes arcDue arcFine above transitionFine netHeadFault markFault arcFault transitionFault readTail afterPlaces readNet
+    weightAt clearedAt effectOf covers takenAndCleared firedState overflows fire fireLowest letsPass tickedState netWait netMove checkedNetMove stepNet freshNetWords
+    names arcsOf rangesFrom transitionOf netOf digits number numbers arcLines transitionLines netLines printed annexText telegram taken
+    fileOf sameWords plays holds allHold examples annexOfA followerSays followerHolds tableHolds
+examples-hold = refl
