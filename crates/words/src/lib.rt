@@ -1,0 +1,95 @@
+// Numbers of 16 and 32 bits, little-endian, in and out of bytes, and in and out of the words of a state.
+// Nothing is asked of a caller: past the end a byte or word is 0, a tail is empty, a store changes nothing.
+ghost use mathlib.Core.Path.{_≡_};
+ghost use Prim.Native.Nat.{_+_, _*_, _<_};
+ghost use lib.ListN.{length, drop, getD, set};
+ghost use Rattle.effbd.specs.Records.{word as wordIn};
+ghost use Rattle.words.specs.Stores.{longIn, wordPut, longPut};
+
+// The byte at `at`.
+pub fn byte(bytes: &[u8], at: usize) -> u16
+    ensures { λ r. ⌜ (r ≡ getD (now (bytes .entry)) at 0) × (r < 256) ⌝ }
+{
+    if at < bytes.len() {
+        return bytes[at] as u16;
+    }
+    0
+}
+
+// The 16 bits at `at`.
+pub fn word(bytes: &[u8], at: usize) -> u16
+    ensures { λ r. ⌜ r ≡ wordIn (now (bytes .entry)) at ⌝ }
+{
+    if at < bytes.len() {
+        return byte(bytes, at) + 256 * byte(bytes, at + 1);
+    }
+    0
+}
+
+// The 32 bits at `at`.
+pub fn long(bytes: &[u8], at: usize) -> u32
+    ensures { λ r. ⌜ r ≡ longIn (now (bytes .entry)) at ⌝ }
+{
+    if at < bytes.len() {
+        return word(bytes, at) as u32 + 65536 * (word(bytes, at + 2) as u32);
+    }
+    0
+}
+
+// What follows the first `n` bytes.
+pub fn tail<'a>(bytes: &'a [u8], n: usize) -> &'a [u8]
+    ensures { λ r. ⌜ now r ≡ drop n (now (bytes .entry)) ⌝ }
+{
+    if n <= bytes.len() {
+        return &bytes[n..];
+    }
+    &bytes[0..0]
+}
+
+// Stores a byte at `at`.
+pub fn put_byte(area: &mut [u8], at: usize, value: u8)
+    ensures { λ _. ⌜ now (area .exit) ≡ set (now (area .entry)) at value ⌝ }
+{
+    if at < area.len() {
+        area[at] = value;
+    }
+}
+
+// Stores 16 bits at `at`.
+pub fn put_word(area: &mut [u8], at: usize, value: u16)
+    ensures { λ _. ⌜ now (area .exit) ≡ wordPut (now (area .entry)) at value ⌝ }
+{
+    if at < area.len() {
+        put_byte(area, at, (value % 256) as u8);
+        put_byte(area, at + 1, (value / 256) as u8);
+    }
+}
+
+// Stores 32 bits at `at`.
+pub fn put_long(area: &mut [u8], at: usize, value: u32)
+    ensures { λ _. ⌜ now (area .exit) ≡ longPut (now (area .entry)) at value ⌝ }
+{
+    if at < area.len() {
+        put_word(area, at, (value % 65536) as u16);
+        put_word(area, at + 2, (value / 65536) as u16);
+    }
+}
+
+// The word of a state at `at`.
+pub fn get(state: &[u16], at: usize) -> u16
+    ensures { λ r. ⌜ r ≡ getD (now (state .entry)) at 0 ⌝ }
+{
+    if at < state.len() {
+        return state[at];
+    }
+    0
+}
+
+// Stores a word of a state at `at`.
+pub fn put(state: &mut [u16], at: usize, value: u16)
+    ensures { λ _. ⌜ now (state .exit) ≡ set (now (state .entry)) at value ⌝ }
+{
+    if at < state.len() {
+        state[at] = value;
+    }
+}
