@@ -10,14 +10,14 @@ use Rattle.effbd.specs.States.{State, stateOf}
 use Rattle.effbd.specs.Firing.{NetState, netWords}
 use Rattle.effbd.specs.Patterns.{Name, names}
 
+-- "1 for ready or done"; "1 for running"
+abbrev pub readyOrDone : ℕ → ℕ
+readyOrDone a = cond (eqb a 1 || eqb a 3) 1 0
+
+abbrev pub running : ℕ → ℕ
+running a = cond (eqb a 2) 1 0
+
 module _ (d : Diagram) where
-  -- "1 for ready or done"; "1 for running"
-  abbrev pub readyOrDone : ℕ → ℕ
-  readyOrDone a = cond (eqb a 1 || eqb a 3) 1 0
-
-  abbrev pub running : ℕ → ℕ
-  running a = cond (eqb a 2) 1 0
-
   -- "P is 1 for ready or done; Q is 1 for running, or the turns at an IT open; R is count less turns at an IT open; all else 0; item counts equal"
   abbrev pub imageMark : State → Place → ℕ
   imageMark s = byPlace (λ q. readyOrDone (s .activity q))

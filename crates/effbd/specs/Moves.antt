@@ -24,6 +24,15 @@ moveOf code argument = cond (eqb code 1) (step-row argument) (cond (eqb code 2) 
 abbrev pub mostWord : ℕ
 mostWord = 65535
 
+-- "every running clock grows by d"
+abbrev pub passTicks : ℕ → State → State
+passTicks n s = record {
+  activity = s .activity;
+  turns = s .turns;
+  clock = λ q. cond (eqb (s .activity q) 2) (s .clock q + n) (s .clock q);
+  count = s .count;
+}
+
 module _ (d : Diagram) where
   -- "every count at least its take"; no sum with a give is above 65,535; all BRANCH rows of the AND that row o opens are done
   abbrev pub enough : ℕ → State → Bool
@@ -42,7 +51,7 @@ module _ (d : Diagram) where
   -- "FUNCTION ready, every count at least its take: takes are subtracted, it runs, clock 0"; 23 "this item short (lowest)"
   abbrev pub startFunction : ℕ → State → Outcome State
   startFunction r s = cond (enough r s)
-      (accepted (setRunning d r (setCounts d (λ k. s .count k - takes d r k) s)))
+      (accepted (setRunning r (setCounts (λ k. s .count k - takes d r k) s)))
       (refused 23 (least (countTotal d) (λ k. ltb (s .count k) (takes d r k))))
 
   -- "Running, clock ≥ α: gives are added, clock 0, r + 1 is entered"; 24 "ticks lacking", 25
@@ -50,23 +59,23 @@ module _ (d : Diagram) where
   endFunction r s = cond (ltb (s .clock r) (alpha d r))
       (refused 24 (alpha d r - s .clock r))
       (cond (sumsFit r s)
-      (accepted (enter d (suc r) (makeIdle d (only r) (setCounts d (λ k. s .count k + gives d r k) s))))
+      (accepted (enter d (suc r) (makeIdle (only r) (setCounts (λ k. s .count k + gives d r k) s))))
       (refused 25 (least (countTotal d) (λ k. not (leb (s .count k + gives d r k) mostWord)))))
 
   -- "the row becomes idle unless said otherwise": each kind's step in document 01's order there; "Nothing else steps"
   abbrev pub stepAs : Kind → ℕ → State → Outcome State
   stepAs function r s = cond (eqb (s .activity r) 1) (startFunction r s) (cond (eqb (s .activity r) 2) (endFunction r s) (refused 22 r))
-  stepAs and-open r s = ifReady r r s (activate d (branchEntries d r) (makeIdle d (only r) s))
-  stepAs and-close r s = cond (allDone (owner d r) s) (accepted (enter d (suc r) (makeIdle d (branchOf d (owner d r)) s))) (refused 22 r)
-  stepAs branch r s = cond (isKind d or-open (owner d r)) (ifReady (owner d r) r s (enter d (suc r) (makeIdle d (only (owner d r)) s))) (refused 22 r)
-  stepAs or-close r s = ifReady r r s (enter d (suc r) (makeIdle d (only r) s))
+  stepAs and-open r s = ifReady r r s (activate d (branchEntries d r) (makeIdle (only r) s))
+  stepAs and-close r s = cond (allDone (owner d r) s) (accepted (enter d (suc r) (makeIdle (branchOf d (owner d r)) s))) (refused 22 r)
+  stepAs branch r s = cond (isKind d or-open (owner d r)) (ifReady (owner d r) r s (enter d (suc r) (makeIdle (only (owner d r)) s))) (refused 22 r)
+  stepAs or-close r s = ifReady r r s (enter d (suc r) (makeIdle (only r) s))
   stepAs it-open r s = ifReady r r s (cond (ltb (s .turns r) (turnLimit d r))
-      (enter d (suc r) (setTurns d r (suc (s .turns r)) (makeIdle d (only r) s)))
-      (enter d (suc (close d r)) (setTurns d r 0 (makeIdle d (only r) s))))
-  stepAs it-close r s = ifReady r r s (activate d (only (owner d r)) (makeIdle d (only r) s))
-  stepAs lp-close r s = ifReady r r s (activate d (only (owner d r)) (makeIdle d (only r) s))
-  stepAs lp-open r s = ifReady r r s (enter d (suc r) (makeIdle d (only r) s))
-  stepAs loop-exit r s = ifReady r r s (enter d (suc (close d (loop d r))) (clearRows d (inLoop d r) s))
+      (enter d (suc r) (setTurns r (suc (s .turns r)) (makeIdle (only r) s)))
+      (enter d (suc (close d r)) (setTurns r 0 (makeIdle (only r) s))))
+  stepAs it-close r s = ifReady r r s (activate d (only (owner d r)) (makeIdle (only r) s))
+  stepAs lp-close r s = ifReady r r s (activate d (only (owner d r)) (makeIdle (only r) s))
+  stepAs lp-open r s = ifReady r r s (enter d (suc r) (makeIdle (only r) s))
+  stepAs loop-exit r s = ifReady r r s (enter d (suc (close d (loop d r))) (clearRows (inLoop d r) s))
   stepAs or-open r s = refused 22 r
   stepAs end r s = refused 22 r
 
@@ -88,15 +97,6 @@ module _ (d : Diagram) where
   holdsAs lp-close q n s = eqb (s .activity q) 1
   holdsAs loop-exit q n s = eqb (s .activity q) 1
   holdsAs end q n s = false
-
-  -- "every running clock grows by d"
-  abbrev pub passTicks : ℕ → State → State
-  passTicks n s = record {
-    activity = s .activity;
-    turns = s .turns;
-    clock = λ q. cond (eqb (s .activity q) 2) (s .clock q + n) (s .clock q);
-    count = s .count;
-  }
 
   -- 21 "wait 0", 26 "wait held"
   abbrev pub wait : ℕ → State → Outcome State

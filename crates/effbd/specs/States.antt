@@ -26,6 +26,39 @@ turnsAt r = 3 * r + 1
 abbrev pub clockAt : ℕ → ℕ
 clockAt r = 3 * r + 2
 
+-- the rows of a set become idle; their clock is 0 then, as that of every row which does not run
+abbrev pub makeIdle : (ℕ → Bool) → State → State
+makeIdle S s = record {
+  activity = λ q. cond (S q) 0 (s .activity q);
+  turns = s .turns;
+  clock = λ q. cond (S q) 0 (s .clock q);
+  count = s .count;
+}
+
+-- "every row from .. to .. gets activity, turns and clock 0"
+abbrev pub clearRows : (ℕ → Bool) → State → State
+clearRows W s = record {
+  activity = λ q. cond (W q) 0 (s .activity q);
+  turns = λ q. cond (W q) 0 (s .turns q);
+  clock = λ q. cond (W q) 0 (s .clock q);
+  count = s .count;
+}
+
+abbrev pub setTurns : ℕ → ℕ → State → State
+setTurns r n s = record { activity = s .activity; turns = λ q. cond (only r q) n (s .turns q); clock = s .clock; count = s .count }
+
+abbrev pub setCounts : (ℕ → ℕ) → State → State
+setCounts f s = record { activity = s .activity; turns = s .turns; clock = s .clock; count = f }
+
+-- "it runs, clock 0"
+abbrev pub setRunning : ℕ → State → State
+setRunning r s = record {
+  activity = λ q. cond (only r q) 2 (s .activity q);
+  turns = s .turns;
+  clock = λ q. cond (only r q) 0 (s .clock q);
+  count = s .count;
+}
+
 module _ (d : Diagram) where
   abbrev pub countAt : ℕ → ℕ
   countAt k = 3 * rowCount d + k
@@ -78,39 +111,6 @@ module _ (d : Diagram) where
   -- "for every branch the row after its BRANCH is entered": the rows that this changes, of the AND that row o opens
   unfoldable pub branchEntries : ℕ → ℕ → Bool
   branchEntries o q = not (allBelow (rowCount d) (λ b. not (branchOf d o b && only q (enteredRow (suc b)))))
-
-  -- the rows of a set become idle; their clock is 0 then, as that of every row which does not run
-  abbrev pub makeIdle : (ℕ → Bool) → State → State
-  makeIdle S s = record {
-    activity = λ q. cond (S q) 0 (s .activity q);
-    turns = s .turns;
-    clock = λ q. cond (S q) 0 (s .clock q);
-    count = s .count;
-  }
-
-  -- "every row from .. to .. gets activity, turns and clock 0"
-  abbrev pub clearRows : (ℕ → Bool) → State → State
-  clearRows W s = record {
-    activity = λ q. cond (W q) 0 (s .activity q);
-    turns = λ q. cond (W q) 0 (s .turns q);
-    clock = λ q. cond (W q) 0 (s .clock q);
-    count = s .count;
-  }
-
-  abbrev pub setTurns : ℕ → ℕ → State → State
-  setTurns r n s = record { activity = s .activity; turns = λ q. cond (only r q) n (s .turns q); clock = s .clock; count = s .count }
-
-  abbrev pub setCounts : (ℕ → ℕ) → State → State
-  setCounts f s = record { activity = s .activity; turns = s .turns; clock = s .clock; count = f }
-
-  -- "it runs, clock 0"
-  abbrev pub setRunning : ℕ → State → State
-  setRunning r s = record {
-    activity = λ q. cond (only r q) 2 (s .activity q);
-    turns = s .turns;
-    clock = λ q. cond (only r q) 0 (s .clock q);
-    count = s .count;
-  }
 
   -- "Fresh: all 0, initial counts, row 0 entered"
   abbrev pub fresh : State
