@@ -1,0 +1,214 @@
+-- What an accepted diagram file gives: sizes, fields that fit, an accepted nesting.
+use Prim.Native.Nat.{ℕ, zero, suc, _+_, _-_, _*_, _/_, _%_, _≤_, _<_, zero-le}
+use mathlib.Core.Path.{_≡_, refl, sym, _∙_, ap, ap₂, subst}
+use mathlib.Core.Logic.{_≢_}
+use mathlib.Core.Bool.{Bool, true, false, not, cond, _&&_, _||_}
+use mathlib.Core.List.{List, [], _∷_, _++_}
+use native.Mathlib.Omega.{arith}
+use lib.ListN.{length, getD, drop}
+use lib.Dec.{leb, ltb, eqb}
+use borrow.Author.Tests.{ltb-true, ltb-false, leb-true, leb-false, eqb-true, eqb-false, lt-ltb, le-ltb, le-leb, lt-leb, eq-eqb, ne-eqb}
+use Rattle.effbd.specs.Answers.{accepted, refused}
+use Rattle.effbd.specs.Diagrams.{Diagram, Kind, Row, Use, and-close, and-open, branch, countTotal, end, function, headFault, isKind, it-close, it-open, itemAt, itemFault, kind, loop-exit, lp-close, lp-open, or-close, or-open, plain, row, rowAt, rowCount, rowFault, rowFine, rowRight, usesAt}
+use Rattle.effbd.specs.Nesting.{afterItems, afterRows, exitMisplaced, firstFaulty, follows, inAndOr, innermostIs, nested, nestingBroken, nestingFault, readDiagram, someOpen, stack, standsAs, thirteenthOpen}
+use Rattle.effbd.specs.Records.{Got, areBytes, kindAt, lengthAt, lengthOf, readMany, word}
+use Rattle.agreement.specs.Basics.{all-intro, and-intro, and-left, and-right, clash, decide, least-found, not-false, not-true, or-split}
+use Rattle.agreement.specs.ByteLaws.{Clean, adding-inv, bind-inv, bytes-drop, never, next-inv, none-clean, word-fits}
+use Rattle.agreement.specs.Nested.{mayStand, wellNested}
+
+-- every element of a list
+abbrev pub AllOf : {A : Type 0} → (A → Type 0) → List A → Type 0
+AllOf Q [] = Unit {0}
+AllOf Q (a ∷ l) = Q a × AllOf Q l
+
+pub all-at : {A : Type 0} (Q : A → Type 0) (l : List A) (z : A) → AllOf Q l → Q z → (i : ℕ) → Q (getD l i z)
+all-at Q [] z h q zero = q
+all-at Q [] z h q (suc i) = q
+all-at Q (a ∷ l) z h q zero = h .0
+all-at Q (a ∷ l) z h q (suc i) = all-at Q l z (h .1) q i
+
+pub record Read (A : Type 0) (Q : A → Type 0) (n : ℕ) (g : Got (List A)) : Type 0 where
+  pub each : AllOf Q (g .value)
+  pub readMany : length (g .value) ≡ n
+  pub rest : areBytes (g .rest) ≡ true
+
+pub many-read : {A : Type 0} (Q : A → Type 0) (fault : List ℕ → ℕ) (value : List ℕ → A) (total n : ℕ) (l : List ℕ) (g : Got (List A))
+    → ((l : List ℕ) → areBytes l ≡ true → fault l ≡ 0 → Q (value l)) → areBytes l ≡ true → readMany fault value total n l ≡ accepted g → Read A Q n g
+unfolding readMany
+many-read {A} Q fault value total zero l g h b e = subst (Read A Q zero) (let y : record { value = []; rest = l } ≡ g = cc in y) (record { each = tt; readMany = refl; rest = b })
+many-read {A} Q fault value total (suc n) l g h b e =
+    let a = next-inv (fault l) (total - length l) _ g e in
+    let w = adding-inv (value l) _ g (a .1) in
+    let r = many-read Q fault value total n (drop (lengthAt l) l) (w .0) h (bytes-drop (lengthAt l) l b) (w .1) in
+    subst (Read A Q (suc n)) (w .2) (record { each = (h l b (a .0), r .each); readMany = ap suc (r .readMany); rest = r .rest })
+
+-- a row as the file has it: its fields are words
+pub record RowOk (M : ℕ) (r : Row) : Type 0 where
+  pub first : r .first ≤ 65535
+  pub second : r .second ≤ 65535
+  pub uses : AllOf (λ (u : Use). (u .take ≤ 65535) × (u .give ≤ 65535)) (r .uses)
+  pub fine : rowFine M r ≡ true
+
+uses-fit : (u : ℕ) (l : List ℕ) → areBytes l ≡ true → AllOf (λ (u : Use). (u .take ≤ 65535) × (u .give ≤ 65535)) (usesAt u l)
+unfolding usesAt
+uses-fit zero l b = tt
+uses-fit (suc u) l b = ((word-fits l b 2, word-fits l b 4), uses-fit u (drop 6 l) (bytes-drop 6 l b))
+
+cond-fits : (b : Bool) (x : ℕ) → x ≤ 65535 → cond b x 0 ≤ 65535
+cond-fits true x h = h
+cond-fits false x h = zero-le
+
+row-ok : (M : ℕ) (l : List ℕ) → areBytes l ≡ true → rowFault M l ≡ 0 → RowOk M (rowAt l)
+unfolding rowFault
+row-ok M l b e = record {
+  first = unfold rowAt in cond-fits (eqb (kindAt l) 16 || eqb (kindAt l) 22) (word l 4) (word-fits l b 4);
+  second = unfold rowAt in cond-fits (eqb (kindAt l) 16) (word l 6) (word-fits l b 6);
+  uses = unfold rowAt in (decide (eqb (kindAt l) 16) (λ z. rw z (uses-fit ((lengthAt l - 8) / 6) (drop 8 l) (bytes-drop 8 l b))) (λ z. rw z tt));
+  fine = none-clean l (leb 16 (kindAt l) && leb (kindAt l) 27) (rowRight M l) (rowFine M (rowAt l)) 4 e .isFine;
+}
+
+plain-ok : (M : ℕ) → RowOk M (plain end)
+unfolding rowFine
+plain-ok M = record { first = zero-le; second = zero-le; uses = tt; fine = refl }
+
+pub record Held (d : Diagram) : Type 0 where
+  pub some : 1 ≤ rowCount d
+  pub rows : rowCount d ≤ 64
+  pub items : countTotal d ≤ 16
+  pub acc : wellNested d ≡ true
+  pub shallow : (q : ℕ) → q < rowCount d → thirteenthOpen d q ≡ false
+  pub each : (q : ℕ) → RowOk (countTotal d) (row d q)
+  pub stocks : (k : ℕ) → getD (d .items) k 0 ≤ 65535
+
+module _ (d : Diagram) where
+  nest-none : (a b c : Bool) → _≡_ {A = ℕ} (cond a 7 (cond b 8 (cond c 9 0))) 0 → (a ≡ false) × (b ≡ false) × (c ≡ false)
+  nest-none true b c e = absurd (omega arith)
+  nest-none false true c e = absurd (omega arith)
+  nest-none false false true e = absurd (omega arith)
+  nest-none false false false e = (refl, refl, refl)
+
+  pub record Stands (q : ℕ) : Type 0 where
+    pub follow : follows d q ≡ true
+    pub stand : standsAs d (kind d q) q (stack d q) ≡ true
+    pub ends : (not (eqb (suc q) (rowCount d)) || isKind d end q) ≡ true
+    pub exits : exitMisplaced d q ≡ false
+    pub depth : thirteenthOpen d q ≡ false
+
+  stands : (q : ℕ) → nestingFault d q ≡ 0 → Stands q
+  unfolding nestingFault nestingBroken
+  stands q e =
+      let z = nest-none (not (follows d q && (standsAs d (kind d q) q (stack d q) && (not (eqb (suc q) (rowCount d)) || isKind d end q)))) (exitMisplaced d q) (thirteenthOpen d q) e in
+      let a = not-false _ (z .0) in
+      let b = and-right (follows d q) (standsAs d (kind d q) q (stack d q) && (not (eqb (suc q) (rowCount d)) || isKind d end q)) a in
+      record {
+        follow = and-left (follows d q) _ a;
+        stand = and-left (standsAs d (kind d q) q (stack d q)) _ b;
+        ends = and-right (standsAs d (kind d q) q (stack d q)) _ b;
+        exits = z .1;
+        depth = z .2;
+      }
+
+  module _ (all : (q : ℕ) → q < rowCount d → Stands q) where
+    -- a row that is not END is not the last one
+    inner : (q : ℕ) → q < rowCount d → isKind d end q ≡ false → suc q < rowCount d
+    inner q l e = or-split (not (eqb (suc q) (rowCount d))) (isKind d end q) (all q l .ends)
+        (λ z. let n : suc q ≢ rowCount d = eqb-false (suc q) (rowCount d) (not-true (eqb (suc q) (rowCount d)) z) in omega arith)
+        (λ z y. clash y e)
+
+    opened : (q : ℕ) → q < rowCount d → isKind d end q ≡ false → (isKind d and-open q || isKind d or-open q) ≡ true → isKind d branch (suc q) ≡ true
+    opened q l e o = let f = all (suc q) (inner q l e) .follow in go (isKind d and-open q || isKind d or-open q) (isKind d branch (suc q)) o f
+      where
+        go : (a b : Bool) → a ≡ true → (not a || b) ≡ true → b ≡ true
+        go true b p h = h
+        go false b p h = clash p refl
+
+    exited : (q : ℕ) → q < rowCount d → isKind d loop-exit q ≡ true
+        → (inAndOr d (stack d q) && (someOpen d lp-open (stack d q) && (isKind d branch (suc q) || (isKind d and-close (suc q) || isKind d or-close (suc q))))) ≡ true
+    exited q l k = go (inAndOr d (stack d q)) (someOpen d lp-open (stack d q)) (isKind d branch (suc q)) (innermostIs d and-open (stack d q)) (isKind d and-close (suc q)) (innermostIs d or-open (stack d q)) (isKind d or-close (suc q))
+        (isKind d loop-exit q) k (unfold exitMisplaced in all q l .exits)
+      where
+        go : (a b c x y u v k : Bool) → k ≡ true → (k && not (a && (b && (c || ((x && y) || (u && v)))))) ≡ false → (a && (b && (c || (y || v)))) ≡ true
+        go a b c x y u v false p e = clash p refl
+        go false b c x y u v true p e = clash refl e
+        go true false c x y u v true p e = clash refl e
+        go true true true x y u v true p e = refl
+        go true true false x true u v true p e = refl
+        go true true false x false u true true p e = refl
+        go true true false true false true false true p e = clash refl e
+        go true true false true false false false true p e = clash refl e
+        go true true false false false true false true p e = clash refl e
+        go true true false false false false false true p e = clash refl e
+
+    mayAs : (q : ℕ) (k : Kind) → q < rowCount d → kind d q ≡ k → standsAs d k q (stack d q) ≡ true → mayStand d k q (stack d q) ≡ true
+    mayAs q function l e h = h
+    mayAs q and-open l e h = opened q l (rw e) (rw e)
+    mayAs q branch l e h = h
+    mayAs q and-close l e h = h
+    mayAs q or-open l e h = opened q l (rw e) (rw e)
+    mayAs q or-close l e h = h
+    mayAs q it-open l e h = h
+    mayAs q it-close l e h = h
+    mayAs q lp-open l e h = h
+    mayAs q lp-close l e h = h
+    mayAs q loop-exit l e h = exited q l (rw e)
+    mayAs q end l e h = h
+
+    nested-accepted : 1 ≤ rowCount d → wellNested d ≡ true
+    nested-accepted s = and-intro (all-intro (rowCount d) (λ q. mayStand d (kind d q) q (stack d q)) (λ q l. mayAs q (kind d q) l refl (all q l .stand)))
+        (and-intro (lt-ltb 0 (rowCount d) s)
+        (or-split (not (eqb (suc (rowCount d - 1)) (rowCount d))) (isKind d end (rowCount d - 1)) (all (rowCount d - 1) (omega arith) .ends)
+        (λ z. absurd (eqb-false (suc (rowCount d - 1)) (rowCount d) (not-true _ z) (omega arith))) (λ z y. y)))
+
+  nest-clean : (e : Diagram) → nested d ≡ accepted e → (d ≡ e) × ((q : ℕ) → q < rowCount d → nestingFault d q ≡ 0)
+  unfolding nested
+  nest-clean e h = go (ltb (firstFaulty d) (rowCount d)) refl h
+    where
+      none : ltb (firstFaulty d) (rowCount d) ≡ false → (q : ℕ) → q < rowCount d → nestingFault d q ≡ 0
+      none f q l = decide (eqb (nestingFault d q) 0) (λ z. eqb-true (nestingFault d q) 0 z)
+          (λ z. let w = least-found (rowCount d) (λ q. not (eqb (nestingFault d q) 0)) q l (rw z) .1 in
+          let y : firstFaulty d ≤ q = unfold firstFaulty in w in
+          let x = ltb-false (firstFaulty d) (rowCount d) f in absurd (omega arith))
+
+      go : (b : Bool) → ltb (firstFaulty d) (rowCount d) ≡ b → cond b (refused (nestingFault d (firstFaulty d)) (firstFaulty d)) (accepted d) ≡ accepted e → (d ≡ e) × ((q : ℕ) → q < rowCount d → nestingFault d q ≡ 0)
+      go true f z = never z
+      go false f z = (cc, none f)
+
+pub nest-same : (d e : Diagram) → nested d ≡ accepted e → d ≡ e
+nest-same d e h = nest-clean d e h .0
+
+-- THEOREM: what an accepted file gives
+pub held : (file : List ℕ) (d : Diagram) → areBytes file ≡ true → readDiagram file ≡ accepted d → Held d
+unfolding readDiagram afterItems afterRows
+held file d b e =
+    let a = next-inv (headFault file) 0 _ d e in
+    let i = bind-inv (readMany itemFault itemAt (length file) (word file 8) (drop 10 file)) (afterItems file) d (a .1) in
+    let ir = many-read (λ (x : ℕ). x ≤ 65535) itemFault itemAt (length file) (word file 8) (drop 10 file) (i .0) (λ l c z. word-fits l c 4) (bytes-drop 10 file b) (i .1) in
+    let r = bind-inv (readMany (rowFault (word file 8)) rowAt (length file) (word file 6) (i .0 .rest)) (afterRows file (i .0 .value)) d (i .2) in
+    let rr = many-read (RowOk (word file 8)) (rowFault (word file 8)) rowAt (length file) (word file 6) (i .0 .rest) (r .0) (λ l c z. row-ok (word file 8) l c z) (ir .rest) (r .1) in
+    let n = next-inv (cond (eqb (length (r .0 .rest)) 0) 0 6) (length file - length (r .0 .rest)) _ d (r .2) in
+    whole (i .0 .value) (r .0 .value) (a .0) (ir .each) (ir .readMany) (rr .each) (rr .readMany) (n .1)
+  where
+    whole : (items : List ℕ) (rows : List Row) → headFault file ≡ 0 → AllOf (λ (x : ℕ). x ≤ 65535) items → length items ≡ word file 8
+        → AllOf (RowOk (word file 8)) rows → length rows ≡ word file 6 → nested (record { rows = rows; items = items }) ≡ accepted d → Held d
+    whole items rows h i m r n e =
+        subst Held (z .0) (record {
+          some = rw n (leb-true 1 (word file 6) (and-left (leb 1 (word file 6)) _ f));
+          rows = rw n (leb-true (word file 6) 64 (and-left (leb (word file 6) 64) _ (and-right (leb 1 (word file 6)) _ f)));
+          items = rw m (leb-true (word file 8) 16 (and-right (leb (word file 6) 64) _ (and-right (leb 1 (word file 6)) _ f)));
+          acc = nested-accepted d′ (λ q l. stands d′ q (z .1 q l)) (rw n (leb-true 1 (word file 6) (and-left (leb 1 (word file 6)) _ f)));
+          shallow = λ q l. stands d′ q (z .1 q l) .depth;
+          each = λ q. subst (λ M. RowOk M (row d′ q)) (sym m) (all-at (RowOk (word file 8)) rows (plain end) r (plain-ok (word file 8)) q);
+          stocks = λ k. all-at (λ (x : ℕ). x ≤ 65535) items 0 i zero-le k;
+        })
+      where
+        d′ : Diagram
+        d′ = record { rows = rows; items = items }
+
+        z : (d′ ≡ d) × ((q : ℕ) → q < rowCount d′ → nestingFault d′ q ≡ 0)
+        z = nest-clean d′ d e
+
+        c : Clean file (eqb (kindAt file) 1) (eqb (lengthAt file) (lengthOf 1)) (eqb (word file 4) 1 && (leb 1 (word file 6) && (leb (word file 6) 64 && leb (word file 8) 16)))
+        c = none-clean file (eqb (kindAt file) 1) (eqb (lengthAt file) (lengthOf 1)) (eqb (word file 4) 1 && (leb 1 (word file 6) && (leb (word file 6) 64 && leb (word file 8) 16))) 3 (unfold headFault in h)
+
+        f : (leb 1 (word file 6) && (leb (word file 6) 64 && leb (word file 8) 16)) ≡ true
+        f = and-right (eqb (word file 4) 1) _ (c .isFine)

@@ -1,0 +1,208 @@
+-- FUNCTION, IT open and LE: the steps that do more than move tokens.
+use Prim.Native.Nat.{_*_, ℕ, zero, suc, _+_, _-_, _≤_, _<_, zero-le}
+use mathlib.Core.Path.{_≡_, refl, sym, _∙_, ap, subst}
+use mathlib.Core.Logic.{_≢_}
+use mathlib.Core.Bool.{Bool, true, false, not, cond, _&&_, _||_, and-false, and-true}
+use mathlib.Core.List.{List, [], _∷_}
+use native.Mathlib.Omega.{arith}
+use native.Mathlib.Nat.{add-zero, zero-add, sub-zero}
+use lib.ListN.{getD}
+use lib.Dec.{leb, ltb, eqb}
+use borrow.Author.Tests.{ltb-true, ltb-false, leb-true, leb-false, eqb-true, eqb-false, lt-ltb, le-ltb, le-leb, lt-leb, eq-eqb, ne-eqb}
+use Rattle.effbd.specs.Answers.{refused}
+use Rattle.effbd.specs.Diagrams.{Diagram, and-open, branch, countTotal, end, function, gives, isKind, it-open, kind, row, rowCount, takes}
+use Rattle.effbd.specs.Image.{imageMark, readyOrDone, running}
+use Rattle.effbd.specs.Layout.{Count, P, Place, Q, R, byPlace, placeOf}
+use Rattle.effbd.specs.Moves.{endFunction, enough, startFunction, stepAs, sumsFit}
+use Rattle.effbd.specs.Patterns.{Pattern, atOnce, entryRow, none, nowhere, oneAt, patternsAs}
+use Rattle.effbd.specs.Ranges.{only, least}
+use Rattle.effbd.specs.States.{State, activate, enter, enteredRow, makeIdle, setCounts, setRunning, countAt}
+use Rattle.agreement.specs.Basics.{all-elim, all-find, cond-same, decide, kind-in, not-kind, only-refl, least-past}
+use Rattle.agreement.specs.Invariant.{Inv, Sound, inv-with, sound-idle, sound-inv}
+use Rattle.agreement.specs.Matching.{Agree, Valid, early, fired, full, goes, stays, RowPlace, ready-le, bit-le, marks-fit-row}
+use Rattle.agreement.specs.Named.{after, enabled, namedImage, namedStepAt, lowestOver}
+use Rattle.agreement.specs.Structure.{Laws}
+use Rattle.agreement.specs.TokenSteps.{live-zero, sound-one}
+use Rattle.agreement.specs.Tokens.{Real, enabled-yes}
+use Rattle.agreement.specs.Numbering.{place-row, place-I}
+
+module _ (d : Diagram) where
+  -- a clock off a running row is 0
+  kept : (a c : ℕ) → (a ≢ 2 → c ≡ 0) → c ≡ cond (leb 1 (running a - 0)) c 0
+  kept a c g = decide (eqb a 2) (λ e. rw e) (λ e. rw (g (eqb-false a 2 e)) (simp cond-same))
+
+  module _ (r : ℕ) (s : State) (i : Inv d s) (k : kind d r ≡ function) where
+    v : Valid d s
+    v = i .valid
+
+    inside : r < rowCount d
+    inside = kind-in d r (not-kind d r k end refl)
+
+    t₁ : Pattern
+    t₁ = atOnce (byPlace (oneAt (only r)) none none (takes d r)) nowhere (byPlace none (oneAt (only r)) none none)
+
+    t₂ : Pattern
+    t₂ = record { earliest = row d r .first; latest = row d r .second; take = byPlace none (oneAt (only r)) none none; clear = nowhere; give = byPlace (oneAt (entryRow d (suc r))) none none (gives d r) }
+
+    -- the start
+    begun : State
+    begun = setRunning r (setCounts (λ x. s .count x - takes d r x) s)
+
+    begun-marks : s .activity r ≡ 1 → (p : Place) → imageMark d begun p ≡ after t₁ (imageMark d s) p + t₁ .give p
+    unfolding begun t₁
+    begun-marks a (P q) = decide (only r q) (λ e. rw (e, eqb-true q r e, a)) (λ e. rw e (simp (sub-zero, add-zero)))
+    begun-marks a (Q q) = decide (only r q) (λ e. rw (e, eqb-true q r e, a, k)) (λ e. rw e (simp (sub-zero, add-zero)))
+    begun-marks a (R q) = simp (sub-zero, add-zero)
+    begun-marks a (Count x) = simp add-zero
+
+    begun-clock : s .activity r ≡ 1 → (q : ℕ) → kind d q ≡ function
+        → begun .clock q ≡ cond (only r q && only 0 1) 0 (cond (leb 1 (after t₁ (imageMark d s) (Q q))) (s .clock q) 0)
+    unfolding begun t₁
+    begun-clock a q kq = rw (and-false, kq) (decide (only r q)
+        (λ e. rw (e, eqb-true q r e, a))
+        (λ e. rw e (kept (s .activity q) (s .clock q) (v .still q))))
+
+    begun-inv : s .activity r ≡ 1 → Inv d begun
+    unfolding begun
+    begun-inv a = record {
+      valid = record {
+        small = λ q. decide (only r q) (λ e. rw e (omega arith)) (λ e. rw e (v .small q));
+        runs = λ q. decide (only r q) (λ e h. rw (eqb-true q r e) k) (λ e. rw e (v .runs q));
+        done = λ q. decide (only r q) (λ e. rw e (λ h. absurd (omega arith))) (λ e. rw e (v .done q));
+        readies = λ q. decide (only r q) (λ e. rw e (λ h. absurd (omega arith))) (λ e. rw e (v .readies q));
+        opened = λ q. decide (only r q) (λ e. rw e (λ h. absurd (omega arith))) (λ e. rw e (v .opened q));
+        still = λ q. decide (only r q) (λ e h. rw e) (λ e. rw e (v .still q));
+        turned = v .turned;
+        timely = λ q. decide (only r q) (λ e. rw e zero-le) (λ e. rw e (v .timely q));
+        spun = v .spun;
+        forked = λ q. decide (only r q) (λ e. rw e (λ h. absurd (omega arith))) (λ e. rw e (v .forked q));
+        counted = λ x l. let h = v .counted x l in omega arith;
+        bounded = v .bounded;
+      };
+      apart = λ x y hx hy. i .apart x y (was x hx) (was y hy);
+    }
+      where
+        was : (x : ℕ) → cond (only r x) 2 (s .activity x) ≢ 0 → s .activity x ≢ 0
+        was x = decide (only r x) (λ e h z. let y : s .activity x ≡ 1 = rw (eqb-true x r e) a in absurd (omega arith)) (λ e. rw e (λ h. h))
+
+    -- the end
+    ended : State
+    ended = enter d (suc r) (makeIdle (only r) (setCounts (λ x. s .count x + gives d r x) s))
+
+    module _ (a : s .activity r ≡ 2) (h : (q : ℕ) → only r q ≡ false → only (enteredRow d (suc r)) q ≡ true → s .activity q ≡ 0) where
+      E : ℕ → Bool
+      E = only (enteredRow d (suc r))
+
+      ended-marks : (p : Place) → imageMark d ended p ≡ after t₂ (imageMark d s) p + t₂ .give p
+      unfolding ended t₂
+      ended-marks (P q) = decide (only r q)
+          (λ e. rw (e, eqb-true q r e, a) (mine (only (enteredRow d (suc r)) r) (isKind d branch r)))
+          (λ e. decide (only (enteredRow d (suc r)) q) (λ f. rw (f, h q e f) (mine true (isKind d branch q))) (λ f. rw (f, e) (simp (sub-zero, add-zero))))
+        where
+          mine : (x b : Bool) → readyOrDone (cond x (cond b 3 1) 0) ≡ 0 + cond x 1 0
+          mine true true = refl
+          mine true false = refl
+          mine false b = refl
+      ended-marks (Q q) = decide (only r q)
+          (λ e. rw (e, eqb-true q r e, a, k) (mine (only (enteredRow d (suc r)) r) false))
+          (λ e. rw e (decide (only (enteredRow d (suc r)) q) (λ f. rw (f, h q e f) (both (isKind d it-open q) (isKind d branch q))) (λ f. rw f (simp (sub-zero, add-zero)))))
+        where
+          mine : (x b : Bool) → running (cond x (cond b 3 1) 0) ≡ 0
+          mine true true = refl
+          mine true false = refl
+          mine false b = refl
+
+          both : (x b : Bool) → cond x (s .turns q) (running (cond b 3 1)) ≡ cond x (s .turns q) 0 - 0 + 0
+          both true b = simp (sub-zero, add-zero)
+          both false true = refl
+          both false false = refl
+      ended-marks (R q) = simp (sub-zero, add-zero)
+      ended-marks (Count x) = simp sub-zero
+
+      ended-clock : (q : ℕ) → kind d q ≡ function
+          → ended .clock q ≡ cond (only r q && only 1 1) 0 (cond (leb 1 (after t₂ (imageMark d s) (Q q))) (s .clock q) 0)
+      unfolding ended t₂
+      ended-clock q kq = rw (and-true, kq) (decide (only r q)
+          (λ e. rw (e, cond-same))
+          (λ e. rw e (decide (only (enteredRow d (suc r)) q)
+          (λ f. rw (f, h q e f))
+          (λ f. rw f (kept (s .activity q) (s .clock q) (v .still q))))))
+
+    -- what the FUNCTION's state is
+    off : s .activity r ≢ 1 → readyOrDone (s .activity r) ≡ 0
+    off h = live-zero d (s .activity r) h (λ z. not-kind d r k branch refl (v .done r z))
+
+    not-running : s .activity r ≢ 2 → namedStepAt d (t₂ ∷ []) 1 r (namedImage d s) ≡ refused 22 r
+    unfolding t₂
+    not-running h = stays d t₂ [] r 1 s (Q r) inside (rw (k, only-refl r, ne-eqb (s .activity r) 2 h) (omega arith))
+
+    not-ready : s .activity r ≢ 1 → namedStepAt d (t₁ ∷ t₂ ∷ []) 0 r (namedImage d s) ≡ namedStepAt d (t₂ ∷ []) 1 r (namedImage d s)
+    unfolding t₁
+    not-ready h = stays d t₁ (t₂ ∷ []) r 0 s (P r) inside (rw (only-refl r, off h) (omega arith))
+
+    agree-start : s .activity r ≡ 1 → Agree d (Inv d) r (startFunction d r s) (namedStepAt d (t₁ ∷ t₂ ∷ []) 0 r (namedImage d s))
+    unfolding begun t₁
+    agree-start a = decide (enough d r s)
+        (λ e. rw (goes d t₁ (t₂ ∷ []) r 0 s begun (enabled-yes d t₁ (imageMark d s) (cov e)) zero-le (fired d r 0 t₁ s begun (begun-marks a) (begun-clock a)) (begun-inv a .valid), e)
+        (refl, begun-inv a))
+        (λ e. let w = all-find (countTotal d) (λ x. leb (takes d r x) (s .count x)) e in
+        rw (stays d t₁ (t₂ ∷ []) r 0 s (Count (w .0)) (w .1) (leb-false (takes d r (w .0)) (s .count (w .0)) (w .2)), not-running (λ z. absurd (omega arith)), e) (refl, refl))
+      where
+        cov : enough d r s ≡ true → (p : Place) → Real d p → t₁ .take p ≤ imageMark d s p
+        cov e (P q) l = decide (only r q) (λ f. rw (f, eqb-true q r f, a) (omega arith)) (λ f. rw f zero-le)
+        cov e (Q q) l = zero-le
+        cov e (R q) l = zero-le
+        cov e (Count x) l = leb-true (takes d r x) (s .count x) (all-elim (countTotal d) (λ y. leb (takes d r y) (s .count y)) e x l)
+
+    agree-finish : Laws d → s .activity r ≡ 2 → Agree d (Inv d) r (endFunction d r s) (namedStepAt d (t₂ ∷ []) 1 r (namedImage d s))
+    unfolding ended t₂
+    agree-finish L a = decide (ltb (s .clock r) (row d r .first))
+        (λ e. rw (early d t₂ [] r 1 s on (rw k (ltb-true (s .clock r) (row d r .first) e)), e) (refl, rw k))
+        (λ e. decide (sumsFit d r s)
+        (λ f. rw (goes d t₂ [] r 1 s ended on (due e) (fired d r 1 t₂ s ended (ended-marks a idle-then) (ended-clock a idle-then)) (inv f .valid), e, f) (refl, inv f))
+        (λ f. let w = all-find (countTotal d) (λ x. leb (s .count x + gives d r x) 65535) f in
+        let l : 65535 < s .count (w .0) + gives d r (w .0) = leb-false (s .count (w .0) + gives d r (w .0)) 65535 (w .2) in
+        rw (full d t₂ [] r 1 s (Count (w .0)) on (due e) (w .1) (rw sub-zero l), e, f) (refl, lowest)))
+      where
+        sound : Sound d (only r) (only (enteredRow d (suc r))) s
+        sound = sound-one d r (enteredRow d (suc r)) s i (λ z. absurd (omega arith)) (L .lands (suc r)) (λ X. L .seq r X (not-kind d r k and-open refl) (not-kind d r k end refl))
+
+        idle-then : (q : ℕ) → only r q ≡ false → only (enteredRow d (suc r)) q ≡ true → s .activity q ≡ 0
+        idle-then = sound-idle d (only r) (only (enteredRow d (suc r))) s sound
+
+        on : enabled d t₂ (imageMark d s) ≡ true
+        on = enabled-yes d t₂ (imageMark d s) cov
+          where
+            cov : (p : Place) → Real d p → t₂ .take p ≤ imageMark d s p
+            cov (P q) l = zero-le
+            cov (Q q) l = decide (only r q) (λ e. rw (e, eqb-true q r e, k, a) (omega arith)) (λ e. rw e zero-le)
+            cov (R q) l = zero-le
+            cov (Count x) l = zero-le
+
+        due : ltb (s .clock r) (row d r .first) ≡ false → t₂ .earliest ≤ namedImage d s .clock r 1
+        due e = rw k (ltb-false (s .clock r) (row d r .first) e)
+
+        -- only a count can pass 65,535
+        fits : (p : Place) → RowPlace d p → after t₂ (imageMark d s) p + t₂ .give p ≤ 65535
+        fits (P q) l = let a = ready-le d (s .activity q) in let b = bit-le (only (enteredRow d (suc r)) q) in omega arith
+        fits (Q q) l = let a = marks-fit-row d s v (Q q) l in omega arith
+        fits (R q) l = let a = marks-fit-row d s v (R q) l in omega arith
+        fits (Count x) l = absurd l
+
+        lowest : lowestOver d t₂ (imageMark d s) ≡ countAt d (least (countTotal d) (λ x. not (leb (s .count x + gives d r x) 65535)))
+        lowest = least-past (3 * rowCount d) (countTotal d) _ _
+            (λ p l. rw (le-leb (after t₂ (imageMark d s) (placeOf d p) + t₂ .give (placeOf d p)) 65535 (fits (placeOf d p) (place-row d p l))))
+            (λ x l. rw (place-I d x, sub-zero))
+
+        inv : sumsFit d r s ≡ true → Inv d ended
+        inv f = inv-with d (s .turns) (λ x. s .count x + gives d r x) (activate d (only (enteredRow d (suc r))) (makeIdle (only r) s))
+            (sound-inv d (only r) (only (enteredRow d (suc r))) s i sound) (v .turned) (v .spun)
+            (λ x l. leb-true (s .count x + gives d r x) 65535 (all-elim (countTotal d) (λ y. leb (s .count y + gives d r y) 65535) f x l))
+
+    pub agree-fun : Laws d → Agree d (Inv d) r (stepAs d function r s) (namedStepAt d (patternsAs d function r) 0 r (namedImage d s))
+    unfolding t₁ t₂
+    agree-fun L = decide (eqb (s .activity r) 1)
+        (λ e. rw e (agree-start (eqb-true (s .activity r) 1 e)))
+        (λ e. decide (eqb (s .activity r) 2)
+        (λ f. rw (e, f, not-ready (eqb-false (s .activity r) 1 e)) (agree-finish L (eqb-true (s .activity r) 2 f)))
+        (λ f. rw (e, f, not-ready (eqb-false (s .activity r) 1 e), not-running (eqb-false (s .activity r) 2 f)) (refl, refl)))

@@ -1,0 +1,134 @@
+-- The diagram's steps and the net's agree at every state that keeps the invariant.
+use Prim.Native.Nat.{ℕ, zero, suc, _<_, _≤_, zero-le, _-_}
+use mathlib.Core.Path.{_≡_, refl, sym, _∙_, ap, subst, fun-ext}
+use mathlib.Core.Logic.{_≢_}
+use mathlib.Core.Bool.{Bool, true, false, not, cond, _&&_, _||_}
+use mathlib.Core.List.{List, [], _∷_}
+use native.Mathlib.Omega.{arith}
+use native.Mathlib.Nat.{sub-zero}
+use lib.ListN.{getD}
+use lib.Dec.{eqb}
+use borrow.Author.Tests.{eqb-true, eqb-false}
+use Rattle.effbd.specs.Answers.{Outcome, accepted, afterwards, isAccepted, refused}
+use Rattle.effbd.specs.Diagrams.{Diagram, Kind, and-close, and-open, branch, end, function, isKind, it-close, it-open, kind, loop-exit, lp-close, lp-open, or-close, or-open, row}
+use Rattle.effbd.specs.Image.{imageMark, readyOrDone, running}
+use Rattle.effbd.specs.Layout.{Count, P, Place, Q, R}
+use Rattle.effbd.specs.Moves.{Move, move, no-move, step, step-row, stepAs, wait-ticks}
+use Rattle.effbd.specs.Nesting.{isClose, owner}
+use Rattle.effbd.specs.Patterns.{patternsAs}
+use Rattle.effbd.specs.Ranges.{only}
+use Rattle.effbd.specs.States.{State, enteredRow, fresh}
+use Rattle.agreement.specs.Basics.{clash, decide, kind-in, not-kind, same-eq}
+use Rattle.agreement.specs.FunctionSteps.{agree-fun}
+use Rattle.agreement.specs.Invariant.{Inv, sound-inv}
+use Rattle.agreement.specs.LoopSteps.{agree-it, agree-le}
+use Rattle.agreement.specs.Matching.{Agree}
+use Rattle.agreement.specs.Named.{NamedState, movesFrom, namedFresh, namedImage, namedMove, namedStep, namedStepAt}
+use Rattle.agreement.specs.Nested.{wellNested}
+use Rattle.agreement.specs.NestingLaws.{laws}
+use Rattle.agreement.specs.Structure.{Laws}
+use Rattle.agreement.specs.TokenSteps.{agree-and, agree-close, agree-one}
+use Rattle.agreement.specs.Waits.{waits-agree}
+
+module _ (d : Diagram) (L : Laws d) (r : ℕ) (s : State) (i : Inv d s) where
+  -- a row that hands its token to the next, or back to its open row
+  on : kind d r ≢ end → kind d r ≢ branch → kind d r ≢ and-open
+      → Agree d (Inv d) r (stepAs d lp-open r s) (namedStepAt d (patternsAs d lp-open r) 0 r (namedImage d s))
+  on n b o = agree-one d r r (enteredRow d (suc r)) s i (kind-in d r n) b (L .lands (suc r)) (λ X. L .seq r X o n)
+
+  again : kind d r ≢ end → kind d r ≢ branch → isClose d r ≡ true
+      → Agree d (Inv d) r (stepAs d lp-close r s) (namedStepAt d (patternsAs d lp-close r) 0 r (namedImage d s))
+  again n b c = agree-one d r r (owner d r) s i (kind-in d r n) b ((λ e. clash (L .kin r c) (rw e)), (λ e. clash (L .kin r c) (rw e))) (λ X. L .back r X c)
+
+  by-kind : (k : Kind) → kind d r ≡ k → Agree d (Inv d) r (stepAs d k r s) (namedStepAt d (patternsAs d k r) 0 r (namedImage d s))
+  by-kind function e = agree-fun d r s i e L
+  by-kind and-open e = agree-and d L r s i e
+  by-kind branch e = decide (isKind d or-open (owner d r))
+      (λ f. let o = same-eq (kind d (owner d r)) or-open f in
+      rw f (agree-one d r (owner d r) (enteredRow d (suc r)) s i (kind-in d (owner d r) (not-kind d (owner d r) o end refl)) (not-kind d (owner d r) o branch refl) (L .lands (suc r))
+      (λ X. L .seq r X (not-kind d r e and-open refl) (not-kind d r e end refl) ∙ L .orIn r X e o)))
+      (λ f. rw f (refl, refl))
+  by-kind and-close e = agree-close d L r s i e
+  by-kind or-open e = (refl, refl)
+  by-kind or-close e = on (not-kind d r e end refl) (not-kind d r e branch refl) (not-kind d r e and-open refl)
+  by-kind it-open e = agree-it d r s i e L
+  by-kind it-close e = again (not-kind d r e end refl) (not-kind d r e branch refl) (rw e)
+  by-kind lp-open e = on (not-kind d r e end refl) (not-kind d r e branch refl) (not-kind d r e and-open refl)
+  by-kind lp-close e = again (not-kind d r e end refl) (not-kind d r e branch refl) (rw e)
+  by-kind loop-exit e = agree-le d L r s i e
+  by-kind end e = (refl, refl)
+
+  pub steps-agree : Agree d (Inv d) r (step d r s) (namedStep d r (namedImage d s))
+  steps-agree = by-kind (kind d r) refl
+
+-- the row that a move names; of a wait it does not matter
+abbrev pub rowAsked : Move → ℕ
+rowAsked (step-row r) = r
+rowAsked (wait-ticks n) = n
+rowAsked no-move = 0
+
+-- numbers of 16 bits, as the file has them
+pub record Words (d : Diagram) : Type 0 where
+  pub lows : (q : ℕ) → row d q .first ≤ 65535
+  pub stocks : (k : ℕ) → getD (d .items) k 0 ≤ 65535
+
+module _ (d : Diagram) (acc : wellNested d ≡ true) (w : Words d) where
+  nothing : State
+  nothing = record { activity = λ q. 0; turns = λ q. 0; clock = λ q. 0; count = λ k. getD (d .items) k 0 }
+
+  pub fresh-inv : Inv d (fresh d)
+  unfolding nothing
+  fresh-inv = sound-inv d (λ q. false) (only (enteredRow d 0)) nothing
+      (record {
+        valid = record {
+          small = λ q. zero-le;
+          runs = λ q e. absurd (omega arith);
+          done = λ q e. absurd (omega arith);
+          readies = λ q e. absurd (omega arith);
+          opened = λ q e. absurd (omega arith);
+          still = λ q h. refl;
+          turned = λ q. zero-le;
+          timely = λ q. zero-le;
+          spun = λ q h. refl;
+          forked = λ q e. absurd (omega arith);
+          counted = λ k l. w .stocks k;
+          bounded = w .lows;
+        };
+        apart = λ r q a b n. absurd (a refl);
+      })
+      (record {
+        clear = λ t x e f a. absurd (a refl);
+        lands = λ t e. rw (eqb-true t (enteredRow d 0) e) (laws d acc .lands 0);
+        pair = λ t u e f n. absurd (n (eqb-true t (enteredRow d 0) e ∙ sym (eqb-true u (enteredRow d 0) f)));
+      })
+
+  fresh-mark : (p : Place) → imageMark d (fresh d) p ≡ namedFresh d .mark p
+  fresh-mark (P q) = go (only (enteredRow d 0) q) (isKind d branch q)
+    where
+      go : (e b : Bool) → readyOrDone (cond e (cond b 3 1) 0) ≡ cond e 1 0
+      go true true = refl
+      go true false = refl
+      go false b = refl
+  fresh-mark (Q q) = go (isKind d it-open q) (only (enteredRow d 0) q) (isKind d branch q)
+    where
+      go : (i e b : Bool) → cond i 0 (running (cond e (cond b 3 1) 0)) ≡ 0
+      go true e b = refl
+      go false true true = refl
+      go false true false = refl
+      go false false b = refl
+  fresh-mark (R q) = simp sub-zero
+  fresh-mark (Count k) = refl
+
+  pub fresh-image : namedImage d (fresh d) ≡ namedFresh d
+  fresh-image = λ j. record { mark = fun-ext fresh-mark j; clock = λ q i. go (isKind d function q && only 1 i) (only (enteredRow d 0) q) j }
+    where
+      go : (b e : Bool) → _≡_ {A = ℕ} (cond b (cond e 0 0) 0) 0
+      go true true = refl
+      go true false = refl
+      go false e = refl
+
+  pub moves-agree : (m : Move) (s : State) → Inv d s → Agree d (Inv d) (rowAsked m) (move d m s) (namedMove d m (namedImage d s))
+  moves-agree (step-row r) s i = steps-agree d (laws d acc) r s i
+  moves-agree (wait-ticks zero) s i = (refl, refl)
+  moves-agree (wait-ticks (suc n)) s i = waits-agree d (laws d acc) (suc n) (omega arith) s i (suc n)
+  moves-agree no-move s i = (refl, refl)
