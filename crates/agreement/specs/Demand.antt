@@ -1,4 +1,4 @@
--- Demand 3 over bytes.
+-- Demand 3: one claim over every list of calls, kept call by call.
 use Prim.Native.Nat.{ℕ, zero, suc, _+_, _-_, _*_, _/_, _%_, _≤_, _<_, zero-le}
 use mathlib.Core.Path.{_≡_, refl, sym, _∙_, ap, ap₂, subst}
 use mathlib.Core.Logic.{_≢_}
@@ -36,139 +36,15 @@ use Rattle.agreement.specs.StateCheck.{valid-proper}
 use Rattle.agreement.specs.StateWords.{Kept, start-image, start-kept, WordsAgree, words-agree}
 use Rattle.agreement.specs.WellFormed.{well-made}
 use Rattle.agreement.specs.Refusals.{netNumber, netValue}
-
--- a telegram reads back
-pub record Telegram (number station code argument : ℕ) (b : List ℕ) : Type 0 where
-  pub isShaped : isTelegram b ≡ true
-  pub isNumber : numberAt b ≡ number
-  pub isStation : stationAt b ≡ station
-  pub isCode : word b 10 ≡ code
-  pub isArgument : word b 12 ≡ argument
-
-pub telegram-back : (number station code argument : ℕ) → Telegram number station code argument (telegram number station code argument)
-unfolding telegram
-telegram-back number station code argument = record {
-  isShaped = refl;
-  isNumber = rw (of-two (number % 65536), of-two (number / 65536)) (omega arith);
-  isStation = of-two station;
-  isCode = of-two code;
-  isArgument = of-two argument;
-}
-
-zeros : {A B : Type 0} (f : A → B) (xs : List A) → tabulate {A = ℕ} (length (map f xs)) (λ x. 0) ≡ map (λ (x : A). 0) xs
-zeros f [] = refl
-zeros f (x ∷ xs) = ap (λ (l : List ℕ). 0 ∷ l) (zeros f xs)
-
-module _ (d : Diagram) (h : Held d) where
-  pub words : Words d
-  words = record { lows = λ q. h .each q .first; stocks = h .stocks }
-
-  -- a state of the history
-  pub record Good (l : List ℕ) : Type 0 where
-    pub kept : Kept d (h .acc) words l
-    pub long : length l ≡ places d
-
-  image-marks : (l : List ℕ) → length (image d l .marks) ≡ places d
-  unfolding image flatNet
-  image-marks l = length-tab (places d) _
-
-  image-clocks : (l : List ℕ) → length (image d l .clocks) ≡ length (names d (rowCount d))
-  unfolding image flatNet
-  image-clocks l = length-map (names d (rowCount d)) _
-
-  many-trans : length (netOf d .transitions) ≡ length (names d (rowCount d))
-  unfolding netOf
-  many-trans = length-map (names d (rowCount d)) (transitionOf d)
-
-  table-at : (m : Move) (l : List ℕ) → checkedNetMove (netOf d) m (imageWords d l) ≡ netWordsOutcome (netMove (behaviourOf (netOf d)) m (image d l))
-  unfolding checkedNetMove imageWords
-  table-at m l = rw (eq-eqb (length (ms ++ cs)) (length (netOf d .marks) + length (netOf d .transitions)) sizes) (ap (λ s. netWordsOutcome (netMove (behaviourOf (netOf d)) m s)) back)
-    where
-      ms : List ℕ
-      ms = image d l .marks
-
-      cs : List ℕ
-      cs = image d l .clocks
-
-      sizes : length (ms ++ cs) ≡ length (netOf d .marks) + length (netOf d .transitions)
-      sizes = length-append ms cs ∙ ap₂ (λ (x y : ℕ). x + y) (image-marks l ∙ sym (many-marks d)) (image-clocks l ∙ sym many-trans)
-
-      back : netStateOf (length (netOf d .marks)) (ms ++ cs) ≡ image d l
-      back = λ j. record {
-        marks = take-at ms cs (length (netOf d .marks)) (image-marks l ∙ sym (many-marks d)) j;
-        clocks = drop-at ms cs (length (netOf d .marks)) (image-marks l ∙ sym (many-marks d)) j;
-      }
-
-  diagram-at : (m : Move) (l : List ℕ) → Good l → checkedMove d m l ≡ moveWords d m l
-  unfolding checkedMove Kept
-  diagram-at m l g = rw (eq-eqb (length l) (places d) (g .long), valid-proper d (stateOf d l) (g .kept .valid))
-
-  -- what both steppers say at a state of the history: both accept, the net at the image of the new state, or both refuse
-  abbrev pub Both : ℕ → Outcome (List ℕ) → Outcome (List ℕ) → Type 0
-  Both r (accepted s) (accepted n) = (n ≡ imageWords d s) × Good s
-  Both r (accepted s) (refused a b) = ⊥
-  Both r (refused a b) (accepted n) = ⊥
-  Both r (refused a b) (refused a′ b′) = (a′ ≡ netNumber a) × (b′ ≡ netValue d r a b)
-
-  pub both : (m : Move) (l : List ℕ) → Good l → Both (rowAsked m) (moveWords d m l) (checkedNetMove (netOf d) m (imageWords d l))
-  both m l g = subst (λ x. Both (rowAsked m) (moveWords d m l) x) (sym (table-at m l ∙ ap netWordsOutcome (table-steps d m (image d l))))
-      (go (moveWords d m l) (netMove (behaviour d) m (image d l)) (words-agree d (h .acc) words m l (g .kept)))
-    where
-      go : (x : Outcome (List ℕ)) (y : Outcome NetState) → WordsAgree d (h .acc) words (rowAsked m) x y → Both (rowAsked m) x (netWordsOutcome y)
-      go (accepted s) (accepted y) w = (unfold imageWords in ap netWords (w .0), record { kept = w .1; long = w .2 })
-      go (accepted s) (refused a b) w = absurd w
-      go (refused a b) (accepted y) w = absurd w
-      go (refused a b) (refused a′ b′) w = w
-
-  -- the same moves; and an accepted one goes to the image
-  pub same-of : (r : ℕ) (x z : Outcome (List ℕ)) → Both r x z → isAccepted x ≡ isAccepted z
-  same-of r (accepted s) (accepted n) b = refl
-  same-of r (accepted s) (refused a v) b = absurd b
-  same-of r (refused a v) (accepted n) b = absurd b
-  same-of r (refused a v) (refused a′ v′) b = refl
-
-  pub on-of : (r : ℕ) (x z : Outcome (List ℕ)) → Both r x z → (s : List ℕ) → x ≡ accepted s → (z ≡ accepted (imageWords d s)) × Good s
-  on-of r (accepted s) (accepted n) b s′ p = let w : s ≡ s′ = cc in subst (λ u. (accepted n ≡ accepted (imageWords d u)) × Good u) w (ap accepted (b .0), b .1)
-  on-of r (accepted s) (refused a v) b s′ p = absurd b
-  on-of r (refused a v) z b s′ p = never p
-
-  fresh-good : Good (freshWords d)
-  unfolding freshWords
-  fresh-good = record { kept = start-kept d (h .acc) words; long = unfold stateWords in length-tab (places d) _ }
-
-  fresh-net : freshNetWords (netOf d) ≡ imageWords d (freshWords d)
-  unfolding freshNetWords imageWords freshWords flatNet netOf
-  fresh-net = ap netWords (λ j. record { marks = netOf d .marks; clocks = clocks j }) ∙ ap netWords (start-image d (h .acc) words)
-    where
-      clocks : tabulate {A = ℕ} (length (netOf d .transitions)) (λ x. 0) ≡ flatNet d (namedFresh d) .clocks
-      clocks = zeros (transitionOf d) (names d (rowCount d))
+use Rattle.agreement.specs.Telegrams.{Telegram, telegram-back}
+use Rattle.agreement.specs.Reached.{fresh-good, fresh-net, file-step, after-move, Good, net-step, same-at}
 
 module _ (file : List ℕ) (d : Diagram) (b : areBytes file ≡ true) (e : readDiagram file ≡ accepted d) where
-  h : Held d
+  abbrev h : Held d
   h = held file d b e
 
   abbrev net : List ℕ
   net = netBytes (netOf d)
-
-  net-reads : readNet net ≡ accepted (netOf d)
-  net-reads = read-back (netOf d) (well-made d h)
-
-  file-step : (code argument : ℕ) (l : List ℕ) → Good d h l → stepDiagram file code argument l ≡ moveWords d (moveOf code argument) l
-  unfolding stepDiagram
-  file-step code argument l g = rw e (diagram-at d h (moveOf code argument) l g)
-
-  net-step : (code argument : ℕ) (l : List ℕ) → stepNet net code argument l ≡ checkedNetMove (netOf d) (moveOf code argument) l
-  unfolding stepNet
-  net-step code argument l = rw net-reads
-
-  same-at : (code argument : ℕ) (l : List ℕ) → Good d h l
-      → isAccepted (moveWords d (moveOf code argument) l) ≡ isAccepted (checkedNetMove (netOf d) (moveOf code argument) (imageWords d l))
-  same-at code argument l g = same-of d h (rowAsked (moveOf code argument)) (moveWords d (moveOf code argument) l) (checkedNetMove (netOf d) (moveOf code argument) (imageWords d l)) (both d h (moveOf code argument) l g)
-
-  -- an accepted move goes to the image
-  after-move : (code argument : ℕ) (l s : List ℕ) → Good d h l → moveWords d (moveOf code argument) l ≡ accepted s
-      → (checkedNetMove (netOf d) (moveOf code argument) (imageWords d l) ≡ accepted (imageWords d s)) × Good d h s
-  after-move code argument l s g e = on-of d h (rowAsked (moveOf code argument)) (moveWords d (moveOf code argument) l) (checkedNetMove (netOf d) (moveOf code argument) (imageWords d l)) (both d h (moveOf code argument) l g) s e
 
   module _ (station : ℕ) where
     -- the i-th telegram carries the move from state i to state i + 1
@@ -246,7 +122,7 @@ module _ (file : List ℕ) (d : Diagram) (b : areBytes file ≡ true) (e : readD
           good = λ i l. decide (leb i (length (p .states)))
               (λ f. let k = leb-true i (length (p .states)) f in rw (old i k) (v .good i k))
               (λ f. let k = leb-false i (length (p .states)) f in let y = longer in let x : i ≡ suc (length (p .states)) = omega arith in
-              rw (x, new (length (p .states)) refl) (after-move code argument (lastState d station p) s (v .good (length (p .states)) (omega arith)) z .1));
+              rw (x, new (length (p .states)) refl) (after-move file d b e code argument (lastState d station p) s (v .good (length (p .states)) (omega arith)) z .1));
           linked = λ i l. decide (ltb i (length (p .states)))
               (λ f. link-old i (ltb-true i (length (p .states)) f))
               (λ f. let k = ltb-false i (length (p .states)) f in let y = longer in link-new i (omega arith));
@@ -274,7 +150,7 @@ module _ (file : List ℕ) (d : Diagram) (b : areBytes file ≡ true) (e : readD
         offering-is : offered file (c .leader) (c .count) station code argument area
             ≡ offeredAs (lastState d station p) (length (p .states)) station code argument area (moveWords d (moveOf code argument) (lastState d station p))
         unfolding offered
-        offering-is = rw (v .leads, v .counts, file-step code argument (lastState d station p) (v .good (length (p .states)) (omega arith)))
+        offering-is = rw (v .leads, v .counts, file-step file d b e code argument (lastState d station p) (v .good (length (p .states)) (omega arith)))
 
         same-size : ltb (length (p .states)) (length (p .states)) ≡ false
         same-size = le-ltb (length (p .states)) (length (p .states)) (omega arith)
@@ -357,7 +233,7 @@ module _ (file : List ℕ) (d : Diagram) (b : areBytes file ≡ true) (e : readD
           })
             where
               stepped : stepNet net code argument (c .follower) ≡ accepted (imageWords d (stateAt d station p (suc i)))
-              stepped = net-step code argument (c .follower) ∙ (ap (λ (y : List ℕ). checkedNetMove (netOf d) (moveOf code argument) y) (v .follows ∙ ap (λ (y : ℕ). imageWords d (stateAt d station p y)) (sym q)) ∙ (after-move code argument (stateAt d station p i) (stateAt d station p (suc i)) (v .good i (omega arith)) m .0))
+              stepped = net-step file d b e code argument (c .follower) ∙ (ap (λ (y : List ℕ). checkedNetMove (netOf d) (moveOf code argument) y) (v .follows ∙ ap (λ (y : ℕ). imageWords d (stateAt d station p y)) (sym q)) ∙ (after-move file d b e code argument (stateAt d station p i) (stateAt d station p (suc i)) (v .good i (omega arith)) m .0))
 
               goes : taken net (c .follower) (c .taken) station b′ ≡ record { answer = accepted (suc (c .taken)); state = imageWords d (stateAt d station p (suc i)) }
               goes = taking-is ∙ (let k = v .takes in rw (lt-leb (suc i) (c .taken) (omega arith), le-leb (suc i) (suc (c .taken)) (omega arith), stepped))
@@ -406,7 +282,7 @@ module _ (file : List ℕ) (d : Diagram) (b : areBytes file ≡ true) (e : readD
       takes = refl;
     }
 
-    whole : (calls : List Call) → AllDeliverable file net station (freshEnds d) calls → Demand3 file d station calls
+    pub whole : (calls : List Call) → AllDeliverable file net station (freshEnds d) calls → Demand3 file d station calls
     whole calls f =
         let r = all-calls calls noHistory (freshEnds d) at-start f in
         let v = r .0 in
@@ -417,10 +293,5 @@ module _ (file : List ℕ) (d : Diagram) (b : areBytes file ≡ true) (e : readD
           not-ahead = v .behind;
           follower-state = v .follows;
           calls-as-due = r .1;
-          same-moves = λ i l code argument. ap isAccepted (file-step code argument _ (v .good i l)) ∙ (same-at code argument _ (v .good i l) ∙ ap isAccepted (sym (net-step code argument _)));
+          same-moves = λ i l code argument. ap isAccepted (file-step file d b e code argument _ (v .good i l)) ∙ (same-at file d b e code argument _ (v .good i l) ∙ ap isAccepted (sym (net-step file d b e code argument _)));
         }
-
--- THEOREM: demand 3, over bytes
-pub demand3 : (file : List ℕ) (d : Diagram) → areBytes file ≡ true → readDiagram file ≡ accepted d → (station : ℕ) (calls : List Call)
-    → AllDeliverable file (netFileOf d) station (freshEnds d) calls → Demand3 file d station calls
-demand3 file d b e station calls f = whole file d b e station calls f

@@ -22,4 +22,7 @@ pub mod AcceptedFiles
 pub mod Arcs
 pub mod NetSteps
 pub mod WellFormed
+pub mod Telegrams
+pub mod Reached
 pub mod Demand
+pub mod Theorems
