@@ -1,13 +1,13 @@
 -- What an accepted diagram file gives: sizes, fields that fit, an accepted nesting.
-use Prim.Native.Nat.{ℕ, zero, suc, _+_, _-_, _*_, _/_, _%_, _≤_, _<_, zero-le}
-use mathlib.Core.Path.{_≡_, refl, sym, _∙_, ap, ap₂, subst}
+use Prim.Native.Nat.{ℕ, zero, suc, _-_, _/_, _≤_, _<_, zero-le}
+use mathlib.Core.Path.{_≡_, refl, sym, ap, subst}
 use mathlib.Core.Logic.{_≢_}
 use mathlib.Core.Bool.{Bool, true, false, not, cond, _&&_, _||_}
-use mathlib.Core.List.{List, [], _∷_, _++_}
+use mathlib.Core.List.{List, [], _∷_}
 use native.Mathlib.Omega.{arith}
 use lib.ListN.{length, getD, drop}
 use lib.Dec.{leb, ltb, eqb}
-use borrow.Author.Tests.{ltb-true, ltb-false, leb-true, leb-false, eqb-true, eqb-false, lt-ltb, le-ltb, le-leb, lt-leb, eq-eqb, ne-eqb}
+use borrow.Author.Tests.{ltb-false, leb-true, eqb-true, eqb-false, lt-ltb}
 use Rattle.effbd.specs.Answers.{accepted, refused}
 use Rattle.effbd.specs.Diagrams.{Diagram, Kind, Row, Use, and-close, and-open, branch, countTotal, end, function, headFault, isKind, it-close, it-open, itemAt, itemFault, kind, loop-exit, lp-close, lp-open, or-close, or-open, plain, row, rowAt, rowCount, rowFault, rowFine, rowRight, usesAt}
 use Rattle.effbd.specs.Nesting.{afterItems, afterRows, exitMisplaced, firstFaulty, follows, inAndOr, innermostIs, nested, nestingBroken, nestingFault, readDiagram, someOpen, stack, standsAs, thirteenthOpen}
@@ -29,18 +29,18 @@ all-at Q (a ∷ l) z h q (suc i) = all-at Q l z (h .1) q i
 
 pub record Read (A : Type 0) (Q : A → Type 0) (n : ℕ) (g : Got (List A)) : Type 0 where
   pub each : AllOf Q (g .value)
-  pub readMany : length (g .value) ≡ n
+  pub many : length (g .value) ≡ n
   pub rest : areBytes (g .rest) ≡ true
 
 pub many-read : {A : Type 0} (Q : A → Type 0) (fault : List ℕ → ℕ) (value : List ℕ → A) (total n : ℕ) (l : List ℕ) (g : Got (List A))
     → ((l : List ℕ) → areBytes l ≡ true → fault l ≡ 0 → Q (value l)) → areBytes l ≡ true → readMany fault value total n l ≡ accepted g → Read A Q n g
 unfolding readMany
-many-read {A} Q fault value total zero l g h b e = subst (Read A Q zero) (let y : record { value = []; rest = l } ≡ g = cc in y) (record { each = tt; readMany = refl; rest = b })
+many-read {A} Q fault value total zero l g h b e = subst (Read A Q zero) (let y : record { value = []; rest = l } ≡ g = cc in y) (record { each = tt; many = refl; rest = b })
 many-read {A} Q fault value total (suc n) l g h b e =
     let a = next-inv (fault l) (total - length l) _ g e in
     let w = adding-inv (value l) _ g (a .1) in
     let r = many-read Q fault value total n (drop (lengthAt l) l) (w .0) h (bytes-drop (lengthAt l) l b) (w .1) in
-    subst (Read A Q (suc n)) (w .2) (record { each = (h l b (a .0), r .each); readMany = ap suc (r .readMany); rest = r .rest })
+    subst (Read A Q (suc n)) (w .2) (record { each = (h l b (a .0), r .each); many = ap suc (r .many); rest = r .rest })
 
 -- a row as the file has it: its fields are words
 pub record RowOk (M : ℕ) (r : Row) : Type 0 where
@@ -186,7 +186,7 @@ held file d b e =
     let r = bind-inv (readMany (rowFault (word file 8)) rowAt (length file) (word file 6) (i .0 .rest)) (afterRows file (i .0 .value)) d (i .2) in
     let rr = many-read (RowOk (word file 8)) (rowFault (word file 8)) rowAt (length file) (word file 6) (i .0 .rest) (r .0) (λ l c z. row-ok (word file 8) l c z) (ir .rest) (r .1) in
     let n = next-inv (cond (eqb (length (r .0 .rest)) 0) 0 6) (length file - length (r .0 .rest)) _ d (r .2) in
-    whole (i .0 .value) (r .0 .value) (a .0) (ir .each) (ir .readMany) (rr .each) (rr .readMany) (n .1)
+    whole (i .0 .value) (r .0 .value) (a .0) (ir .each) (ir .many) (rr .each) (rr .many) (n .1)
   where
     whole : (items : List ℕ) (rows : List Row) → headFault file ≡ 0 → AllOf (λ (x : ℕ). x ≤ 65535) items → length items ≡ word file 8
         → AllOf (RowOk (word file 8)) rows → length rows ≡ word file 6 → nested (record { rows = rows; items = items }) ≡ accepted d → Held d

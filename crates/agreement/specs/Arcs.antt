@@ -1,5 +1,5 @@
 -- The arcs of weights and of clears: what they weigh and clear at each place, and that a net file can hold them.
-use Prim.Native.Nat.{ℕ, zero, suc, _+_, _-_, _≤_, _<_, zero-le}
+use Prim.Native.Nat.{ℕ, zero, suc, _+_, _≤_, _<_, zero-le}
 use mathlib.Core.Path.{_≡_, refl, sym, _∙_, ap, subst}
 use mathlib.Core.Logic.{_≢_}
 use mathlib.Core.Bool.{Bool, true, false, cond, _&&_, _||_}
@@ -8,7 +8,7 @@ use native.Mathlib.Omega.{arith}
 use lib.Dec.{leb, ltb, eqb}
 use borrow.Author.Tests.{ltb-true, ltb-false, leb-true, leb-false, eqb-true, eqb-false, lt-ltb, le-ltb, le-leb, lt-leb, eq-eqb, ne-eqb}
 use Rattle.effbd.specs.Ranges.{only, within}
-use Rattle.effbd.specs.Nets.{Arc, clearArc, arcDue, arcFine, above}
+use Rattle.effbd.specs.Nets.{Arc, arcDue, arcFine, above}
 use Rattle.effbd.specs.Firing.{weightAt, clearedAt}
 use Rattle.effbd.specs.Patterns.{arcsOf, clearRange, joinRange, rangesFrom}
 use Rattle.agreement.specs.Basics.{decide, and-intro, and-left, and-right, only-refl}

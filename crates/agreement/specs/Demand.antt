@@ -1,41 +1,29 @@
 -- Demand 3: one claim over every list of calls, kept call by call.
-use Prim.Native.Nat.{ℕ, zero, suc, _+_, _-_, _*_, _/_, _%_, _≤_, _<_, zero-le}
+use Prim.Native.Nat.{ℕ, suc, _+_, _≤_, _<_, zero-le}
 use mathlib.Core.Path.{_≡_, refl, sym, _∙_, ap, ap₂, subst}
 use mathlib.Core.Logic.{_≢_}
-use mathlib.Core.Bool.{Bool, true, false, not, cond, _&&_, _||_}
-use mathlib.Core.List.{List, [], _∷_, _++_, map}
+use mathlib.Core.Bool.{true, false, cond, _&&_}
+use mathlib.Core.List.{List, [], _∷_, _++_}
 use native.Mathlib.Omega.{arith}
 use native.Mathlib.Numerals.{add-one}
-use lib.ListN.{length, getD, take, drop, length-append, length-map, List·getD-append}
-use lib.Seq.{take-at, drop-at, getD-append-seam}
+use lib.ListN.{length, getD, take, drop, length-append, List·getD-append}
+use lib.Seq.{getD-append-seam}
 use lib.Dec.{leb, ltb, eqb}
 use borrow.Author.Tests.{ltb-true, ltb-false, leb-true, leb-false, eqb-true, eqb-false, lt-ltb, le-ltb, le-leb, lt-leb, eq-eqb, ne-eqb}
-use Rattle.effbd.specs.Answers.{Outcome, accepted, afterwards, isAccepted, refused, unless}
+use Rattle.effbd.specs.Answers.{Outcome, accepted, isAccepted, refused, unless}
 use Rattle.effbd.specs.BusEnds.{isOurs, isTelegram, numberAt, offered, offeredAs, stationAt, taken, takenAs, telegram}
-use Rattle.effbd.specs.Diagrams.{Diagram, rowCount}
-use Rattle.effbd.specs.Firing.{NetState, behaviourOf, checkedNetMove, freshNetWords, netMove, netStateOf, netWords, netWordsOutcome, stepNet}
-use Rattle.effbd.specs.History.{AllDeliverable, Call, Deliverable, Demand3, Ends, History, Seen, addedAs, afterOffer, due, dueAll, foreign, freshEnds, hand, hasRoom, lastState, netFileOf, noHistory, offer, offerDue, past, pastAll, run, runAll, seen, seenAll, stateAt, wrote-before}
-use Rattle.effbd.specs.Image.{image, imageWords}
-use Rattle.effbd.specs.Layout.{places}
-use Rattle.effbd.specs.Moves.{Move, checkedMove, move, moveOf, moveWords, stepDiagram, wordsOutcome}
+use Rattle.effbd.specs.Diagrams.{Diagram}
+use Rattle.effbd.specs.Firing.{checkedNetMove, stepNet}
+use Rattle.effbd.specs.History.{AllDeliverable, Call, Deliverable, Demand3, Ends, History, Seen, addedAs, afterOffer, due, dueAll, foreign, freshEnds, hand, hasRoom, lastState, noHistory, offer, offerDue, past, pastAll, run, runAll, seen, seenAll, stateAt, wrote-before}
+use Rattle.effbd.specs.Image.{imageWords}
+use Rattle.effbd.specs.Moves.{moveOf, moveWords}
 use Rattle.effbd.specs.Nesting.{readDiagram}
-use Rattle.effbd.specs.Nets.{netBytes, readNet}
-use Rattle.effbd.specs.Patterns.{names, netOf, transitionOf}
-use Rattle.effbd.specs.Ranges.{tabulate}
-use Rattle.effbd.specs.Records.{areBytes, word}
-use Rattle.effbd.specs.States.{State, freshWords, stateOf, stateWords}
+use Rattle.effbd.specs.Nets.{netBytes}
+use Rattle.effbd.specs.Patterns.{netOf}
+use Rattle.effbd.specs.Records.{areBytes}
+use Rattle.effbd.specs.States.{freshWords}
 use Rattle.agreement.specs.AcceptedFiles.{Held, held}
 use Rattle.agreement.specs.Basics.{and-intro, clash, decide}
-use Rattle.agreement.specs.ByteLaws.{never, of-two}
-use Rattle.agreement.specs.Moves.{Words, rowAsked}
-use Rattle.agreement.specs.Named.{behaviour, flatNet, namedFresh}
-use Rattle.agreement.specs.NetFiles.{read-back}
-use Rattle.agreement.specs.NetSteps.{many-marks, table-steps}
-use Rattle.agreement.specs.Numbering.{length-tab}
-use Rattle.agreement.specs.StateCheck.{valid-proper}
-use Rattle.agreement.specs.StateWords.{Kept, start-image, start-kept, WordsAgree, words-agree}
-use Rattle.agreement.specs.WellFormed.{well-made}
-use Rattle.agreement.specs.Refusals.{netNumber, netValue}
 use Rattle.agreement.specs.Telegrams.{Telegram, telegram-back}
 use Rattle.agreement.specs.Reached.{fresh-good, fresh-net, file-step, after-move, Good, net-step, same-at}
 
@@ -55,7 +43,7 @@ module _ (file : List ℕ) (d : Diagram) (b : areBytes file ≡ true) (e : readD
       moves : moveWords d (moveOf code argument) (stateAt d station p i) ≡ accepted (stateAt d station p (suc i))
 
     record True (p : History) (c : Ends) : Type 0 where
-      readMany : length (c .wrote) ≡ length (p .states)
+      many : length (c .wrote) ≡ length (p .states)
       good : (i : ℕ) → i ≤ length (p .states) → Good d h (stateAt d station p i)
       linked : (i : ℕ) → i < length (p .states) → Link p c i
       behind : p .t ≤ length (p .states)
@@ -102,7 +90,7 @@ module _ (file : List ℕ) (d : Diagram) (b : areBytes file ≡ true) (e : readD
         link-old i l = let k = v .linked i l in record {
           code = k .code;
           argument = k .argument;
-          wrote = List·getD-append (c .wrote) _ [] i (rw (v .readMany) l) ∙ k .wrote;
+          wrote = List·getD-append (c .wrote) _ [] i (rw (v .many) l) ∙ k .wrote;
           moves = rw (old i (omega arith), old (suc i) l) (k .moves);
         }
 
@@ -111,14 +99,14 @@ module _ (file : List ℕ) (d : Diagram) (b : areBytes file ≡ true) (e : readD
         link-new i l = record {
           code = code;
           argument = argument;
-          wrote = ap (λ x. getD (c .wrote ++ (take 14 (telegram (suc (length (p .states))) station code argument ++ drop 14 area) ∷ [])) x []) (l ∙ sym (v .readMany)) ∙ (getD-append-seam (c .wrote) _ [] [] ∙ ap (λ x. telegram (suc x) station code argument) (sym l));
+          wrote = ap (λ x. getD (c .wrote ++ (take 14 (telegram (suc (length (p .states))) station code argument ++ drop 14 area) ∷ [])) x []) (l ∙ sym (v .many)) ∙ (getD-append-seam (c .wrote) _ [] [] ∙ ap (λ x. telegram (suc x) station code argument) (sym l));
           moves = rw (new i l, old i (omega arith), l) z;
         }
 
         added : True p′ c′
         unfolding p′ c′
         added = record {
-          readMany = rw (length-append (c .wrote) (take 14 (telegram (suc (length (p .states))) station code argument ++ drop 14 area) ∷ []), longer) (let a = v .readMany in omega arith);
+          many = rw (length-append (c .wrote) (take 14 (telegram (suc (length (p .states))) station code argument ++ drop 14 area) ∷ []), longer) (let a = v .many in omega arith);
           good = λ i l. decide (leb i (length (p .states)))
               (λ f. let k = leb-true i (length (p .states)) f in rw (old i k) (v .good i k))
               (λ f. let k = leb-false i (length (p .states)) f in let y = longer in let x : i ≡ suc (length (p .states)) = omega arith in
@@ -136,7 +124,7 @@ module _ (file : List ℕ) (d : Diagram) (b : areBytes file ≡ true) (e : readD
       -- a call that changes nothing
       kept : True p (record { leader = lastState d station p; count = c .count; follower = c .follower; taken = c .taken; wrote = c .wrote })
       kept = record {
-        readMany = v .readMany;
+        many = v .many;
         good = v .good;
         linked = λ i l. let k = v .linked i l in record { code = k .code; argument = k .argument; wrote = k .wrote; moves = k .moves };
         behind = v .behind;
@@ -220,7 +208,7 @@ module _ (file : List ℕ) (d : Diagram) (b : areBytes file ≡ true) (e : readD
           unfolding past run seen due stateAt
           raised q l m = rw (goes, is-ours, tg .isNumber, eq-eqb (suc i) (suc (p .t)) (ap suc q), lt-ltb (p .t) (suc (p .t)) (omega arith)) (record {
             keeps = record {
-              readMany = v .readMany;
+              many = v .many;
               good = v .good;
               linked = λ j y. let k = v .linked j y in record { code = k .code; argument = k .argument; wrote = k .wrote; moves = k .moves };
               behind = omega arith;
@@ -246,7 +234,7 @@ module _ (file : List ℕ) (d : Diagram) (b : areBytes file ≡ true) (e : readD
             (λ z. let a = ltb-false i (p .t) y in let w : i ≢ p .t = eqb-false i (p .t) z in ours-new i (k .code) (k .argument) tg (omega arith)))
           where
             il : i < length (p .states)
-            il = rw (v .readMany) at l
+            il = rw (v .many) at l
 
             k : Link p c i
             k = v .linked i il
@@ -272,7 +260,7 @@ module _ (file : List ℕ) (d : Diagram) (b : areBytes file ≡ true) (e : readD
     at-start : True noHistory (freshEnds d)
     unfolding freshEnds
     at-start = record {
-      readMany = refl;
+      many = refl;
       good = λ i l. subst (λ y. Good d h (stateAt d station noHistory y)) (let z : 0 ≡ i = omega arith in z) (unfold stateAt in fresh-good d h);
       linked = λ i l. absurd (omega arith);
       behind = zero-le;

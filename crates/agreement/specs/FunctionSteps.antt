@@ -1,14 +1,13 @@
 -- FUNCTION, IT open and LE: the steps that do more than move tokens.
-use Prim.Native.Nat.{_*_, ℕ, zero, suc, _+_, _-_, _≤_, _<_, zero-le}
-use mathlib.Core.Path.{_≡_, refl, sym, _∙_, ap, subst}
+use Prim.Native.Nat.{_*_, ℕ, suc, _+_, _-_, _≤_, _<_, zero-le}
+use mathlib.Core.Path.{_≡_, refl}
 use mathlib.Core.Logic.{_≢_}
-use mathlib.Core.Bool.{Bool, true, false, not, cond, _&&_, _||_, and-false, and-true}
-use mathlib.Core.List.{List, [], _∷_}
+use mathlib.Core.Bool.{Bool, true, false, not, cond, _&&_, and-false, and-true}
+use mathlib.Core.List.{[], _∷_}
 use native.Mathlib.Omega.{arith}
-use native.Mathlib.Nat.{add-zero, zero-add, sub-zero}
-use lib.ListN.{getD}
+use native.Mathlib.Nat.{add-zero, sub-zero}
 use lib.Dec.{leb, ltb, eqb}
-use borrow.Author.Tests.{ltb-true, ltb-false, leb-true, leb-false, eqb-true, eqb-false, lt-ltb, le-ltb, le-leb, lt-leb, eq-eqb, ne-eqb}
+use borrow.Author.Tests.{ltb-true, ltb-false, leb-true, leb-false, eqb-true, eqb-false, le-leb, ne-eqb}
 use Rattle.effbd.specs.Answers.{refused}
 use Rattle.effbd.specs.Diagrams.{Diagram, and-open, branch, countTotal, end, function, gives, isKind, it-open, kind, row, rowCount, takes}
 use Rattle.effbd.specs.Image.{imageMark, readyOrDone, running}
@@ -19,7 +18,7 @@ use Rattle.effbd.specs.Ranges.{only, least}
 use Rattle.effbd.specs.States.{State, activate, enter, enteredRow, makeIdle, setCounts, setRunning, countAt}
 use Rattle.agreement.specs.Basics.{all-elim, all-find, cond-same, decide, kind-in, not-kind, only-refl, least-past}
 use Rattle.agreement.specs.Invariant.{Inv, Sound, inv-with, sound-idle, sound-inv}
-use Rattle.agreement.specs.Matching.{Agree, Valid, early, fired, full, goes, stays, RowPlace, ready-le, bit-le, marks-fit-row}
+use Rattle.agreement.specs.Matching.{Agree, Valid, early, fired, full, goes, stays, RowPlace, ready-le, bit-le, marks-fit-row, clock-kept}
 use Rattle.agreement.specs.Named.{after, enabled, namedImage, namedStepAt, lowestOver}
 use Rattle.agreement.specs.Structure.{Laws}
 use Rattle.agreement.specs.TokenSteps.{live-zero, sound-one}
@@ -27,10 +26,6 @@ use Rattle.agreement.specs.Tokens.{Real, enabled-yes}
 use Rattle.agreement.specs.Numbering.{place-row, place-I}
 
 module _ (d : Diagram) where
-  -- a clock off a running row is 0
-  kept : (a c : ℕ) → (a ≢ 2 → c ≡ 0) → c ≡ cond (leb 1 (running a - 0)) c 0
-  kept a c g = decide (eqb a 2) (λ e. rw e) (λ e. rw (g (eqb-false a 2 e)) (simp cond-same))
-
   module _ (r : ℕ) (s : State) (i : Inv d s) (k : kind d r ≡ function) where
     v : Valid d s
     v = i .valid
@@ -60,7 +55,7 @@ module _ (d : Diagram) where
     unfolding begun t₁
     begun-clock a q kq = rw (and-false, kq) (decide (only r q)
         (λ e. rw (e, eqb-true q r e, a))
-        (λ e. rw e (kept (s .activity q) (s .clock q) (v .still q))))
+        (λ e. rw e (clock-kept (s .activity q) (s .clock q) (v .still q))))
 
     begun-inv : s .activity r ≡ 1 → Inv d begun
     unfolding begun
@@ -126,7 +121,7 @@ module _ (d : Diagram) where
           (λ e. rw (e, cond-same))
           (λ e. rw e (decide (only (enteredRow d (suc r)) q)
           (λ f. rw (f, h q e f))
-          (λ f. rw f (kept (s .activity q) (s .clock q) (v .still q))))))
+          (λ f. rw f (clock-kept (s .activity q) (s .clock q) (v .still q))))))
 
     -- what the FUNCTION's state is
     off : s .activity r ≢ 1 → readyOrDone (s .activity r) ≡ 0

@@ -1,14 +1,13 @@
 -- IT open and LE.
-use Prim.Native.Nat.{ℕ, zero, suc, _+_, _-_, _≤_, _<_, zero-le}
+use Prim.Native.Nat.{ℕ, suc, _+_, _-_, _≤_, _<_, zero-le}
 use mathlib.Core.Path.{_≡_, refl, sym, _∙_, ap, subst}
 use mathlib.Core.Logic.{_≢_}
-use mathlib.Core.Bool.{Bool, true, false, not, cond, _&&_, _||_, and-false, and-true}
-use mathlib.Core.List.{List, [], _∷_}
+use mathlib.Core.Bool.{Bool, true, false, cond, _&&_, _||_, and-false}
+use mathlib.Core.List.{[], _∷_}
 use native.Mathlib.Omega.{arith}
-use native.Mathlib.Nat.{add-zero, zero-add, sub-zero}
-use lib.ListN.{getD}
+use native.Mathlib.Nat.{add-zero, sub-zero}
 use lib.Dec.{leb, ltb, eqb}
-use borrow.Author.Tests.{ltb-true, ltb-false, leb-true, leb-false, eqb-true, eqb-false, lt-ltb, le-ltb, le-leb, lt-leb, eq-eqb, ne-eqb}
+use borrow.Author.Tests.{ltb-true, ltb-false, eqb-true, eqb-false}
 use Rattle.effbd.specs.Answers.{accepted, refused}
 use Rattle.effbd.specs.Diagrams.{Diagram, Kind, and-close, and-open, branch, end, function, isKind, it-close, it-open, kind, loop-exit, lp-close, or-close, row, rowCount, sameKind}
 use Rattle.effbd.specs.Image.{imageMark, readyOrDone, running}
@@ -23,14 +22,10 @@ use Rattle.agreement.specs.Invariant.{Inv, Sound, inv-with, sound-fits, 
 use Rattle.agreement.specs.Matching.{Agree, Valid, fired, goes, stays, token-clock}
 use Rattle.agreement.specs.Named.{after, enabled, namedFire, namedImage, namedStepAt}
 use Rattle.agreement.specs.Structure.{Fine, Laws, Par, side}
-use Rattle.agreement.specs.TokenSteps.{live-zero, sound-one}
+use Rattle.agreement.specs.TokenSteps.{live-zero, sound-one, after-close}
 use Rattle.agreement.specs.Tokens.{Fits, Real, enabled-yes, moved-marks}
 
 module _ (d : Diagram) where
-  -- a clock off a running row is 0
-  kept : (a c : ℕ) → (a ≢ 2 → c ≡ 0) → c ≡ cond (leb 1 (running a - 0)) c 0
-  kept a c g = decide (eqb a 2) (λ e. rw e) (λ e. rw (g (eqb-false a 2 e)) (simp cond-same))
-
   module _ (r : ℕ) (s : State) (i : Inv d s) (k : kind d r ≡ it-open) where
     v : Valid d s
     v = i .valid
@@ -76,8 +71,8 @@ module _ (d : Diagram) where
     again : State
     again = enter d (suc r) (setTurns r (suc (s .turns r)) (makeIdle (only r) s))
 
-    overflows : State
-    overflows = enter d (suc (close d r)) (setTurns r 0 (makeIdle (only r) s))
+    leaves : State
+    leaves = enter d (suc (close d r)) (setTurns r 0 (makeIdle (only r) s))
 
     -- the row t that is entered is where r is
     module _ (a : s .activity r ≡ 1) (t : ℕ) (n : Fine d t) (h : (X : ℕ) → side d X t ≡ side d X r) where
@@ -122,9 +117,9 @@ module _ (d : Diagram) where
             cov (R q) x = decide (only r q) (λ f. rw (f, eqb-true q r f, k) (omega arith)) (λ f. rw f zero-le)
             cov (Count q) x = zero-le
 
-    agree-over : Laws d → s .activity r ≡ 1 → row d r .first ≤ s .turns r → Agree d (Inv d) r (accepted overflows) (namedStepAt d (t₁ ∷ t₂ ∷ []) 0 r (namedImage d s))
-    unfolding overflows t₁ t₂
-    agree-over L a l = rw (stays d t₁ (t₂ ∷ []) r 0 s (R r) inside (rw (k, only-refl r) (omega arith)), goes d t₂ [] r 1 s overflows on zero-le e (inv .valid)) (refl, inv)
+    agree-over : Laws d → s .activity r ≡ 1 → row d r .first ≤ s .turns r → Agree d (Inv d) r (accepted leaves) (namedStepAt d (t₁ ∷ t₂ ∷ []) 0 r (namedImage d s))
+    unfolding leaves t₁ t₂
+    agree-over L a l = rw (stays d t₁ (t₂ ∷ []) r 0 s (R r) inside (rw (k, only-refl r) (omega arith)), goes d t₂ [] r 1 s leaves on zero-le e (inv .valid)) (refl, inv)
       where
         c : ℕ
         c = close d r
@@ -133,10 +128,7 @@ module _ (d : Diagram) where
         shut = L .shut r (rw k)
 
         at-t : (X : ℕ) → side d X (enteredRow d (suc c)) ≡ side d X r
-        at-t X = L .seq c X (not-closing and-open refl) (not-closing end refl) ∙ (sym (L .back c X (shut .0)) ∙ ap (side d X) (shut .1))
-          where
-            not-closing : (j : Kind) → (sameKind j and-close || sameKind j or-close || sameKind j it-close || sameKind j lp-close) ≡ false → kind d c ≢ j
-            not-closing j f e = clash (shut .0) (rw e f)
+        at-t X = after-close d L r X (rw k)
 
         none-left : 0 ≡ (s .turns r - row d r .first) + 0
         none-left = let f = v .turned r in omega arith
@@ -144,10 +136,10 @@ module _ (d : Diagram) where
         all-back : row d r .first - 0 ≡ ((row d r .first - s .turns r) - 0) + row d r .first
         all-back = omega arith
 
-        inv : Inv d overflows
+        inv : Inv d leaves
         inv = turn-inv a (enteredRow d (suc c)) (L .lands (suc c)) at-t 0 zero-le
 
-        e : namedImage d overflows ≡ namedFire d r 1 t₂ (namedImage d s)
+        e : namedImage d leaves ≡ namedFire d r 1 t₂ (namedImage d s)
         e = turn-fire 1 0 (only (enteredRow d (suc c))) (λ q. cond (only r q) (row d r .first) 0) none none (λ q. cond (only r q) (row d r .first) 0) (turn-fits a (enteredRow d (suc c)) (L .lands (suc c)) at-t)
             (λ q f. (rw f, refl, refl, rw f)) (rw (only-refl r) none-left) (rw (only-refl r) all-back)
 
@@ -161,7 +153,7 @@ module _ (d : Diagram) where
             cov (Count q) x = zero-le
 
     pub agree-it : Laws d → Agree d (Inv d) r (stepAs d it-open r s) (namedStepAt d (patternsAs d it-open r) 0 r (namedImage d s))
-    unfolding t₁ t₂ again overflows
+    unfolding t₁ t₂ again leaves
     agree-it L = decide (eqb (s .activity r) 1)
         (λ e. decide (ltb (s .turns r) (row d r .first))
         (λ f. rw (e, f) (agree-again L (eqb-true (s .activity r) 1 e) (ltb-true (s .turns r) (row d r .first) f)))
@@ -188,27 +180,21 @@ module _ (d : Diagram) where
     -- the row after the loop stands where the loop stands
     out : (X : ℕ) → side d X t ≡ side d X (loop d r)
     unfolding t c
-    out X = L .seq c X (not-closing and-open refl) (not-closing end refl) ∙ (sym (L .back c X (shut .0)) ∙ ap (side d X) (shut .1))
-      where
-        shut : (isClose d c ≡ true) × (owner d c ≡ loop d r)
-        shut = L .shut (loop d r) (rw (L .looped r k .0))
-
-        not-closing : (j : Kind) → (sameKind j and-close || sameKind j or-close || sameKind j it-close || sameKind j lp-close) ≡ false → kind d c ≢ j
-        not-closing j f e = clash (shut .0) (rw e f)
+    out X = after-close d L (loop d r) X (rw (L .looped r k .0))
 
     exit-sound : s .activity r ≢ 0 → Sound d W (only t) s
     unfolding W t
     exit-sound a = record {
       lands = λ x e. rw (eqb-true x t e) (L .lands (suc c));
-      clear = λ w x e f activity. rw (eqb-true w t e) (free x f activity);
+      clear = λ w x e f active. rw (eqb-true w t e) (free x f active);
       pair = λ w x e f ne. absurd (ne (eqb-true w t e ∙ sym (eqb-true x t f)));
     }
       where
         free : (x : ℕ) → inLoop d r x ≡ false → s .activity x ≢ 0 → Par d t x
-        free x f activity = record { fork = p .fork; left = λ z. p .left (h ∙ z); right = p .right; differ = λ z. p .differ (h ∙ z) }
+        free x f active = record { fork = p .fork; left = λ z. p .left (h ∙ z); right = p .right; differ = λ z. p .differ (h ∙ z) }
           where
             p : Par d r x
-            p = i .apart r x a activity (λ z. clash (L .looped r k .1) (subst (λ y. inLoop d r y ≡ false) (sym z) f))
+            p = i .apart r x a active (λ z. clash (L .looped r k .1) (subst (λ y. inLoop d r y ≡ false) (sym z) f))
 
             h : side d (p .fork) r ≡ side d (p .fork) t
             h = L .exit r x (p .fork) k f (p .left) (p .right) ∙ sym (out (p .fork))

@@ -1,15 +1,12 @@
 -- The diagram's steps and the net's agree at every state that keeps the invariant.
-use Prim.Native.Nat.{ℕ, zero, suc, _<_, _≤_, zero-le, _-_}
-use mathlib.Core.Path.{_≡_, refl, sym, _∙_, ap, subst, fun-ext}
+use Prim.Native.Nat.{ℕ, zero, suc, _≤_, zero-le}
+use mathlib.Core.Path.{_≡_, refl, sym, _∙_, fun-ext}
 use mathlib.Core.Logic.{_≢_}
-use mathlib.Core.Bool.{Bool, true, false, not, cond, _&&_, _||_}
-use mathlib.Core.List.{List, [], _∷_}
+use mathlib.Core.Bool.{Bool, true, false, cond, _&&_}
 use native.Mathlib.Omega.{arith}
 use native.Mathlib.Nat.{sub-zero}
 use lib.ListN.{getD}
-use lib.Dec.{eqb}
-use borrow.Author.Tests.{eqb-true, eqb-false}
-use Rattle.effbd.specs.Answers.{Outcome, accepted, afterwards, isAccepted, refused}
+use borrow.Author.Tests.{eqb-true}
 use Rattle.effbd.specs.Diagrams.{Diagram, Kind, and-close, and-open, branch, end, function, isKind, it-close, it-open, kind, loop-exit, lp-close, lp-open, or-close, or-open, row}
 use Rattle.effbd.specs.Image.{imageMark, readyOrDone, running}
 use Rattle.effbd.specs.Layout.{Count, P, Place, Q, R}
@@ -23,7 +20,7 @@ use Rattle.agreement.specs.FunctionSteps.{agree-fun}
 use Rattle.agreement.specs.Invariant.{Inv, sound-inv}
 use Rattle.agreement.specs.LoopSteps.{agree-it, agree-le}
 use Rattle.agreement.specs.Matching.{Agree}
-use Rattle.agreement.specs.Named.{NamedState, movesFrom, namedFresh, namedImage, namedMove, namedStep, namedStepAt}
+use Rattle.agreement.specs.Named.{namedFresh, namedImage, namedMove, namedStep, namedStepAt}
 use Rattle.agreement.specs.Nested.{wellNested}
 use Rattle.agreement.specs.NestingLaws.{laws}
 use Rattle.agreement.specs.Structure.{Laws}

@@ -1,13 +1,13 @@
 -- The net of a diagram by the names of its places and transitions: its steps and waits, its fresh state, the image. A stage of the proof between the diagram and the net by numbers.
-use Prim.Native.Nat.{ℕ, zero, suc, _+_, _-_, _*_}
-use mathlib.Core.Bool.{Bool, true, false, not, cond, _&&_}
-use mathlib.Core.List.{List, [], _∷_, _++_, map}
+use Prim.Native.Nat.{ℕ, suc, _+_, _-_, _*_}
+use mathlib.Core.Bool.{Bool, true, not, cond, _&&_}
+use mathlib.Core.List.{List, [], _∷_, map}
 use lib.ListN.{length, getD}
 use lib.Dec.{leb, ltb, eqb}
 use Rattle.effbd.specs.Ranges.{allBelow, least, only, tabulate}
-use Rattle.effbd.specs.Answers.{Outcome, accepted, refused, isAccepted, afterwards}
-use Rattle.effbd.specs.Diagrams.{Diagram, rowCount, countTotal, isKind, function}
-use Rattle.effbd.specs.Layout.{Place, P, Q, R, Count, byPlace, places, placeOf}
+use Rattle.effbd.specs.Answers.{Outcome, accepted, refused, afterwards}
+use Rattle.effbd.specs.Diagrams.{Diagram, rowCount, countTotal}
+use Rattle.effbd.specs.Layout.{Place, P, Q, R, Count, places, placeOf}
 use Rattle.effbd.specs.States.{State}
 use Rattle.effbd.specs.Moves.{Move, step-row, wait-ticks, no-move, mostWord}
 use Rattle.effbd.specs.Firing.{NetState, Effect, Behaviour}

@@ -1,6 +1,6 @@
 -- Which row may stand after the rows before it, all of nesting's rules in one test a row: what an accepted nesting gives.
 use Prim.Native.Nat.{ℕ, suc, _-_}
-use mathlib.Core.Bool.{Bool, true, false, _&&_, _||_}
+use mathlib.Core.Bool.{Bool, true, _&&_, _||_}
 use mathlib.Core.List.{List}
 use lib.Dec.{ltb, eqb}
 use Rattle.effbd.specs.Ranges.{allBelow}

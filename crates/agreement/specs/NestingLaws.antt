@@ -1,14 +1,14 @@
 -- The laws of an accepted diagram's structure, from the rule that accepts it.
-use Prim.Native.Nat.{ℕ, zero, suc, _+_, _-_, _≤_, _<_, zero-le}
+use Prim.Native.Nat.{ℕ, zero, suc, _+_, _-_, _≤_, _<_}
 use mathlib.Core.Path.{_≡_, refl, sym, _∙_, ap, subst}
 use mathlib.Core.Logic.{_≢_, _⊎_, inl, inr}
-use mathlib.Core.Bool.{Bool, true, false, not, cond, _&&_, _||_}
+use mathlib.Core.Bool.{Bool, true, false, _&&_, _||_}
 use mathlib.Core.List.{List, [], _∷_}
 use native.Mathlib.Omega.{arith}
 use native.Mathlib.Nat.{add-zero, add-suc}
 use lib.Dec.{leb, ltb, eqb}
-use borrow.Author.Tests.{ltb-true, ltb-false, leb-true, leb-false, eqb-true, eqb-false, lt-ltb, le-ltb, le-leb, lt-leb, eq-eqb, ne-eqb}
-use Rattle.effbd.specs.Diagrams.{Diagram, Kind, and-close, and-open, branch, end, function, isKind, it-close, it-open, kind, loop-exit, lp-close, lp-open, or-close, or-open, row, rowCount, sameKind}
+use borrow.Author.Tests.{ltb-true, leb-true, leb-false, eqb-true, le-leb, eq-eqb, ne-eqb}
+use Rattle.effbd.specs.Diagrams.{Diagram, Kind, and-close, and-open, branch, end, function, isKind, it-close, it-open, kind, loop-exit, lp-close, lp-open, or-close, or-open, rowCount, sameKind}
 use Rattle.effbd.specs.Nesting.{Frame, branchOf, close, inAndOr, inLoop, innermost, innermostIs, innermostOpen, isClose, latestBranch, loop, noneOpen, owner, passing, pop, push, someOpen, stack, turnTo, twoBranches}
 use Rattle.effbd.specs.Ranges.{allBelow, only}
 use Rattle.effbd.specs.States.{enteredAs, enteredRow}

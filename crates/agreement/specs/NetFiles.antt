@@ -1,13 +1,13 @@
 -- A net file and its table: reading the bytes of a table gives it back; an accepted file is the bytes of its table.
-use Prim.Native.Nat.{ℕ, zero, suc, _+_, _-_, _*_, _/_, _%_, _≤_, _<_}
+use Prim.Native.Nat.{ℕ, zero, suc, _-_, _≤_, _<_}
 use mathlib.Core.Path.{_≡_, refl, sym, _∙_, ap, ap₂, subst}
 use mathlib.Core.Logic.{_≢_}
-use mathlib.Core.Bool.{Bool, true, false, not, cond, _&&_, _||_}
+use mathlib.Core.Bool.{Bool, true, false, cond, _&&_}
 use mathlib.Core.List.{List, [], _∷_, _++_}
 use native.Mathlib.Omega.{arith}
-use lib.ListN.{length, getD, drop, length-append, length-drop}
+use lib.ListN.{length, drop, length-drop}
 use lib.Dec.{leb, ltb, eqb}
-use borrow.Author.Tests.{ltb-true, ltb-false, leb-true, leb-false, eqb-true, eqb-false, lt-ltb, le-ltb, le-leb, lt-leb, eq-eqb, ne-eqb}
+use borrow.Author.Tests.{leb-true, eqb-true, eqb-false, lt-ltb, le-leb, lt-leb, eq-eqb, ne-eqb}
 use Rattle.effbd.specs.Answers.{Outcome, accepted, refused, unless}
 use Rattle.effbd.specs.Nets.{Arc, Net, Tail, Transition, above, afterPlaces, arcAt, arcBytes, arcDue, arcFault, arcFine, markBytes, markFault, netBytes, netHeadFault, netWith, readNet, readTail, transitionAt, transitionBytes, transitionFault, transitionFine, withArc, withTransition, noTail}
 use Rattle.effbd.specs.Records.{entryIn, kindTable, Got, areBytes, faultAt, kindAt, lengthAt, lengthOf, readMany, word, wordBytes}

@@ -1,25 +1,21 @@
 -- Stepping the net of a diagram as its file has it is stepping the net by its patterns.
-use Prim.Native.Nat.{ℕ, zero, suc, _+_, _-_, _*_, _/_, _%_, _≤_, _<_, zero-le}
-use mathlib.Core.Path.{_≡_, refl, sym, _∙_, ap, ap₂, subst}
-use mathlib.Core.Logic.{_≢_}
+use Prim.Native.Nat.{ℕ, zero, suc, _+_, _-_, _<_}
+use mathlib.Core.Path.{_≡_, refl, sym, _∙_, ap, ap₂}
 use mathlib.Core.Bool.{Bool, true, false, not, cond, _&&_, _||_}
 use mathlib.Core.List.{List, [], _∷_, _++_, map, map-map}
 use native.Mathlib.Omega.{arith}
-use native.Mathlib.Nat.{add-zero, zero-add}
-use lib.ListN.{length, getD, drop, length-append, length-map}
+use lib.ListN.{length, getD, length-map}
 use lib.Dec.{leb, ltb, eqb}
-use borrow.Author.Tests.{ltb-true, ltb-false, leb-true, leb-false, eqb-true, eqb-false, lt-ltb, le-ltb, le-leb, lt-leb, eq-eqb, ne-eqb}
 use Rattle.effbd.specs.Answers.{Outcome, accepted, refused}
-use Rattle.effbd.specs.Diagrams.{Diagram, Kind, and-close, and-open, branch, end, function, isKind, it-close, it-open, kind, loop-exit, lp-close, lp-open, or-close, or-open, rowCount, sameKind}
-use Rattle.effbd.specs.Firing.{Behaviour, Effect, NetState, behaviourOf, clearedAt, covers, effectOf, fire, fireLowest, firedState, letsPass, netMove, netWait, noEffect, overflows, takenAndCleared, tickedState, weightAt}
-use Rattle.effbd.specs.Layout.{P, Place, Q, R, byPlace, placeOf, places}
+use Rattle.effbd.specs.Diagrams.{Diagram, rowCount}
+use Rattle.effbd.specs.Firing.{Behaviour, Effect, NetState, behaviourOf, covers, effectOf, fire, fireLowest, firedState, letsPass, netMove, netWait, noEffect, overflows, takenAndCleared, tickedState}
+use Rattle.effbd.specs.Layout.{placeOf, places}
 use Rattle.effbd.specs.Moves.{Move, no-move, step-row, wait-ticks}
-use Rattle.effbd.specs.Nesting.{close, loop, owner}
 use Rattle.effbd.specs.Nets.{Arc}
-use Rattle.effbd.specs.Patterns.{Name, Pattern, arcsOf, names, netOf, noPattern, patterns, patternsAs, transitionOf, patternOf, rangesFrom, freshMark}
-use Rattle.effbd.specs.Ranges.{allBelow, least, only, tabulate, within}
-use Rattle.agreement.specs.AcceptedFiles.{AllOf, Held, all-at}
-use Rattle.agreement.specs.Basics.{clash, decide, eq-same, same-eq, least-ext}
+use Rattle.effbd.specs.Patterns.{Name, arcsOf, names, netOf, transitionOf, patternOf, rangesFrom, freshMark}
+use Rattle.effbd.specs.Ranges.{allBelow, least, only, tabulate}
+use Rattle.agreement.specs.AcceptedFiles.{AllOf}
+use Rattle.agreement.specs.Basics.{least-ext}
 use Rattle.agreement.specs.Named.{behaviour, lift}
 use Rattle.agreement.specs.Numbering.{all-ext, tab-ext, length-tab}
 use Rattle.agreement.specs.Arcs.{cleared-own, weight-append, weight-own, weight-clear, weight-other, cleared-append, cleared-none}

@@ -1,11 +1,10 @@
 -- Where a row stands among the branches of parallel constructs, and the laws of an accepted diagram's structure.
-use Prim.Native.Nat.{ℕ, zero, suc, _+_, _-_, _≤_, _<_, zero-le}
-use mathlib.Core.Path.{_≡_, refl, sym, _∙_, ap, subst}
+use Prim.Native.Nat.{ℕ, suc}
+use mathlib.Core.Path.{_≡_, refl, sym}
 use mathlib.Core.Logic.{_≢_}
-use mathlib.Core.Bool.{Bool, true, false, not, cond, _&&_, _||_}
+use mathlib.Core.Bool.{Bool, true, false, cond, _||_}
 use mathlib.Core.List.{List, [], _∷_}
-use lib.Dec.{leb, ltb, eqb}
-use Rattle.effbd.specs.Diagrams.{Diagram, and-close, and-open, branch, end, isKind, it-open, kind, loop-exit, lp-open, or-open, row}
+use Rattle.effbd.specs.Diagrams.{Diagram, and-close, and-open, branch, end, isKind, it-open, kind, loop-exit, lp-open, or-open}
 use Rattle.effbd.specs.Nesting.{Frame, branchOf, close, inLoop, isClose, loop, owner, stack}
 use Rattle.effbd.specs.Ranges.{only}
 use Rattle.effbd.specs.States.{enteredRow}

@@ -11,7 +11,7 @@ use Rattle.effbd.specs.Diagrams.{Diagram}
 use Rattle.effbd.specs.Nesting.{readDiagram}
 use Rattle.effbd.specs.Layout.{places}
 use Rattle.effbd.specs.States.{freshWords, stateOf, statePasses}
-use Rattle.effbd.specs.Moves.{Move, moveOf, moveWords, stepDiagram}
+use Rattle.effbd.specs.Moves.{Move, moveWords, stepDiagram}
 use Rattle.effbd.specs.Nets.{Net, netBytes, readNet}
 use Rattle.effbd.specs.Firing.{checkedNetMove, stepNet, freshNetWords}
 use Rattle.effbd.specs.Patterns.{netOf}

@@ -1,18 +1,16 @@
 -- Each step of the diagram and of its net agree, kind by kind.
-use Prim.Native.Nat.{ℕ, zero, suc, _+_, _-_, _≤_, _<_, zero-le}
+use Prim.Native.Nat.{ℕ, suc, _<_}
 use mathlib.Core.Path.{_≡_, refl, sym, _∙_, ap, subst}
 use mathlib.Core.Logic.{_≢_}
-use mathlib.Core.Bool.{Bool, true, false, not, cond, _&&_, _||_, and-false}
-use mathlib.Core.List.{List, [], _∷_}
+use mathlib.Core.Bool.{Bool, true, false, not, _&&_, _||_}
+use mathlib.Core.List.{[], _∷_}
 use native.Mathlib.Omega.{arith}
-use native.Mathlib.Nat.{add-zero, zero-add, sub-zero}
-use lib.ListN.{getD}
-use lib.Dec.{leb, ltb, eqb}
-use borrow.Author.Tests.{ltb-true, ltb-false, leb-true, leb-false, eqb-true, eqb-false, lt-ltb, le-ltb, le-leb, lt-leb, eq-eqb, ne-eqb}
-use Rattle.effbd.specs.Diagrams.{Diagram, and-close, and-open, branch, end, isKind, kind, row, rowCount}
+use lib.Dec.{eqb}
+use borrow.Author.Tests.{eqb-true, eqb-false, ne-eqb}
+use Rattle.effbd.specs.Diagrams.{Diagram, and-close, and-open, branch, end, isKind, kind, rowCount, Kind, sameKind, or-close, it-close, lp-close}
 use Rattle.effbd.specs.Image.{readyOrDone}
-use Rattle.effbd.specs.Moves.{allDone, ifReady, step, stepAs}
-use Rattle.effbd.specs.Nesting.{branchOf, owner}
+use Rattle.effbd.specs.Moves.{allDone, ifReady, stepAs}
+use Rattle.effbd.specs.Nesting.{branchOf, owner, close, isClose}
 use Rattle.effbd.specs.Patterns.{atOnce, marksP, nowhere, patternsAs}
 use Rattle.effbd.specs.Ranges.{allBelow, only}
 use Rattle.effbd.specs.States.{State, activate, branchEntries, enteredRow, makeIdle}
@@ -20,8 +18,7 @@ use Rattle.agreement.specs.Basics.{all-elim, all-find, and-left, and-rig
 use Rattle.agreement.specs.Invariant.{Inv, Sound, sound-fits, sound-inv}
 use Rattle.agreement.specs.Matching.{Agree, agree-tokens}
 use Rattle.agreement.specs.Named.{namedImage, namedStepAt}
-use Rattle.agreement.specs.Structure.{Fine, Laws, Par, side}
-use Rattle.agreement.specs.Tokens.{token}
+use Rattle.agreement.specs.Structure.{Fine, Laws, Par, side, opens}
 
 module _ (d : Diagram) where
   pub par-move : (o t x : ℕ) → ((X : ℕ) → side d X t ≡ side d X o) → Par d o x → Par d t x
@@ -38,7 +35,7 @@ module _ (d : Diagram) where
   pub sound-one : (o t : ℕ) (s : State) → Inv d s → s .activity o ≢ 0 → Fine d t → ((X : ℕ) → side d X t ≡ side d X o) → Sound d (only o) (only t) s
   sound-one o t s i a n h = record {
     lands = λ x e. rw (eqb-true x t e) n;
-    clear = λ u x e f activity. rw (eqb-true u t e) (par-move o t x h (i .apart o x a activity (λ z. eqb-false x o f (sym z))));
+    clear = λ u x e f active. rw (eqb-true u t e) (par-move o t x h (i .apart o x a active (λ z. eqb-false x o f (sym z))));
     pair = λ u w e f ne. absurd (ne (eqb-true u t e ∙ sym (eqb-true w t f)));
   }
 
@@ -66,6 +63,19 @@ module _ (d : Diagram) where
       (b, and-left (branchOf d o b) (only t (enteredRow d (suc b))) f, eqb-true (enteredRow d (suc b)) t (and-right (branchOf d o b) (only t (enteredRow d (suc b))) f))
 
   module _ (L : Laws d) where
+    -- the row after the close of a construct stands where its open stands
+    pub after-close : (o X : ℕ) → opens d o ≡ true → side d X (enteredRow d (suc (close d o))) ≡ side d X o
+    after-close o X h = L .seq c X (not-closing and-open refl) (not-closing end refl) ∙ (sym (L .back c X (shut .0)) ∙ ap (side d X) (shut .1))
+      where
+        c : ℕ
+        c = close d o
+
+        shut : (isClose d c ≡ true) × (owner d c ≡ o)
+        shut = L .shut o h
+
+        not-closing : (j : Kind) → (sameKind j and-close || sameKind j or-close || sameKind j it-close || sameKind j lp-close) ≡ false → kind d c ≢ j
+        not-closing j f e = clash (shut .0) (rw e f)
+
     -- AND open
     side-entry : (o b X : ℕ) → branchOf d o b ≡ true → side d X (enteredRow d (suc b)) ≡ side d X b
     side-entry o b X e = L .seq b X (not-kind d b (branch-kind o b e) and-open refl) (not-kind d b (branch-kind o b e) end refl)
@@ -73,9 +83,9 @@ module _ (d : Diagram) where
     sound-and : (r : ℕ) (s : State) → Inv d s → kind d r ≡ and-open → s .activity r ≡ 1 → Sound d (only r) (branchEntries d r) s
     sound-and r s i k a = record {
       lands = λ x e. let w = entries-from r x e in subst (Fine d) (w .2) (L .lands (suc (w .0)));
-      clear = λ t x e f activity.
+      clear = λ t x e f active.
           let w = entries-from r t e in
-          let p = i .apart r x (λ z. absurd (omega arith)) activity (λ z. eqb-false x r f (sym z)) in
+          let p = i .apart r x (λ z. absurd (omega arith)) active (λ z. eqb-false x r f (sym z)) in
           let ne : p .fork ≢ r = λ z. p .left (ap (λ y. side d y r) z ∙ L .self r k) in
           let h : side d (p .fork) t ≡ side d (p .fork) r = ap (side d (p .fork)) (sym (w .2)) ∙ (side-entry r (w .0) (p .fork) (w .1) ∙ L .andIn r (w .0) (p .fork) k (w .1) ne) in
           record { fork = p .fork; left = λ z. p .left (sym h ∙ z); right = p .right; differ = λ z. p .differ (sym h ∙ z) };
@@ -97,7 +107,7 @@ module _ (d : Diagram) where
         → Sound d (branchOf d (owner d r)) (only (enteredRow d (suc r))) s
     sound-close r s i k a = record {
       lands = λ x e. rw (eqb-true x (enteredRow d (suc r)) e) (L .lands (suc r));
-      clear = λ t x e f activity. rw (eqb-true t (enteredRow d (suc r)) e) (free x f activity);
+      clear = λ t x e f active. rw (eqb-true t (enteredRow d (suc r)) e) (free x f active);
       pair = λ u w e f ne. absurd (ne (eqb-true u (enteredRow d (suc r)) e ∙ sym (eqb-true w (enteredRow d (suc r)) f)));
     }
       where
@@ -114,11 +124,11 @@ module _ (d : Diagram) where
         active b e z = let y : s .activity b ≡ 3 = a b e in absurd (omega arith)
 
         meet : (b x : ℕ) → branchOf d o b ≡ true → branchOf d o x ≡ false → s .activity x ≢ 0 → Par d b x
-        meet b x e f activity = i .apart b x (active b e) activity (λ z. clash (subst (λ y. branchOf d o y ≡ true) z e) f)
+        meet b x e f active = i .apart b x (active b e) active (λ z. clash (subst (λ y. branchOf d o y ≡ true) z e) f)
 
         -- x is in no branch of o
         outside : (x : ℕ) → branchOf d o x ≡ false → s .activity x ≢ 0 → side d o x ≢ 0 → ⊥
-        outside x f activity h = decide (eqb (p .fork) o)
+        outside x f active h = decide (eqb (p .fork) o)
             (λ e. let z : p .fork ≡ o = eqb-true (p .fork) o e in
             p .differ (rw z (L .andOwn o b ko (L .sided o x h) .0)))
             (λ e. let z : side d (p .fork) b ≡ side d (p .fork) o = L .andIn o b (p .fork) ko (L .sided o x h) (eqb-false (p .fork) o e) in
@@ -128,17 +138,17 @@ module _ (d : Diagram) where
             b = side d o x
 
             p : Par d b x
-            p = meet b x (L .sided o x h) f activity
+            p = meet b x (L .sided o x h) f active
 
         free : (x : ℕ) → branchOf d o x ≡ false → s .activity x ≢ 0 → Par d (enteredRow d (suc r)) x
-        free x f activity = par-move o (enteredRow d (suc r)) x out
+        free x f active = par-move o (enteredRow d (suc r)) x out
             (record { fork = p .fork; left = λ y. p .left (z ∙ y); right = p .right; differ = λ y. p .differ (z ∙ y) })
           where
             p : Par d (suc o) x
-            p = meet (suc o) x (L .first o ko) f activity
+            p = meet (suc o) x (L .first o ko) f active
 
             ne : p .fork ≢ o
-            ne e = outside x f activity (λ y. p .right (ap (λ X. side d X x) e ∙ y))
+            ne e = outside x f active (λ y. p .right (ap (λ X. side d X x) e ∙ y))
 
             z : side d (p .fork) (suc o) ≡ side d (p .fork) o
             z = L .andIn o (suc o) (p .fork) ko (L .first o ko) ne

@@ -1,14 +1,11 @@
 -- The image of a step that moves tokens: rows S lose theirs, rows E get one. And which transitions are enabled at an image.
-use Prim.Native.Nat.{ℕ, zero, suc, _+_, _-_, _≤_, _<_, zero-le}
-use mathlib.Core.Path.{_≡_, refl, sym, _∙_, ap, ap₂, subst, fun-ext}
-use mathlib.Core.Logic.{_≢_, _⊎_, inl, inr}
-use mathlib.Core.Bool.{Bool, true, false, not, cond, _&&_, _||_, true≢false, and-false}
-use mathlib.Core.List.{List, [], _∷_}
+use Prim.Native.Nat.{ℕ, _+_, _-_, _≤_, _<_}
+use mathlib.Core.Path.{_≡_}
+use mathlib.Core.Bool.{Bool, true, false, cond, _&&_}
 use native.Mathlib.Omega.{arith}
-use native.Mathlib.Nat.{add-zero, zero-add, sub-zero}
-use lib.ListN.{length, getD}
-use lib.Dec.{leb, ltb, eqb}
-use borrow.Author.Tests.{ltb-true, ltb-false, leb-true, leb-false, eqb-true, eqb-false, lt-ltb, le-ltb, le-leb, lt-leb, eq-eqb, ne-eqb}
+use native.Mathlib.Nat.{add-zero, sub-zero}
+use lib.Dec.{leb, eqb}
+use borrow.Author.Tests.{leb-true, eqb-true, le-leb}
 use Rattle.effbd.specs.Diagrams.{Diagram, branch, countTotal, isKind, it-open, rowCount}
 use Rattle.effbd.specs.Image.{imageMark, readyOrDone, running}
 use Rattle.effbd.specs.Layout.{Count, P, Place, Q, R}
@@ -16,7 +13,7 @@ use Rattle.effbd.specs.Patterns.{Pattern, marksP}
 use Rattle.effbd.specs.Ranges.{allBelow}
 use Rattle.effbd.specs.States.{State, activate, makeIdle}
 use Rattle.agreement.specs.Basics.{all-elim, all-intro, and-intro, and-left, and-right, decide}
-use Rattle.agreement.specs.Named.{after, allPlaces, enabled}
+use Rattle.agreement.specs.Named.{allPlaces, enabled}
 
 module _ (d : Diagram) where
   abbrev pub Real : Place → Type 0

@@ -2,13 +2,13 @@
 use Prim.Native.Nat.{ℕ, zero, suc, _+_, _-_, _≤_, _<_, zero-le}
 use mathlib.Core.Path.{_≡_, refl, sym, _∙_, ap, subst, fun-ext}
 use mathlib.Core.Logic.{_≢_}
-use mathlib.Core.Bool.{Bool, true, false, not, cond, _&&_, _||_, and-false, and-true}
+use mathlib.Core.Bool.{Bool, true, false, not, cond, _&&_, _||_, and-false}
 use mathlib.Core.List.{List, [], _∷_}
 use native.Mathlib.Omega.{arith}
-use native.Mathlib.Nat.{add-zero, add-suc, suc-add, zero-add, sub-zero}
+use native.Mathlib.Nat.{add-zero, add-suc, suc-add}
 use lib.ListN.{getD, length}
 use lib.Dec.{leb, ltb, eqb}
-use borrow.Author.Tests.{ltb-true, ltb-false, leb-true, leb-false, eqb-true, eqb-false, lt-ltb, le-ltb, le-leb, lt-leb, eq-eqb, ne-eqb}
+use borrow.Author.Tests.{ltb-true, ltb-false, leb-true, eqb-true, eqb-false, lt-ltb, le-leb, ne-eqb}
 use Rattle.effbd.specs.Diagrams.{Diagram, Kind, and-close, and-open, branch, countTotal, end, function, gives, isKind, it-close, it-open, kind, loop-exit, lp-close, lp-open, or-close, or-open, row, rowCount, sameKind, takes}
 use Rattle.effbd.specs.Image.{imageMark, readyOrDone, running}
 use Rattle.effbd.specs.Layout.{Count, P, Place, Q, R, byPlace}
@@ -18,7 +18,7 @@ use Rattle.effbd.specs.Patterns.{Pattern, atOnce, entryRow, marksP, noPattern, 
 use Rattle.effbd.specs.Ranges.{allBelow, only}
 use Rattle.effbd.specs.States.{State, setRunning}
 use Rattle.agreement.specs.Basics.{all-elim, all-fail, all-find, all-intro, and-intro, and-left, and-right, clash, cond-same, decide, kind-in, not-false, not-kind, not-true, only-refl, or-left, or-right, or-split, same-eq}
-use Rattle.agreement.specs.Invariant.{Inv, with}
+use Rattle.agreement.specs.Invariant.{Inv}
 use Rattle.agreement.specs.Matching.{Agree, Valid, second-enabled}
 use Rattle.agreement.specs.Named.{NamedState, enabled, namedImage, namedLets, namedTick, namedWait}
 use Rattle.agreement.specs.Structure.{Laws}

@@ -1,26 +1,22 @@
 -- The table of an accepted diagram's net is well-formed.
-use Prim.Native.Nat.{ℕ, zero, suc, _+_, _-_, _*_, _/_, _%_, _≤_, _<_, zero-le}
-use mathlib.Core.Path.{_≡_, refl, sym, _∙_, ap, ap₂, subst}
-use mathlib.Core.Logic.{_≢_}
-use mathlib.Core.Bool.{Bool, true, false, not, cond, _&&_, _||_}
+use Prim.Native.Nat.{ℕ, zero, suc, _*_, _≤_, _<_, zero-le}
+use mathlib.Core.Path.{_≡_, refl, sym, _∙_, ap, subst}
+use mathlib.Core.Bool.{Bool, true, false, cond, _&&_}
 use mathlib.Core.List.{List, [], _∷_, _++_, map, append-assoc}
 use native.Mathlib.Omega.{arith}
-use lib.ListN.{length, getD, drop, length-append, length-map}
+use lib.ListN.{length, getD, length-append, length-map}
 use lib.Dec.{leb, ltb, eqb}
-use borrow.Author.Tests.{ltb-true, ltb-false, leb-true, leb-false, eqb-true, eqb-false, lt-ltb, le-ltb, le-leb, lt-leb, eq-eqb, ne-eqb}
-use Rattle.effbd.specs.Answers.{accepted}
+use borrow.Author.Tests.{leb-true, lt-ltb, le-leb}
 use Rattle.effbd.specs.Diagrams.{Diagram, Kind, Use, and-close, and-open, branch, countTotal, end, function, giveOf, gives, isKind, it-close, it-open, kind, loop-exit, lp-close, lp-open, or-close, or-open, row, rowCount, rowFine, rowFineAs, takeOf, takes}
 use Rattle.effbd.specs.Layout.{Count, P, Place, Q, R, byPlace, placeOf, places}
 use Rattle.effbd.specs.Nesting.{branchOf, close, inLoop, loop, owner}
-use Rattle.effbd.specs.Nets.{Arc, Transition, above, arcDue, arcFine, transitionFine}
+use Rattle.effbd.specs.Nets.{Arc, Transition, transitionFine}
 use Rattle.effbd.specs.Patterns.{Name, Pattern, arcsOf, atOnce, entryRow, names, netOf, noPattern, none, nowhere, oneAt, patterns, patternsAs, transitionOf, patternOf, freshMark, rangesFrom}
 use Rattle.effbd.specs.Ranges.{only, tabulate}
 use Rattle.effbd.specs.States.{branchEntries}
 use Rattle.agreement.specs.AcceptedFiles.{AllOf, Held, all-at}
-use Rattle.agreement.specs.Basics.{and-intro, and-left, and-right, clash, decide, kind-in, same-eq}
-use Rattle.agreement.specs.Formed.{arcsFine, fitsWord, marksFine, transitionsFine, wellFormed}
-use Rattle.agreement.specs.Named.{flatNet, lift, namedFresh}
-use Rattle.agreement.specs.NestingLaws.{laws}
+use Rattle.agreement.specs.Basics.{and-intro, and-left, and-right, decide}
+use Rattle.agreement.specs.Formed.{arcsFine, marksFine, transitionsFine, wellFormed}
 use Rattle.agreement.specs.Numbering.{length-tab}
 use Rattle.agreement.specs.Arcs.{arcs-made, later, ranges-made}
 use Rattle.agreement.specs.NetSteps.{many-marks}

@@ -1,11 +1,10 @@
 -- Document 01, "Plant-room examples", A: what the annex program prints of a diagram. Assumes nothing.
 use Prim.Native.Nat.{ℕ, zero, suc, _+_, _/_, _%_}
-use mathlib.Core.Bool.{Bool, true, false, cond}
+use mathlib.Core.Bool.{cond}
 use mathlib.Core.List.{List, [], _∷_, _++_}
 use lib.ListN.{length}
 use lib.Dec.{leb, ltb, eqb}
 use Rattle.effbd.specs.Answers.{Outcome, accepted, refused, andThen}
-use Rattle.effbd.specs.Diagrams.{Diagram}
 use Rattle.effbd.specs.Nesting.{readDiagram}
 use Rattle.effbd.specs.Nets.{Arc, takeArc, clearArc, Transition, Net, netBytes}
 use Rattle.effbd.specs.Patterns.{netOf}

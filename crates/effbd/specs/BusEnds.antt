@@ -1,7 +1,7 @@
 -- Document 01, "Bus ends": telegrams, the leader's call (refusals 27, 10), the follower's call (30 to 33). Assumes nothing.
 use Prim.Native.Nat.{ℕ, suc, _+_, _*_, _/_, _%_}
 use mathlib.Core.Bool.{Bool, cond, _&&_}
-use mathlib.Core.List.{List, [], _∷_, _++_}
+use mathlib.Core.List.{List, _++_}
 use lib.ListN.{length, drop}
 use lib.Dec.{leb, ltb, eqb}
 use Rattle.effbd.specs.Answers.{Outcome, accepted, refused, unless}

@@ -7,7 +7,7 @@ use lib.Dec.{leb, ltb, eqb}
 use Rattle.effbd.specs.Ranges.{least, only, within}
 use Rattle.effbd.specs.Answers.{Outcome, accepted, refused, unless, andThen}
 use Rattle.effbd.specs.Records.{word, lengthAt, Got, readMany}
-use Rattle.effbd.specs.Diagrams.{Kind, function, and-open, branch, and-close, or-open, or-close, it-open, it-close, lp-open, lp-close, loop-exit, end, Row, Diagram, rowCount, row, kind, isKind, headFault, itemFault, itemAt, rowAt, rowFault}
+use Rattle.effbd.specs.Diagrams.{Kind, function, and-open, branch, and-close, or-open, or-close, it-open, it-close, lp-open, lp-close, loop-exit, end, Row, Diagram, rowCount, kind, isKind, headFault, itemFault, itemAt, rowAt, rowFault}
 
 -- a construct that is open: its open row, and its latest BRANCH (at first the row after the open, which must be one)
 pub record Frame : Type 0 where

@@ -1,5 +1,5 @@
 -- Document 01, "Diagram state and moves": the state, entering a row, the fresh state, the check of a state (refusal 20). Assumes nothing.
-use Prim.Native.Nat.{ℕ, zero, suc, _+_, _*_}
+use Prim.Native.Nat.{ℕ, suc, _+_, _*_}
 use mathlib.Core.Bool.{Bool, true, false, not, cond, _&&_, _||_}
 use mathlib.Core.List.{List}
 use lib.ListN.{getD}

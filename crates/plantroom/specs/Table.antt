@@ -1,8 +1,8 @@
 -- Document 01, "Plant-room examples": A to I as one table, and the test that is computed over it. Assumes nothing.
-use Prim.Native.Nat.{ℕ, zero, suc}
+use Prim.Native.Nat.{ℕ}
 use mathlib.Core.Bool.{Bool, true, false, _&&_}
 use mathlib.Core.List.{List, [], _∷_, _++_}
-use lib.ListN.{length, getD}
+use lib.ListN.{length}
 use lib.Dec.{eqb}
 use Rattle.effbd.specs.Answers.{Outcome, accepted, refused, afterwards}
 use Rattle.effbd.specs.Records.{wordBytes}
@@ -10,7 +10,7 @@ use Rattle.effbd.specs.Diagrams.{Diagram}
 use Rattle.effbd.specs.Nesting.{readDiagram}
 use Rattle.effbd.specs.States.{freshWords}
 use Rattle.effbd.specs.Moves.{stepDiagram}
-use Rattle.effbd.specs.Nets.{Net, netBytes, readNet}
+use Rattle.effbd.specs.Nets.{netBytes}
 use Rattle.effbd.specs.Firing.{freshNetWords, stepNet}
 use Rattle.effbd.specs.Patterns.{netOf}
 use Rattle.effbd.specs.Annex.{annexText}
