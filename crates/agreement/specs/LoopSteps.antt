@@ -1,15 +1,15 @@
 -- IT open and LE.
 use Prim.Native.Nat.{ℕ, suc, _+_, _-_, _≤_, _<_, zero-le}
-use mathlib.Core.Path.{_≡_, refl, sym, _∙_, ap, subst}
+use mathlib.Core.Path.{_≡_, refl, sym, _∙_, subst}
 use mathlib.Core.Logic.{_≢_}
-use mathlib.Core.Bool.{Bool, true, false, cond, _&&_, _||_, and-false}
+use mathlib.Core.Bool.{Bool, true, false, cond, _&&_, and-false}
 use mathlib.Core.List.{[], _∷_}
 use native.Mathlib.Omega.{arith}
 use native.Mathlib.Nat.{add-zero, sub-zero}
 use lib.Dec.{leb, ltb, eqb}
 use borrow.Author.Tests.{ltb-true, ltb-false, eqb-true, eqb-false}
 use Rattle.effbd.specs.Answers.{accepted, refused}
-use Rattle.effbd.specs.Diagrams.{Diagram, Kind, and-close, and-open, branch, end, function, isKind, it-close, it-open, kind, loop-exit, lp-close, or-close, row, rowCount, sameKind}
+use Rattle.effbd.specs.Diagrams.{Diagram, and-open, branch, end, function, isKind, it-open, kind, loop-exit, row, rowCount}
 use Rattle.effbd.specs.Image.{imageMark, readyOrDone, running}
 use Rattle.effbd.specs.Layout.{Count, P, Place, Q, R, byPlace}
 use Rattle.effbd.specs.Moves.{stepAs}

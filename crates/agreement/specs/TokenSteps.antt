@@ -35,7 +35,7 @@ module _ (d : Diagram) where
   pub sound-one : (o t : ℕ) (s : State) → Inv d s → s .activity o ≢ 0 → Fine d t → ((X : ℕ) → side d X t ≡ side d X o) → Sound d (only o) (only t) s
   sound-one o t s i a n h = record {
     lands = λ x e. rw (eqb-true x t e) n;
-    clear = λ u x e f active. rw (eqb-true u t e) (par-move o t x h (i .apart o x a active (λ z. eqb-false x o f (sym z))));
+    clear = λ u x e f busy. rw (eqb-true u t e) (par-move o t x h (i .apart o x a busy (λ z. eqb-false x o f (sym z))));
     pair = λ u w e f ne. absurd (ne (eqb-true u t e ∙ sym (eqb-true w t f)));
   }
 
@@ -83,9 +83,9 @@ module _ (d : Diagram) where
     sound-and : (r : ℕ) (s : State) → Inv d s → kind d r ≡ and-open → s .activity r ≡ 1 → Sound d (only r) (branchEntries d r) s
     sound-and r s i k a = record {
       lands = λ x e. let w = entries-from r x e in subst (Fine d) (w .2) (L .lands (suc (w .0)));
-      clear = λ t x e f active.
+      clear = λ t x e f busy.
           let w = entries-from r t e in
-          let p = i .apart r x (λ z. absurd (omega arith)) active (λ z. eqb-false x r f (sym z)) in
+          let p = i .apart r x (λ z. absurd (omega arith)) busy (λ z. eqb-false x r f (sym z)) in
           let ne : p .fork ≢ r = λ z. p .left (ap (λ y. side d y r) z ∙ L .self r k) in
           let h : side d (p .fork) t ≡ side d (p .fork) r = ap (side d (p .fork)) (sym (w .2)) ∙ (side-entry r (w .0) (p .fork) (w .1) ∙ L .andIn r (w .0) (p .fork) k (w .1) ne) in
           record { fork = p .fork; left = λ z. p .left (sym h ∙ z); right = p .right; differ = λ z. p .differ (sym h ∙ z) };
@@ -107,7 +107,7 @@ module _ (d : Diagram) where
         → Sound d (branchOf d (owner d r)) (only (enteredRow d (suc r))) s
     sound-close r s i k a = record {
       lands = λ x e. rw (eqb-true x (enteredRow d (suc r)) e) (L .lands (suc r));
-      clear = λ t x e f active. rw (eqb-true t (enteredRow d (suc r)) e) (free x f active);
+      clear = λ t x e f busy. rw (eqb-true t (enteredRow d (suc r)) e) (free x f busy);
       pair = λ u w e f ne. absurd (ne (eqb-true u (enteredRow d (suc r)) e ∙ sym (eqb-true w (enteredRow d (suc r)) f)));
     }
       where
@@ -124,11 +124,11 @@ module _ (d : Diagram) where
         active b e z = let y : s .activity b ≡ 3 = a b e in absurd (omega arith)
 
         meet : (b x : ℕ) → branchOf d o b ≡ true → branchOf d o x ≡ false → s .activity x ≢ 0 → Par d b x
-        meet b x e f active = i .apart b x (active b e) active (λ z. clash (subst (λ y. branchOf d o y ≡ true) z e) f)
+        meet b x e f busy = i .apart b x (active b e) busy (λ z. clash (subst (λ y. branchOf d o y ≡ true) z e) f)
 
         -- x is in no branch of o
         outside : (x : ℕ) → branchOf d o x ≡ false → s .activity x ≢ 0 → side d o x ≢ 0 → ⊥
-        outside x f active h = decide (eqb (p .fork) o)
+        outside x f busy h = decide (eqb (p .fork) o)
             (λ e. let z : p .fork ≡ o = eqb-true (p .fork) o e in
             p .differ (rw z (L .andOwn o b ko (L .sided o x h) .0)))
             (λ e. let z : side d (p .fork) b ≡ side d (p .fork) o = L .andIn o b (p .fork) ko (L .sided o x h) (eqb-false (p .fork) o e) in
@@ -138,17 +138,17 @@ module _ (d : Diagram) where
             b = side d o x
 
             p : Par d b x
-            p = meet b x (L .sided o x h) f active
+            p = meet b x (L .sided o x h) f busy
 
         free : (x : ℕ) → branchOf d o x ≡ false → s .activity x ≢ 0 → Par d (enteredRow d (suc r)) x
-        free x f active = par-move o (enteredRow d (suc r)) x out
+        free x f busy = par-move o (enteredRow d (suc r)) x out
             (record { fork = p .fork; left = λ y. p .left (z ∙ y); right = p .right; differ = λ y. p .differ (z ∙ y) })
           where
             p : Par d (suc o) x
-            p = meet (suc o) x (L .first o ko) f active
+            p = meet (suc o) x (L .first o ko) f busy
 
             ne : p .fork ≢ o
-            ne e = outside x f active (λ y. p .right (ap (λ X. side d X x) e ∙ y))
+            ne e = outside x f busy (λ y. p .right (ap (λ X. side d X x) e ∙ y))
 
             z : side d (p .fork) (suc o) ≡ side d (p .fork) o
             z = L .andIn o (suc o) (p .fork) ko (L .first o ko) ne
