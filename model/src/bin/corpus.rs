@@ -1,0 +1,46 @@
+//! Writes generated diagram files and the annex text that is expected of them:
+//! `corpus SEED COUNT DIRECTORY`.
+
+use model::annex::annex;
+use model::generate::{damaged_diagram, diagram, Random};
+use std::path::Path;
+use std::process::ExitCode;
+use std::{env, fs, io};
+
+fn main() -> ExitCode {
+    let arguments: Vec<String> = env::args().skip(1).collect();
+    let [seed, count, directory] = arguments.as_slice() else {
+        return usage();
+    };
+    let (Ok(seed), Ok(count)) = (seed.parse(), count.parse()) else {
+        return usage();
+    };
+    match write_corpus(seed, count, Path::new(directory)) {
+        Ok(()) => ExitCode::SUCCESS,
+        Err(error) => {
+            eprintln!("{error}");
+            ExitCode::FAILURE
+        }
+    }
+}
+
+fn usage() -> ExitCode {
+    eprintln!("corpus SEED COUNT DIRECTORY");
+    ExitCode::FAILURE
+}
+
+/// One half accepted, one half damaged.
+fn write_corpus(seed: u64, count: u32, directory: &Path) -> io::Result<()> {
+    fs::create_dir_all(directory)?;
+    let mut random = Random::new(seed);
+    for number in 0..count {
+        let file = if random.chance(50) {
+            diagram(&mut random)
+        } else {
+            damaged_diagram(&mut random)
+        };
+        fs::write(directory.join(format!("{number:05}.dia")), &file)?;
+        fs::write(directory.join(format!("{number:05}.txt")), annex(&file))?;
+    }
+    Ok(())
+}

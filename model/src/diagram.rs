@@ -1,0 +1,358 @@
+//! Diagram files: "Diagram records" (refusals 1 to 6) and "Nesting" (7 to 9).
+
+use crate::records::{
+    push_record, record, word, Reader, Record, AND_CLOSE, AND_OPEN, BRANCH, END, FUNCTION, HEAD,
+    ITEM, IT_CLOSE, IT_OPEN, LOOP_EXIT, LP_CLOSE, LP_OPEN, OR_CLOSE, OR_OPEN, USE_LENGTH,
+};
+use crate::refusal::{
+    refusal, Answer, Refusal, FIELD_OFF, HEAD_VALUE_OFF, LOOP_EXIT_MISPLACED, NESTING_BROKEN,
+    TOO_MANY_OPEN,
+};
+
+pub const EDITION: u16 = 1;
+pub const MOST_ROWS: usize = 64;
+pub const MOST_ITEMS: usize = 16;
+/// "At most 12 open together."
+pub const MOST_OPEN: usize = 12;
+
+/// An accepted diagram.
+pub struct Diagram<'a> {
+    /// Initial count of each item.
+    pub items: Vec<u16>,
+    pub rows: Vec<Row<'a>>,
+    /// Every AND, OR, IT and LP, in the order of their opens.
+    pub constructs: Vec<Construct>,
+}
+
+/// A row, with the index of the construct that it opens, parts or closes.
+#[derive(Clone, Copy, Debug)]
+pub enum Row<'a> {
+    Function(Function<'a>),
+    AndOpen(usize),
+    AndBranch(usize),
+    AndClose(usize),
+    OrOpen(usize),
+    OrBranch(usize),
+    OrClose(usize),
+    ItOpen {
+        construct: usize,
+        count: u16,
+    },
+    ItClose(usize),
+    LpOpen(usize),
+    LpClose(usize),
+    /// LE, with its loop: "the innermost open LP".
+    LoopExit(usize),
+    End,
+}
+
+/// A FUNCTION's fields.
+#[derive(Clone, Copy, Debug)]
+pub struct Function<'a> {
+    pub alpha: u16,
+    pub beta: u16,
+    /// The uses, the very bytes of the file.
+    pub uses: &'a [u8],
+}
+
+/// One use of a FUNCTION.
+#[derive(Clone, Copy, Debug)]
+pub struct Use {
+    pub item: usize,
+    pub take: u16,
+    pub give: u16,
+}
+
+impl Function<'_> {
+    /// The uses, by rising item.
+    pub fn each_use(&self) -> impl Iterator<Item = Use> + '_ {
+        self.uses.chunks_exact(USE_LENGTH).map(|bytes| Use {
+            item: usize::from(word(bytes, 0)),
+            take: word(bytes, 1),
+            give: word(bytes, 2),
+        })
+    }
+}
+
+/// An AND, OR, IT or LP, by its rows.
+#[derive(Clone, Debug)]
+pub struct Construct {
+    /// Kind of its open.
+    pub kind: u16,
+    pub open: usize,
+    pub close: usize,
+    /// BRANCH rows of an AND or OR.
+    pub branches: Vec<usize>,
+}
+
+impl Construct {
+    fn has_branches(&self) -> bool {
+        self.kind == AND_OPEN || self.kind == OR_OPEN
+    }
+
+    fn close_kind(&self) -> u16 {
+        match self.kind {
+            AND_OPEN => AND_CLOSE,
+            OR_OPEN => OR_CLOSE,
+            IT_OPEN => IT_CLOSE,
+            _ => LP_CLOSE,
+        }
+    }
+}
+
+impl Diagram<'_> {
+    /// Words of its state: activity, turns and clock per row, then the counts.
+    pub fn state_length(&self) -> usize {
+        3 * self.rows.len() + self.items.len()
+    }
+
+    /// Word of an item's count in the state; also its place in the net.
+    pub fn item_word(&self, item: usize) -> usize {
+        3 * self.rows.len() + item
+    }
+
+    /// "The row that entering s changes": the BRANCH row of the branch just
+    /// ended for a BRANCH or close of an AND, the OR close for a BRANCH or
+    /// close of an OR, otherwise s. (The first BRANCH of an AND is never
+    /// entered.)
+    pub fn entered_row(&self, row: usize) -> usize {
+        match self.rows[row] {
+            Row::AndBranch(construct) | Row::AndClose(construct) => {
+                let branches = &self.constructs[construct].branches;
+                let ended = branches.iter().rev().find(|branch| **branch < row);
+                ended.copied().unwrap_or(row)
+            }
+            Row::OrBranch(construct) | Row::OrClose(construct) => self.constructs[construct].close,
+            _ => row,
+        }
+    }
+}
+
+/// Reads a diagram file; accepted: words of its state.
+pub fn read(file: &[u8]) -> Answer {
+    let diagram = parse(file)?;
+    Ok(diagram.state_length() as u32)
+}
+
+/// "The uses of one FUNCTION row are handed back as the very bytes of the
+/// caller's file; for a refused file or another row, an empty part at the
+/// file's start."
+pub fn uses(file: &[u8], row: u16) -> &[u8] {
+    let nothing = &file[..0];
+    match parse(file) {
+        Ok(diagram) => match diagram.rows.get(usize::from(row)) {
+            Some(Row::Function(function)) => function.uses,
+            _ => nothing,
+        },
+        Err(_) => nothing,
+    }
+}
+
+/// Head, items, rows, nothing behind them; then the nesting of the rows.
+pub fn parse(file: &[u8]) -> Result<Diagram<'_>, Refusal> {
+    let mut reader = Reader::new(file);
+    let head = reader.due(|kind| kind == HEAD, 0)?;
+    let (row_count, item_count) = (usize::from(head.field(1)), usize::from(head.field(2)));
+    head.require(
+        head.field(0) == EDITION
+            && (1..=MOST_ROWS).contains(&row_count)
+            && item_count <= MOST_ITEMS,
+        HEAD_VALUE_OFF,
+    )?;
+    let mut items = Vec::with_capacity(item_count);
+    for _ in 0..item_count {
+        items.push(reader.due(|kind| kind == ITEM, 0)?.field(0));
+    }
+    let mut records = Vec::with_capacity(row_count);
+    for _ in 0..row_count {
+        records.push(row_record(&mut reader, item_count)?);
+    }
+    if !reader.at_end() {
+        return Err(reader.refuse_more());
+    }
+    let (rows, constructs) = nest(&records)?;
+    Ok(Diagram {
+        items,
+        rows,
+        constructs,
+    })
+}
+
+/// A row's record with its fields checked.
+fn row_record<'a>(reader: &mut Reader<'a>, item_count: usize) -> Result<Record<'a>, Refusal> {
+    let record = reader.due(|kind| (FUNCTION..=END).contains(&kind), item_count)?;
+    let holds = match record.kind {
+        FUNCTION => function_holds(&function_fields(&record), item_count),
+        IT_OPEN => (2..=255).contains(&record.field(0)),
+        _ => true,
+    };
+    record.require(holds, FIELD_OFF)?;
+    Ok(record)
+}
+
+fn function_fields<'a>(record: &Record<'a>) -> Function<'a> {
+    Function {
+        alpha: record.field(0),
+        beta: record.field(1),
+        uses: record.fields.get(4..).unwrap_or_default(),
+    }
+}
+
+/// "α ≤ β, item numbers below M and rising, take and give not both 0."
+fn function_holds(function: &Function, item_count: usize) -> bool {
+    let mut lowest_item = 0;
+    for used in function.each_use() {
+        if used.item < lowest_item || used.item >= item_count || (used.take, used.give) == (0, 0) {
+            return false;
+        }
+        lowest_item = used.item + 1;
+    }
+    function.alpha <= function.beta
+}
+
+/// Rows and constructs; "rows upward, at a row 7, 8, 9".
+fn nest<'a>(records: &[Record<'a>]) -> Result<(Vec<Row<'a>>, Vec<Construct>), Refusal> {
+    let mut nesting = Nesting {
+        open: Vec::with_capacity(MOST_OPEN),
+        constructs: Vec::new(),
+    };
+    let mut rows = Vec::with_capacity(records.len());
+    for (number, record) in records.iter().enumerate() {
+        let next_kind = records.get(number + 1).map(|next| next.kind);
+        rows.push(nesting.row(number, record, next_kind)?);
+    }
+    Ok((rows, nesting.constructs))
+}
+
+/// The constructs met so far; `open` has the indices of those still open, the
+/// innermost last.
+struct Nesting {
+    open: Vec<usize>,
+    constructs: Vec<Construct>,
+}
+
+impl Nesting {
+    /// The next row, if it may follow the rows before it.
+    fn row<'a>(
+        &mut self,
+        number: usize,
+        record: &Record<'a>,
+        next_kind: Option<u16>,
+    ) -> Result<Row<'a>, Refusal> {
+        let broken = refusal(NESTING_BROKEN, number);
+        // "END is the last row only"; "a last row other than END".
+        if (record.kind == END) != next_kind.is_none() {
+            return Err(broken);
+        }
+        // "AND open and OR open are followed by BRANCH at once."
+        if self.awaits_branch() && record.kind != BRANCH {
+            return Err(broken);
+        }
+        Ok(match record.kind {
+            FUNCTION => Row::Function(function_fields(record)),
+            AND_OPEN => Row::AndOpen(self.open(number, AND_OPEN)?),
+            OR_OPEN => Row::OrOpen(self.open(number, OR_OPEN)?),
+            IT_OPEN => Row::ItOpen {
+                construct: self.open(number, IT_OPEN)?,
+                count: record.field(0),
+            },
+            LP_OPEN => Row::LpOpen(self.open(number, LP_OPEN)?),
+            BRANCH => self.branch(number).ok_or(broken)?,
+            AND_CLOSE => Row::AndClose(self.close(number, AND_CLOSE).ok_or(broken)?),
+            OR_CLOSE => Row::OrClose(self.close(number, OR_CLOSE).ok_or(broken)?),
+            IT_CLOSE => Row::ItClose(self.close(number, IT_CLOSE).ok_or(broken)?),
+            LP_CLOSE => Row::LpClose(self.close(number, LP_CLOSE).ok_or(broken)?),
+            LOOP_EXIT => {
+                let misplaced = refusal(LOOP_EXIT_MISPLACED, number);
+                Row::LoopExit(self.loop_exit(next_kind).ok_or(misplaced)?)
+            }
+            // END, the one kind left: "with nothing open".
+            _ if self.open.is_empty() => Row::End,
+            _ => return Err(broken),
+        })
+    }
+
+    fn innermost(&self) -> Option<&Construct> {
+        self.open.last().map(|index| &self.constructs[*index])
+    }
+
+    fn awaits_branch(&self) -> bool {
+        self.innermost()
+            .is_some_and(|inner| inner.has_branches() && inner.branches.is_empty())
+    }
+
+    /// Opens a construct, unless 12 are open.
+    fn open(&mut self, row: usize, kind: u16) -> Result<usize, Refusal> {
+        if self.open.len() == MOST_OPEN {
+            return Err(refusal(TOO_MANY_OPEN, row));
+        }
+        let index = self.constructs.len();
+        self.open.push(index);
+        self.constructs.push(Construct {
+            kind,
+            open: row,
+            close: row,
+            branches: Vec::new(),
+        });
+        Ok(index)
+    }
+
+    /// "A BRANCH needs an innermost open AND or OR."
+    fn branch<'a>(&mut self, row: usize) -> Option<Row<'a>> {
+        let index = *self.open.last()?;
+        let construct = &mut self.constructs[index];
+        let branch = match construct.kind {
+            AND_OPEN => Row::AndBranch(index),
+            OR_OPEN => Row::OrBranch(index),
+            _ => return None,
+        };
+        construct.branches.push(row);
+        Some(branch)
+    }
+
+    /// "A close needs its own kind innermost"; an AND or OR "has two BRANCH
+    /// rows or more".
+    fn close(&mut self, row: usize, kind: u16) -> Option<usize> {
+        let index = *self.open.last()?;
+        let construct = &mut self.constructs[index];
+        if construct.close_kind() != kind {
+            return None;
+        }
+        if construct.has_branches() && construct.branches.len() < 2 {
+            return None;
+        }
+        construct.close = row;
+        self.open.pop();
+        Some(index)
+    }
+
+    /// "An LE needs an innermost open AND or OR, some open LP, and a BRANCH or
+    /// that construct's close as next row." Its loop, if it has all this.
+    fn loop_exit(&self, next_kind: Option<u16>) -> Option<usize> {
+        let innermost = self.innermost()?;
+        let next_fits = next_kind == Some(BRANCH) || next_kind == Some(innermost.close_kind());
+        if !innermost.has_branches() || !next_fits {
+            return None;
+        }
+        let is_loop = |index: &&usize| self.constructs[**index].kind == LP_OPEN;
+        self.open.iter().rev().find(is_loop).copied()
+    }
+}
+
+/// A diagram file of these initial counts and row records.
+pub fn file(items: &[u16], rows: &[Vec<u8>]) -> Vec<u8> {
+    let head_fields = [EDITION, rows.len() as u16, items.len() as u16];
+    let mut bytes = record(HEAD, &head_fields);
+    for count in items {
+        push_record(&mut bytes, ITEM, &[*count]);
+    }
+    bytes.extend(rows.iter().flatten());
+    bytes
+}
+
+/// A FUNCTION record; each use is item, take, give.
+pub fn function_record(alpha: u16, beta: u16, uses: &[[u16; 3]]) -> Vec<u8> {
+    let mut fields = vec![alpha, beta];
+    fields.extend(uses.iter().flatten());
+    record(FUNCTION, &fields)
+}

@@ -1,0 +1,286 @@
+//! Diagram files, accepted and damaged.
+
+use super::damage::{damage_bytes, damage_field, damage_records, random_record, split_records};
+use super::Random;
+use crate::diagram::{file, function_record, MOST_ITEMS, MOST_OPEN, MOST_ROWS};
+use crate::records::{
+    record, AND_CLOSE, AND_OPEN, BRANCH, END, FUNCTION, HEAD, IT_CLOSE, IT_OPEN, LOOP_EXIT,
+    LP_CLOSE, LP_OPEN, OR_CLOSE, OR_OPEN,
+};
+
+/// The parts of a diagram file.
+struct Draft {
+    items: Vec<u16>,
+    rows: Vec<Vec<u8>>,
+}
+
+impl Draft {
+    fn file(&self) -> Vec<u8> {
+        file(&self.items, &self.rows)
+    }
+}
+
+/// An accepted diagram.
+pub fn diagram(random: &mut Random) -> Vec<u8> {
+    draft(random).file()
+}
+
+/// An accepted diagram of at most this many rows.
+pub fn diagram_up_to(random: &mut Random, most_rows: usize) -> Vec<u8> {
+    draft_up_to(random, most_rows).file()
+}
+
+fn draft(random: &mut Random) -> Draft {
+    let most_rows = match random.below(10) {
+        0..=4 => random.below(12) + 1,
+        5..=7 => random.below(MOST_ROWS) + 1,
+        _ => MOST_ROWS,
+    };
+    draft_up_to(random, most_rows)
+}
+
+fn draft_up_to(random: &mut Random, most_rows: usize) -> Draft {
+    let item_count = match random.below(4) {
+        0 => 0,
+        1 => random.below(MOST_ITEMS + 1),
+        _ => random.below(4),
+    };
+    let mut items = Vec::new();
+    for _ in 0..item_count {
+        items.push(item_count_word(random));
+    }
+    let mut builder = RowsBuilder {
+        go_on_percent: 50 + random.below(48),
+        function_percent: 20 + random.below(60),
+        random,
+        item_count,
+        rows: Vec::new(),
+        left: most_rows.clamp(1, MOST_ROWS) - 1,
+    };
+    if builder.left >= 2 && builder.random.chance(30) {
+        builder.looped(0);
+    }
+    builder.run(0, false);
+    let mut rows = builder.rows;
+    rows.push(record(END, &[]));
+    Draft { items, rows }
+}
+
+/// Initial count of an item: mostly few, sometimes near the limit.
+pub(super) fn item_count_word(random: &mut Random) -> u16 {
+    match random.below(10) {
+        0 => random.between(65_530, 65_535),
+        1 => random.draw() as u16,
+        _ => random.between(0, 5),
+    }
+}
+
+/// Builds rows by runs and constructs, each of them a whole.
+struct RowsBuilder<'r> {
+    random: &'r mut Random,
+    /// Chance that a run goes on.
+    go_on_percent: usize,
+    /// Chance that a construct is a FUNCTION.
+    function_percent: usize,
+    item_count: usize,
+    rows: Vec<Vec<u8>>,
+    /// Rows that may still be added, END left out.
+    left: usize,
+}
+
+impl RowsBuilder<'_> {
+    fn plain(&mut self, kind: u16) {
+        self.rows.push(record(kind, &[]));
+    }
+
+    /// A run of constructs; the outermost one tends to be long.
+    fn run(&mut self, open: usize, in_loop: bool) {
+        let go_on_percent = if open == 0 { 92 } else { self.go_on_percent };
+        while self.left > 0 && self.random.chance(go_on_percent) {
+            self.construct(open, in_loop);
+        }
+    }
+
+    /// A construct that fits into the rows left; a FUNCTION always does.
+    fn construct(&mut self, open: usize, in_loop: bool) {
+        let may_open = open < MOST_OPEN && !self.random.chance(self.function_percent);
+        match self.random.below(4) {
+            0 if may_open && self.left >= 4 => self.branched(AND_OPEN, AND_CLOSE, open, in_loop),
+            1 if may_open && self.left >= 4 => self.branched(OR_OPEN, OR_CLOSE, open, in_loop),
+            2 if may_open && self.left >= 2 => {
+                let count = match self.random.below(8) {
+                    0 => self.random.between(2, 255),
+                    _ => self.random.between(2, 4),
+                };
+                self.left -= 2;
+                self.rows.push(record(IT_OPEN, &[count]));
+                self.run(open + 1, in_loop);
+                self.plain(IT_CLOSE);
+            }
+            3 if may_open && self.left >= 2 => self.looped(open),
+            _ => {
+                self.left -= 1;
+                let function = random_function(self.random, self.item_count);
+                self.rows.push(function);
+            }
+        }
+    }
+
+    /// An LP, mostly with an AND or OR in it that may end in LE.
+    fn looped(&mut self, open: usize) {
+        self.left -= 2;
+        self.plain(LP_OPEN);
+        if self.left >= 5 && open + 2 < MOST_OPEN && self.random.chance(70) {
+            self.exit_inside(open + 1);
+        }
+        self.run(open + 1, true);
+        self.plain(LP_CLOSE);
+    }
+
+    /// An OR, seldom an AND, in a loop; half of them in an IT.
+    fn exit_inside(&mut self, open: usize) {
+        let in_it = self.left >= 7 && self.random.chance(50);
+        let depth = open + usize::from(in_it);
+        if in_it {
+            self.left -= 2;
+            self.rows
+                .push(record(IT_OPEN, &[self.random.between(2, 4)]));
+        }
+        if self.random.chance(75) {
+            self.branched(OR_OPEN, OR_CLOSE, depth, true);
+        } else {
+            self.branched(AND_OPEN, AND_CLOSE, depth, true);
+        }
+        if in_it {
+            self.plain(IT_CLOSE);
+        }
+    }
+
+    /// An AND or OR with two branches or more; in a loop some end in LE.
+    fn branched(&mut self, open_kind: u16, close_kind: u16, open: usize, in_loop: bool) {
+        self.left -= 4;
+        self.plain(open_kind);
+        let mut branches = 0;
+        while branches < 2 || (self.left > 0 && self.random.chance(25)) {
+            if branches >= 2 {
+                self.left -= 1;
+            }
+            branches += 1;
+            self.plain(BRANCH);
+            self.run(open + 1, in_loop);
+            if in_loop && self.left > 0 && self.random.chance(40) {
+                self.left -= 1;
+                self.plain(LOOP_EXIT);
+            }
+        }
+        self.plain(close_kind);
+    }
+}
+
+/// A FUNCTION record whose fields hold.
+pub(super) fn random_function(random: &mut Random, item_count: usize) -> Vec<u8> {
+    let (alpha, beta) = match random.below(8) {
+        0 => (0, 0),
+        1 => (random.between(0, 9), u16::MAX),
+        2 => (u16::MAX, u16::MAX),
+        3 => {
+            let beta = random.word();
+            (random.between(0, beta), beta)
+        }
+        _ => {
+            let beta = random.between(0, 9);
+            (random.between(0, beta), beta)
+        }
+    };
+    let use_percent = random.pick(&[10, 25, 50, 95], 50);
+    let mut uses = Vec::new();
+    for item in 0..item_count {
+        if random.chance(use_percent) {
+            uses.push(random_use(random, item as u16));
+        }
+    }
+    function_record(alpha, beta, &uses)
+}
+
+fn random_use(random: &mut Random, item: u16) -> [u16; 3] {
+    let (take, give) = if random.chance(5) {
+        (random.word(), random.word())
+    } else {
+        (random.between(0, 2), random.between(0, 2))
+    };
+    [item, take, give.max(u16::from(take == 0))]
+}
+
+/// A diagram file that something was done to; a few are still accepted.
+pub fn damaged_diagram(random: &mut Random) -> Vec<u8> {
+    let mut damaged = draft(random);
+    match random.below(8) {
+        0 => random_rows(random, &mut damaged),
+        1 => too_deep(random, &mut damaged),
+        2 => loop_exit_somewhere(random, &mut damaged),
+        3 | 4 => {
+            let item_count = damaged.items.len();
+            damage_records(random, &mut damaged.rows, FUNCTION..=END, item_count);
+        }
+        _ => {}
+    }
+    let mut bytes = damaged.file();
+    match random.below(8) {
+        0..=2 => damage_bytes(random, &mut bytes),
+        3 => damage_field(random, &mut bytes),
+        4 => {
+            let mut records = split_records(&bytes);
+            damage_records(random, &mut records, HEAD..=END, 0);
+            bytes = records.concat();
+        }
+        _ => {}
+    }
+    bytes
+}
+
+/// Rows of any kinds, END last.
+fn random_rows(random: &mut Random, draft: &mut Draft) {
+    let count = random.below(12);
+    let item_count = draft.items.len();
+    let any_row = |_| random_record(random, FUNCTION..=END, item_count);
+    draft.rows = (0..count).map(any_row).collect();
+    draft.rows.push(record(END, &[]));
+}
+
+/// 11 to 14 constructs one in the other.
+fn too_deep(random: &mut Random, draft: &mut Draft) {
+    let mut closes = Vec::new();
+    draft.rows.clear();
+    for _ in 0..random.between(11, 14) {
+        match random.below(4) {
+            0 => {
+                draft.rows.push(record(AND_OPEN, &[]));
+                draft.rows.push(record(BRANCH, &[]));
+                closes.push(record(AND_CLOSE, &[]));
+                closes.push(record(BRANCH, &[]));
+            }
+            1 => {
+                draft.rows.push(record(OR_OPEN, &[]));
+                draft.rows.push(record(BRANCH, &[]));
+                closes.push(record(OR_CLOSE, &[]));
+                closes.push(record(BRANCH, &[]));
+            }
+            2 => {
+                draft.rows.push(record(IT_OPEN, &[2]));
+                closes.push(record(IT_CLOSE, &[]));
+            }
+            _ => {
+                draft.rows.push(record(LP_OPEN, &[]));
+                closes.push(record(LP_CLOSE, &[]));
+            }
+        }
+    }
+    draft.rows.extend(closes.into_iter().rev());
+    draft.rows.push(record(END, &[]));
+}
+
+/// An LE at any place.
+fn loop_exit_somewhere(random: &mut Random, draft: &mut Draft) {
+    let at = random.below(draft.rows.len() + 1);
+    draft.rows.insert(at, record(LOOP_EXIT, &[]));
+}

@@ -1,0 +1,100 @@
+//! States: reached ones, random ones that pass 20, odd ones.
+
+use super::diagrams::item_count_word;
+use super::Random;
+use crate::diagram::{parse, Diagram, Row};
+use crate::diagram_step::{self, activity, clock, turns, RUNNING, STEP, WAIT};
+
+/// States reached from the fresh one by accepted moves, the fresh one first;
+/// none for a refused file.
+pub fn walk(random: &mut Random, file: &[u8], moves: usize) -> Vec<Vec<u16>> {
+    let Ok(diagram) = parse(file) else {
+        return Vec::new();
+    };
+    let mut state = diagram_step::fresh_state(&diagram);
+    let mut states = vec![state.clone()];
+    for _ in 0..moves {
+        let (code, argument) = likely_move(random, &diagram, &state);
+        if let Ok(next) = diagram_step::after(&diagram, &state, code, argument) {
+            state = next;
+            states.push(state.clone());
+        }
+    }
+    states
+}
+
+/// A move that the diagram accepts, if one was found.
+pub(super) fn likely_move(random: &mut Random, diagram: &Diagram, state: &[u16]) -> (u16, u16) {
+    let rows = diagram.rows.len() as u16;
+    let mut moves: Vec<(u16, u16)> = (0..rows).map(|row| (STEP, row)).collect();
+    moves.push((WAIT, 1));
+    moves.push((WAIT, random.between(1, 9)));
+    moves.push((WAIT, random.word()));
+    moves.retain(|(code, argument)| diagram_step::after(diagram, state, *code, *argument).is_ok());
+    random.pick(&moves, (WAIT, 1))
+}
+
+/// A random state that passes 20, reached or not; empty for a refused file.
+pub fn passing_state(random: &mut Random, file: &[u8]) -> Vec<u16> {
+    let Ok(diagram) = parse(file) else {
+        return Vec::new();
+    };
+    let mut state = vec![0; diagram.state_length()];
+    let busy_percent = random.pick(&[10, 30, 60, 95], 30);
+    let nearly_full = random.chance(20);
+    for (number, row) in diagram.rows.iter().enumerate() {
+        if random.chance(busy_percent) {
+            state[activity(number)] = busy_activity(random, row);
+        }
+        match row {
+            Row::ItOpen { count, .. } => state[turns(number)] = random.between(0, *count),
+            Row::Function(function) if state[activity(number)] == RUNNING => {
+                let earliest = random.pick(&[0, function.alpha, function.beta], 0);
+                state[clock(number)] = random.between(earliest, function.beta);
+            }
+            _ => {}
+        }
+    }
+    for item in 0..diagram.items.len() {
+        state[diagram.item_word(item)] = if nearly_full {
+            random.between(65_530, 65_535)
+        } else {
+            item_count_word(random)
+        };
+    }
+    state
+}
+
+/// An activity other than idle, where the row's kind has one.
+fn busy_activity(random: &mut Random, row: &Row) -> u16 {
+    match row {
+        Row::Function(_) => random.between(1, 2),
+        Row::AndBranch(_) => 3,
+        Row::OrBranch(_) | Row::AndClose(_) => 0,
+        _ => 1,
+    }
+}
+
+/// A state with a word off, of another length, or of any words.
+pub fn odd_state(random: &mut Random, file: &[u8]) -> Vec<u16> {
+    let mut state = passing_state(random, file);
+    match random.below(5) {
+        0 => {
+            state.pop();
+        }
+        1 => state.push(random.word()),
+        2 => state.iter_mut().for_each(|word| *word = random.word()),
+        _ => {
+            let (at, value) = (random.below(state.len()), random.word());
+            if let Some(word) = state.get_mut(at) {
+                *word = value;
+            }
+        }
+    }
+    state
+}
+
+/// Any words of this number: net states reached or not.
+pub fn net_state(random: &mut Random, length: usize) -> Vec<u16> {
+    (0..length).map(|_| item_count_word(random)).collect()
+}

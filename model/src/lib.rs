@@ -1,0 +1,34 @@
+//! Plain model of document 01, "Flow diagrams and their nets".
+//!
+//! One file per section, to be read beside the document:
+//!
+//! | File | Section of document 01 |
+//! |---|---|
+//! | `records` | Diagram records, net records: lengths, kinds, fields |
+//! | `diagram` | Diagram records, Nesting |
+//! | `diagram_step` | Diagram state and moves |
+//! | `net`, `net_step`, `translate`, `image` | Net |
+//! | `bus`, `history` | Bus ends |
+//! | `examples`, `annex` | Plant-room examples |
+//! | `generate` | random diagrams, nets, states and lists for comparisons |
+//!
+//! Every public call takes the caller's bytes and words as they are and checks
+//! them anew. A refusal alters nothing that was lent.
+
+#![forbid(unsafe_code)]
+
+pub mod annex;
+pub mod bus;
+pub mod diagram;
+pub mod diagram_step;
+pub mod examples;
+pub mod generate;
+pub mod history;
+pub mod image;
+pub mod net;
+pub mod net_step;
+pub mod records;
+pub mod refusal;
+pub mod translate;
+
+pub use refusal::{Answer, Refusal};
