@@ -81,12 +81,15 @@ unfoldable pub printed : Outcome Net → List ℕ
 printed (accepted n) = netLines n
 printed (refused number value) = line refusedLetters (number ∷ value ∷ [])
 
--- "reads a diagram on standard input, lends 65,536 bytes for the net and prints"
-abbrev pub annexArea : ℕ
-annexArea = 65536
+-- "reads a diagram on standard input, lends 65,536 bytes for the net and prints": 10 where the net needs more than is lent
+abbrev pub annexRoom : ℕ
+annexRoom = 65536
 
-abbrev pub fitted : Net → Outcome Net
-fitted n = cond (leb (length (netBytes n)) annexArea) (accepted n) (refused 10 (length (netBytes n)))
+abbrev pub fitted : ℕ → Net → Outcome Net
+fitted room n = cond (leb (length (netBytes n)) room) (accepted n) (refused 10 (length (netBytes n)))
 
-unfoldable pub annexText : List ℕ → List ℕ
-annexText file = printed (andThen (readDiagram file) (λ d. fitted (netOf d)))
+unfoldable pub annexIn : (room : ℕ) → List ℕ → List ℕ
+annexIn room file = printed (andThen (readDiagram file) (λ d. fitted room (netOf d)))
+
+abbrev pub annexText : List ℕ → List ℕ
+annexText file = annexIn annexRoom file

@@ -10,7 +10,7 @@ use Rattle.effbd.specs.Moves.{moveOf, wordsOutcome, moveWords, checkedMove, ste
 use Rattle.effbd.specs.Nets.{arcBytes, transitionBytes, markBytes, netBytes, arcDue, arcFine, above, transitionFine, netHeadFault, markFault, arcFault, transitionFault, readTail, afterPlaces, readNet}
 use Rattle.effbd.specs.Firing.{weightAt, clearedAt, effectOf, covers, takenAndCleared, firedState, overflows, fire, fireLowest, letsPass, tickedState, netWait, netMove, checkedNetMove, stepNet, freshNetWords}
 use Rattle.effbd.specs.Patterns.{names, arcsOf, rangesFrom, transitionOf, netOf}
-use Rattle.effbd.specs.Annex.{digits, number, numbers, arcLines, transitionLines, netLines, printed, annexText}
+use Rattle.effbd.specs.Annex.{digits, number, numbers, arcLines, transitionLines, netLines, printed, annexIn}
 use Rattle.effbd.specs.BusEnds.{telegram, taken}
 use Rattle.plantroom.specs.Table.{fileOf, sameWords, plays, holds, allHold, examples, annexOfA, followerSays, followerHolds, tableHolds}
 
@@ -22,6 +22,6 @@ unfolding areBytes kindTable entryIn lengthOf fieldsOf faultAt readMany
     placeOf stateWords stateOf enteredRow branchEntries freshWords moveOf wordsOutcome moveWords checkedMove stepDiagram
     arcBytes transitionBytes markBytes netBytes arcDue arcFine above transitionFine netHeadFault markFault arcFault transitionFault readTail afterPlaces readNet
     weightAt clearedAt effectOf covers takenAndCleared firedState overflows fire fireLowest letsPass tickedState netWait netMove checkedNetMove stepNet freshNetWords
-    names arcsOf rangesFrom transitionOf netOf digits number numbers arcLines transitionLines netLines printed annexText telegram taken
+    names arcsOf rangesFrom transitionOf netOf digits number numbers arcLines transitionLines netLines printed annexIn telegram taken
     fileOf sameWords plays holds allHold examples annexOfA followerSays followerHolds tableHolds
 examples-hold = refl
