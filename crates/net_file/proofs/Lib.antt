@@ -1,0 +1,7 @@
+pub mod Lists
+pub mod Records
+pub mod Tails
+pub mod Turns
+pub mod Walks
+pub mod Accepted
+pub mod Standing
