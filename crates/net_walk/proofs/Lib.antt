@@ -1,1 +1,4 @@
 pub mod Turns
+pub mod Ranges
+pub mod Effects
+pub mod Rising
