@@ -1,0 +1,63 @@
+use borrow.Author.Needs.{needs}
+use Rattle.net_step.proofs.fresh.Statement.{statement}
+use Rattle.net_step.proofs.fresh.Tie as tie
+use Rattle.net_step.proofs.fresh.Reads as reads
+use Rattle.net_step.proofs.fresh.Lts as lts
+use Rattle.net_file.proofs.read.Reads as read-reads
+use Rattle.net_step.proofs.fill.Reads as fill-reads
+use Rattle.words.proofs.word.Reads as word-reads
+
+-- src/lib.rt:244:9
+read-requires : tie.Need-read-requires
+read-requires c κs = search needs
+
+-- src/lib.rt:246:25
+enum-known-read : tie.Need-enum-known-read
+enum-known-read c = search needs
+
+-- src/lib.rt:247:26
+enum-known-read-2 : tie.Need-enum-known-read-2
+enum-known-read-2 c = search needs
+
+-- src/lib.rt:248:31
+cast-if1 : tie.Need-cast-if1
+cast-if1 c = search needs
+
+-- src/lib.rt:249:17
+returns : tie.Need-returns
+returns c = ?
+
+-- src/lib.rt:251:23
+word-requires : tie.Need-word-requires
+word-requires c κs = search needs
+
+-- src/lib.rt:251:13
+fill-requires : tie.Need-fill-requires
+fill-requires c κs = search needs
+
+-- src/lib.rt:240:1
+returns-2 : tie.Need-returns-2
+returns-2 c = ?
+
+-- src/lib.rt:240:1
+same-length : tie.Need-same-length
+same-length c = search needs
+
+-- src/lib.rt:240:1
+returns-3 : tie.Need-returns-3
+returns-3 c = ?
+
+pub fresh-spec : {M : Type 1} → statement M
+fresh-spec =
+    tie.close
+    (tie.spec
+    read-requires
+    enum-known-read
+    enum-known-read-2
+    cast-if1
+    returns
+    word-requires
+    fill-requires
+    returns-2
+    same-length
+    returns-3)

@@ -1,0 +1,104 @@
+use borrow.Author.Needs.{needs}
+use Rattle.net_step.proofs.step.Statement.{statement}
+use Rattle.net_step.proofs.step.Tie as tie
+use Rattle.net_step.proofs.step.Reads as reads
+use Rattle.net_step.proofs.step.Lts as lts
+use Rattle.net_file.proofs.read.Reads as read-reads
+use Rattle.net_step.proofs.move_by.Reads as move-by-reads
+use Rattle.words.proofs.tail.Reads as tail-reads
+use Rattle.words.proofs.word.Reads as word-reads
+
+-- src/lib.rt:203:9
+read-requires : tie.Need-read-requires
+read-requires c κs = search needs
+
+-- src/lib.rt:205:25
+enum-known-read : tie.Need-enum-known-read
+enum-known-read c = search needs
+
+-- src/lib.rt:206:26
+enum-known-read-2 : tie.Need-enum-known-read-2
+enum-known-read-2 c = search needs
+
+-- src/lib.rt:207:31
+cast-if1 : tie.Need-cast-if1
+cast-if1 c = search needs
+
+-- src/lib.rt:208:17
+returns : tie.Need-returns
+returns c = ?
+
+-- src/lib.rt:210:26
+word-requires : tie.Need-word-requires
+word-requires c κs = search needs
+
+-- src/lib.rt:210:26
+cast-places : tie.Need-cast-places
+cast-places c = search needs
+
+-- src/lib.rt:211:17
+word-requires-2 : tie.Need-word-requires-2
+word-requires-2 c κs = search needs
+
+-- src/lib.rt:212:52
+mul-tail : tie.Need-mul-tail
+mul-tail c = search needs
+
+-- src/lib.rt:212:48
+add-tail : tie.Need-add-tail
+add-tail c = search needs
+
+-- src/lib.rt:212:17
+tail-requires : tie.Need-tail-requires
+tail-requires c κs = search needs
+
+-- src/lib.rt:214:21
+sub-move-by : tie.Need-sub-move-by
+sub-move-by c = search needs
+
+-- src/lib.rt:214:21
+part-marks-start : tie.Need-part-marks-start
+part-marks-start c = search needs
+
+-- src/lib.rt:214:21
+part-marks-end : tie.Need-part-marks-end
+part-marks-end c = ?
+
+-- src/lib.rt:214:13
+move-by-requires : tie.Need-move-by-requires
+move-by-requires c κs = ?
+
+-- src/lib.rt:199:1
+returns-2 : tie.Need-returns-2
+returns-2 c = ?
+
+-- src/lib.rt:199:1
+same-length : tie.Need-same-length
+same-length c = search needs
+
+-- src/lib.rt:199:1
+returns-3 : tie.Need-returns-3
+returns-3 c = ?
+
+pub step-spec : {M : Type 1} → statement M
+step-spec =
+    tie.close
+    (tie.spec
+    read-requires
+    enum-known-read
+    enum-known-read-2
+    cast-if1
+    returns
+    word-requires
+    cast-places
+    word-requires-2
+    mul-tail
+    add-tail
+    tail-requires
+    sub-move-by
+    part-marks-start
+    part-marks-end
+    move-by-requires
+    returns-2
+    same-length
+    returns-3)
