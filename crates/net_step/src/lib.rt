@@ -5,7 +5,6 @@ use net_walk::CLEAR;
 use net_walk::GIVE;
 use net_walk::Sums;
 use net_walk::TAKE;
-
 ghost use mathlib.Core.Path.{_≡_};
 ghost use mathlib.Core.List.{_++_};
 ghost use Prim.Native.Nat.{_+_, _≤_};
@@ -95,7 +94,14 @@ fn holds(ticks: u16, marks: &[u16], rest: &[u8], clock: u16) -> bool
 }
 
 // Does one of `count` transitions hold the wait? The clocks stand in the state from `places` on.
-fn held(state: &[u16], places: usize, ticks: u16, marks: &[u16], transitions: &[u8], count: u16) -> bool
+fn held(
+    state: &[u16],
+    places: usize,
+    ticks: u16,
+    marks: &[u16],
+    transitions: &[u8],
+    count: u16,
+) -> bool
     requires { ⌜ places ≤ length (now state) ⌝ }
     ensures { λ r. ⌜ r ≡ waitHeld ticks (now (marks .entry)) 0 (transitionsIn count (now (transitions .entry))) (drop places (now (state .entry))) ⌝ }
 {
@@ -119,13 +125,26 @@ fn finish(marks: &mut [u16], state: &mut [u16], arcs: &[u8], transitions: &[u8],
     ensures { λ _. ⌜ now (state .exit) ≡ applied giveArc (arcsIn (now (arcs .entry))) (now (marks .entry)) ++ clocksBy (keptClock j (now (marks .entry))) 0 (transitionsIn count (now (transitions .entry))) (drop (length (now (marks .entry))) (now (state .entry))) ⌝ }
 {
     let places = marks.len();
-    renew(&mut state[places..], Renewal::Fired(j), marks, transitions, count);
+    renew(
+        &mut state[places..],
+        Renewal::Fired(j),
+        marks,
+        transitions,
+        count,
+    );
     net_walk::apply(marks, GIVE, arcs);
     copy(state, marks, places);
 }
 
 // Transition number j, which `part` begins with, fires if its clock and the sums allow it.
-fn fire(marks: &mut [u16], state: &mut [u16], transitions: &[u8], count: u16, j: u16, part: &[u8]) -> Answer
+fn fire(
+    marks: &mut [u16],
+    state: &mut [u16],
+    transitions: &[u8],
+    count: u16,
+    j: u16,
+    part: &[u8],
+) -> Answer
     requires { ⌜ length (now state) ≡ length (now marks) + count ⌝ }
     ensures { λ r. ⌜ said r ≡ returningZero (firedWords (transitionsIn count (now (transitions .entry))) j (transitionIn (now (part .entry))) (now (marks .entry)) (drop (length (now (marks .entry))) (now (state .entry)))) ⌝ }
     ensures { λ _. ⌜ now (state .exit) ≡ afterwards (now (state .entry)) (firedWords (transitionsIn count (now (transitions .entry))) j (transitionIn (now (part .entry))) (now (marks .entry)) (drop (length (now (marks .entry))) (now (state .entry)))) ⌝ }
@@ -149,7 +168,13 @@ fn fire(marks: &mut [u16], state: &mut [u16], transitions: &[u8], count: u16, j:
 }
 
 // Fires the lowest-numbered enabled transition labelled so.
-fn step_label(marks: &mut [u16], state: &mut [u16], transitions: &[u8], count: u16, label: u16) -> Answer
+fn step_label(
+    marks: &mut [u16],
+    state: &mut [u16],
+    transitions: &[u8],
+    count: u16,
+    label: u16,
+) -> Answer
     requires { ⌜ length (now state) ≡ length (now marks) + count ⌝ }
     ensures { λ r. ⌜ said r ≡ returningZero (steppedWords (transitionsIn count (now (transitions .entry))) label (now (marks .entry)) (drop (length (now (marks .entry))) (now (state .entry)))) ⌝ }
     ensures { λ _. ⌜ now (state .exit) ≡ afterwards (now (state .entry)) (steppedWords (transitionsIn count (now (transitions .entry))) label (now (marks .entry)) (drop (length (now (marks .entry))) (now (state .entry)))) ⌝ }
@@ -163,7 +188,13 @@ fn step_label(marks: &mut [u16], state: &mut [u16], transitions: &[u8], count: u
 }
 
 // Lets so many ticks pass, if no transition holds them.
-fn wait_ticks(marks: &[u16], state: &mut [u16], transitions: &[u8], count: u16, ticks: u16) -> Answer
+fn wait_ticks(
+    marks: &[u16],
+    state: &mut [u16],
+    transitions: &[u8],
+    count: u16,
+    ticks: u16,
+) -> Answer
     requires { ⌜ (length (now state) ≡ length (now marks) + count) × (now marks ≡ take (length (now marks)) (now state)) ⌝ }
     ensures { λ r. ⌜ said r ≡ returningZero (waitedWords (transitionsIn count (now (transitions .entry))) ticks (now (marks .entry)) (drop (length (now (marks .entry))) (now (state .entry)))) ⌝ }
     ensures { λ _. ⌜ now (state .exit) ≡ afterwards (now (state .entry)) (waitedWords (transitionsIn count (now (transitions .entry))) ticks (now (marks .entry)) (drop (length (now (marks .entry))) (now (state .entry)))) ⌝ }
@@ -175,12 +206,25 @@ fn wait_ticks(marks: &[u16], state: &mut [u16], transitions: &[u8], count: u16, 
     if held(state, places, ticks, marks, transitions, count) {
         return Answer::Refused(26, 0);
     }
-    renew(&mut state[places..], Renewal::Waited(ticks), marks, transitions, count);
+    renew(
+        &mut state[places..],
+        Renewal::Waited(ticks),
+        marks,
+        transitions,
+        count,
+    );
     Answer::Accepted(0)
 }
 
 // A move of a net with as many places as there are `marks`, which are filled from the state here.
-fn move_by(marks: &mut [u16], state: &mut [u16], transitions: &[u8], count: u16, code: u16, argument: u16) -> Answer
+fn move_by(
+    marks: &mut [u16],
+    state: &mut [u16],
+    transitions: &[u8],
+    count: u16,
+    code: u16,
+    argument: u16,
+) -> Answer
     requires { ⌜ length (now state) ≡ length (now marks) + count ⌝ }
     ensures { λ r. ⌜ said r ≡ returningZero (movedWords (transitionsIn count (now (transitions .entry))) code argument (take (length (now (marks .entry))) (now (state .entry))) (drop (length (now (marks .entry))) (now (state .entry)))) ⌝ }
     ensures { λ _. ⌜ now (state .exit) ≡ afterwards (now (state .entry)) (movedWords (transitionsIn count (now (transitions .entry))) code argument (take (length (now (marks .entry))) (now (state .entry))) (drop (length (now (marks .entry))) (now (state .entry)))) ⌝ }
@@ -211,7 +255,14 @@ pub fn step(net: &[u8], state: &mut [u16], code: u16, argument: u16) -> Answer
             let count = words::word(net, 6);
             let transitions = words::tail(net, 8 + 6 * places);
             let mut marks = [0u16; 208];
-            move_by(&mut marks[0..places], state, transitions, count, code, argument)
+            move_by(
+                &mut marks[0..places],
+                state,
+                transitions,
+                count,
+                code,
+                argument,
+            )
         }
     }
 }

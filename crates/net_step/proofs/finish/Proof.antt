@@ -1,3 +1,14 @@
+use Prim.Native.Nat.{ℕ, suc, _+_, _-_, _*_, _≤_, _<_}
+use native.Mathlib.Omega.{arith}
+use mathlib.Core.Path.{_≡_, refl, ap, sym, _∙_}
+use lib.ListN.{length, take, drop, getD, length-take}
+use mathlib.Core.List.{List, _++_}
+use Rattle.effbd.specs.Nets.{giveArc}
+use Rattle.net_step.specs.declared.Renewal.the-variants.{Fired}
+use Rattle.net_step.proofs.Cases.{written, fired-clocks}
+use Rattle.net_walk.specs.Walked.{applied}
+use Rattle.net_file.specs.Contents.{arcsIn, transitionsIn}
+use Rattle.net_step.specs.Stepping.{clocksBy, renewedClock}
 use borrow.Author.Needs.{needs}
 use Rattle.net_step.proofs.finish.Statement.{statement}
 use Rattle.net_step.proofs.finish.Tie as tie
@@ -45,7 +56,15 @@ same-length-2 c = search needs
 
 -- src/lib.rt:117:1
 returns : tie.Need-returns
-returns c = ?
+returns c =
+    let a = c .before .before .before .before .before .before .before .before .before .before .before .before .before .before .before .before .before .before .args in
+    let p = length (a .marks .now) in
+    let l : p ≤ length (a .state .now) = omega (arith, c .before .before .before .before .before .before .before .before .before .before .before .before .before .before .before .before .before .before .pre) in
+    let f = renewedClock (Fired (a .j)) (a .marks .now) in
+    let ts = transitionsIn (a .count) (a .transitions .now) in
+    written p f ts (a .state .now) (c .before .before .before .before .before .before .before .before .before .before .before .renew .last .0) (c .before .before .before .before .before .before .before .apply .last .0) (c .before .before .copy .last .0) l (c .before .before .before .before .before .before .before .apply .kept .0) (c .before .before .before .before .before .before .before .before .before .before .before .renew .ensures) (c .before .before .copy .ensures)
+    ∙ ap (λ (q : List ℕ). q ++ clocksBy f 0 ts (drop p (a .state .now))) (c .before .before .before .before .before .before .before .apply .ensures)
+    ∙ ap (λ (q : List ℕ). applied giveArc (arcsIn (a .arcs .now)) (a .marks .now) ++ q) (fired-clocks (a .j) (a .marks .now) ts (drop p (a .state .now)))
 
 pub finish-spec : {M : Type 1} → statement M
 finish-spec =

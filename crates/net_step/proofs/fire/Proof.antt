@@ -1,3 +1,15 @@
+use Prim.Native.Nat.{ℕ, suc, _+_, _-_, _*_, _≤_, _<_}
+use native.Mathlib.Omega.{arith}
+use mathlib.Core.Path.{_≡_, refl, ap, sym, _∙_}
+use lib.ListN.{length, take, drop, getD, length-take}
+use mathlib.Core.List.{List, _++_}
+use Rattle.effbd.specs.Answers.{Outcome, accepted, refused, returningZero, afterwards}
+use Rattle.effbd.specs.Nets.{giveArc}
+use Rattle.net_walk.specs.declared.Sums.the-variants.{Fit, Over}
+use Rattle.net_step.proofs.Cases.{fire-late, fire-on, mid-is, sums-of, fire-done}
+use Rattle.net_walk.specs.Walked.{applied}
+use Rattle.net_file.specs.Contents.{transitionIn, transitionsIn}
+use Rattle.net_step.specs.Stepping.{firedWords, clocksBy, keptClock}
 use borrow.Author.Needs.{needs}
 use Rattle.net_step.proofs.fire.Statement.{statement}
 use Rattle.net_step.proofs.fire.Tie as tie
@@ -36,7 +48,12 @@ same-length c = search needs
 
 -- src/lib.rt:136:9
 returns : tie.Need-returns
-returns c = ?
+unfolding transitionIn
+returns c =
+    let a = c .before .before .before .before .before .before .before .before .args in
+    let e : firedWords (transitionsIn (a .count) (a .transitions .now)) (a .j) (transitionIn (a .part .now)) (a .marks .now) (drop (length (a .marks .now)) (a .state .now)) ≡ refused 24 (c .before .word .result - c .before .before .get .result) =
+    fire-late (transitionsIn (a .count) (a .transitions .now)) (a .j) (transitionIn (a .part .now)) (a .marks .now) (a .state .now) (length (a .marks .now)) (c .before .before .get .result) (c .before .word .result) (c .before .before .get .ensures) (c .before .word .ensures) (c .if1 .taken) in
+    (sym (ap returningZero e), sym (ap (afterwards (a .state .now)) e))
 
 -- src/lib.rt:138:9
 tail-requires : tie.Need-tail-requires
@@ -80,7 +97,16 @@ same-length-3 c = search needs
 
 -- src/lib.rt:128:1
 returns-2 : tie.Need-returns-2
-returns-2 c = ?
+unfolding transitionIn
+returns-2 c =
+    let a = c .before .before .before .before .before .before .before .before .before .before .before .before .before .before .before .before .before .before .before .before .before .before .args in
+    let mid = c .before .before .before .before .before .before .before .apply2 .last .0 in
+    let arcs = c .before .before .before .before .before .before .before .before .before .before .before .before .before .tail .result .now in
+    let e : firedWords (transitionsIn (a .count) (a .transitions .now)) (a .j) (transitionIn (a .part .now)) (a .marks .now) (drop (length (a .marks .now)) (a .state .now)) ≡ refused 25 (c .before .fit .given .0 .0) =
+    fire-on (transitionsIn (a .count) (a .transitions .now)) (a .j) (transitionIn (a .part .now)) (a .marks .now) (a .state .now) (length (a .marks .now)) (c .before .before .before .before .before .before .before .before .before .before .before .before .before .before .before .before .get .result) (c .before .before .before .before .before .before .before .before .before .before .before .before .before .before .before .word .result) (c .before .before .before .before .before .before .before .before .before .before .before .before .before .before .before .before .get .ensures) (c .before .before .before .before .before .before .before .before .before .before .before .before .before .before .before .word .ensures) (c .before .before .before .before .before .before .before .before .before .before .before .before .before .before .if1 .left)
+    mid (Over (c .before .fit .given .0 .0)) (mid-is (a .part .now) arcs (a .marks .now) mid (c .before .before .before .before .before .before .before .before .before .before .before .before .before .tail .ensures) (c .before .before .before .before .before .before .before .before .before .before .before .apply .last .0) (c .before .before .before .before .before .before .before .before .before .before .before .apply .ensures) (c .before .before .before .before .before .before .before .apply2 .ensures))
+    (sym (c .before .fit .given .1) ∙ sums-of (a .part .now) arcs (a .marks .now) mid (c .before .before .before .before .before .before .before .before .before .before .before .before .before .tail .ensures) (c .before .before .before .sums-fit .result) (c .before .before .before .sums-fit .ensures)) in
+    (sym (ap returningZero e), sym (ap (afterwards (a .state .now)) e))
 
 -- src/lib.rt:128:1
 same-length-4 : tie.Need-same-length-4
@@ -92,7 +118,19 @@ same-length-5 c = search needs
 
 -- src/lib.rt:128:1
 returns-3 : tie.Need-returns-3
-returns-3 c = ?
+unfolding transitionIn
+returns-3 c =
+    let a = c .before .before .before .before .before .before .before .before .before .before .before .before .before .before .before .before .before .before .before .before .before .before .before .before .before .before .before .before .args in
+    let mid = c .before .before .before .before .before .before .before .before .before .before .before .before .before .apply2 .last .0 in
+    let arcs = c .before .before .before .before .before .before .before .before .before .before .before .before .before .before .before .before .before .before .before .tail .result .now in
+    let t = transitionIn (a .part .now) in
+    let ts = transitionsIn (a .count) (a .transitions .now) in
+    let p = length (a .marks .now) in
+    let e : firedWords ts (a .j) t (a .marks .now) (drop p (a .state .now)) ≡ accepted (applied giveArc (t .arcs) mid ++ clocksBy (keptClock (a .j) mid) 0 ts (drop p (a .state .now))) =
+    fire-on ts (a .j) t (a .marks .now) (a .state .now) p (c .before .before .before .before .before .before .before .before .before .before .before .before .before .before .before .before .before .before .before .before .before .before .get .result) (c .before .before .before .before .before .before .before .before .before .before .before .before .before .before .before .before .before .before .before .before .before .word .result) (c .before .before .before .before .before .before .before .before .before .before .before .before .before .before .before .before .before .before .before .before .before .before .get .ensures) (c .before .before .before .before .before .before .before .before .before .before .before .before .before .before .before .before .before .before .before .before .before .word .ensures) (c .before .before .before .before .before .before .before .before .before .before .before .before .before .before .before .before .before .before .before .before .if1 .left)
+    mid Fit (mid-is (a .part .now) arcs (a .marks .now) mid (c .before .before .before .before .before .before .before .before .before .before .before .before .before .before .before .before .before .before .before .tail .ensures) (c .before .before .before .before .before .before .before .before .before .before .before .before .before .before .before .before .before .apply .last .0) (c .before .before .before .before .before .before .before .before .before .before .before .before .before .before .before .before .before .apply .ensures) (c .before .before .before .before .before .before .before .before .before .before .before .before .before .apply2 .ensures))
+    (sym (c .before .before .before .before .before .before .before .enum-told .given .1) ∙ sums-of (a .part .now) arcs (a .marks .now) mid (c .before .before .before .before .before .before .before .before .before .before .before .before .before .before .before .before .before .before .before .tail .ensures) (c .before .before .before .before .before .before .before .before .before .sums-fit .result) (c .before .before .before .before .before .before .before .before .before .sums-fit .ensures)) in
+    (sym (ap returningZero e), fire-done (a .part .now) arcs (a .marks .now) mid (c .before .before .before .before .before .before .before .before .before .before .before .before .before .before .before .before .before .before .before .tail .ensures) ts (a .j) p (a .state .now) (c .before .before .before .before .finish .last .1 .0) (c .before .before .before .before .before .before .before .before .before .before .before .before .before .apply2 .kept .0 ∙ c .before .before .before .before .before .before .before .before .before .before .before .before .before .before .before .before .before .apply .kept .0) (c .before .before .before .before .finish .ensures) ∙ sym (ap (afterwards (a .state .now)) e))
 
 pub fire-spec : {M : Type 1} → statement M
 fire-spec =

@@ -1,3 +1,10 @@
+use Prim.Native.Nat.{ℕ, suc, _+_, _-_, _*_, _≤_, _<_}
+use native.Mathlib.Omega.{arith}
+use mathlib.Core.Path.{_≡_, refl, ap, sym, _∙_}
+use lib.ListN.{length, take, drop, getD, length-take}
+use Rattle.effbd.specs.Answers.{Outcome, accepted, refused, returningZero, afterwards}
+use Rattle.net_step.proofs.Cases.{copied, move-step, move-wait, move-none}
+use Rattle.net_file.specs.Contents.{transitionsIn}
 use borrow.Author.Needs.{needs}
 use Rattle.net_step.proofs.move_by.Statement.{statement}
 use Rattle.net_step.proofs.move_by.Tie as tie
@@ -17,7 +24,10 @@ step-label-requires c κs = search needs
 
 -- src/lib.rt:192:14
 wait-ticks-requires : tie.Need-wait-ticks-requires
-wait-ticks-requires c κs = ?
+wait-ticks-requires c κs =
+    let a = c .before .before .before .before .before .before .before .before .before .before .before .args in
+    let k = c .before .before .before .before .before .copy in
+    (omega (arith, k .kept .0, c .before .before .before .before .before .before .before .before .before .before .before .pre), copied (length (a .marks .now)) (a .marks .now) (a .state .now) (k .last .0) refl (k .ensures) ∙ ap (λ (q : ℕ). take q (a .state .now)) (sym (k .kept .0)))
 
 -- src/lib.rt:183:1
 same-length : tie.Need-same-length
@@ -29,7 +39,11 @@ same-length-2 c = search needs
 
 -- src/lib.rt:183:1
 returns : tie.Need-returns
-returns c = ?
+returns c =
+    let a = c .before .before .before .before .before .before .before .before .before .before .before .before .before .before .before .before .args in
+    let k = c .before .before .before .before .before .before .before .before .before .before .copy in
+    let e = move-step (transitionsIn (a .count) (a .transitions .now)) (a .code) (a .argument) (length (a .marks .now)) (k .last .0) (a .state .now) (copied (length (a .marks .now)) (a .marks .now) (a .state .now) (k .last .0) refl (k .ensures)) (k .kept .0) (c .before .before .before .before .before .before .before .match .keys1) in
+    (c .before .before .before .before .step-label .ensures .0 ∙ ap returningZero e, c .before .before .before .before .step-label .ensures .1 ∙ ap (afterwards (a .state .now)) e)
 
 -- src/lib.rt:183:1
 same-length-3 : tie.Need-same-length-3
@@ -41,7 +55,11 @@ same-length-4 c = search needs
 
 -- src/lib.rt:183:1
 returns-2 : tie.Need-returns-2
-returns-2 c = ?
+returns-2 c =
+    let a = c .before .before .before .before .before .before .before .before .before .before .before .before .before .before .args in
+    let k = c .before .before .before .before .before .before .before .before .copy in
+    let e = move-wait (transitionsIn (a .count) (a .transitions .now)) (a .code) (a .argument) (length (a .marks .now)) (k .last .0) (a .state .now) (copied (length (a .marks .now)) (a .marks .now) (a .state .now) (k .last .0) refl (k .ensures)) (k .kept .0) (c .before .before .before .before .before .match .keys2) in
+    (c .before .before .wait-ticks .ensures .0 ∙ ap returningZero e, c .before .before .wait-ticks .ensures .1 ∙ ap (afterwards (a .state .now)) e)
 
 -- src/lib.rt:183:1
 same-length-5 : tie.Need-same-length-5
@@ -53,7 +71,10 @@ same-length-6 c = search needs
 
 -- src/lib.rt:183:1
 returns-3 : tie.Need-returns-3
-returns-3 c = ?
+returns-3 c =
+    let a = c .before .before .before .before .before .before .before .before .before .args in
+    let e = move-none (transitionsIn (a .count) (a .transitions .now)) (a .code) (a .argument) (take (length (a .marks .now)) (a .state .now)) (drop (length (a .marks .now)) (a .state .now)) (c .match .rest .0 .1) (c .match .rest .1) in
+    (sym (ap returningZero e), sym (ap (afterwards (a .state .now)) e))
 
 pub move-by-spec : {M : Type 1} → statement M
 move-by-spec =

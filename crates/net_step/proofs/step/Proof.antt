@@ -1,3 +1,12 @@
+use Prim.Native.Nat.{ℕ, suc, _+_, _-_, _*_, _≤_, _<_}
+use native.Mathlib.Omega.{arith}
+use mathlib.Core.Path.{_≡_, refl, ap, sym, _∙_}
+use Prim.Native.Nat.{min}
+use lib.ListN.{length, take, drop, getD, length-take}
+use Rattle.effbd.specs.Answers.{Outcome, accepted, refused, returningZero, afterwards}
+use Rattle.effbd.specs.Answers.{said}
+use Rattle.net_walk.proofs.Effects.{Words}
+use Rattle.net_step.proofs.Calls.{Read, read-of, step-refused, step-length, step-moves}
 use borrow.Author.Needs.{needs}
 use Rattle.net_step.proofs.step.Statement.{statement}
 use Rattle.net_step.proofs.step.Tie as tie
@@ -26,7 +35,11 @@ cast-if1 c = search needs
 
 -- src/lib.rt:208:17
 returns : tie.Need-returns
-returns c = ?
+returns c =
+    let a = c .before .before .before .before .before .before .before .args in
+    let r = read-of (a .net .now) (c .before .before .read3 .given .0 .0) (ap said (sym (c .before .before .read3 .given .1)) ∙ c .before .before .before .before .read .ensures) in
+    let e = step-length (a .net .now) (a .state .now) (c .before .before .read3 .given .0 .0) r (a .code) (a .argument) (c .if1 .taken) in
+    (sym (ap returningZero e), sym (ap (afterwards (a .state .now)) e))
 
 -- src/lib.rt:210:26
 word-requires : tie.Need-word-requires
@@ -62,15 +75,24 @@ part-marks-start c = search needs
 
 -- src/lib.rt:214:21
 part-marks-end : tie.Need-part-marks-end
-part-marks-end c = ?
+part-marks-end c =
+    let a = c .before .before .before .before .before .before .before .before .before .before .args in
+    let r = read-of (a .net .now) (c .before .before .before .before .before .read3 .given .0 .0) (ap said (sym (c .before .before .before .before .before .read3 .given .1)) ∙ c .before .before .before .before .before .before .before .read .ensures) in
+    omega (arith, r .holds .head .places, c .before .before .word .ensures)
 
 -- src/lib.rt:214:13
 move-by-requires : tie.Need-move-by-requires
-move-by-requires c κs = ?
+move-by-requires c κs =
+    let a = c .before .before .before .before .before .before .before .before .before .before .before .before .args in
+    let r = read-of (a .net .now) (c .before .before .before .before .before .before .before .read3 .given .0 .0) (ap said (sym (c .before .before .before .before .before .before .before .read3 .given .1)) ∙ c .before .before .before .before .before .before .before .before .before .read .ensures) in
+    rw length-take (omega (arith, r .holds .head .places, r .adds, c .before .before .before .before .before .if1 .left, c .before .before .before .before .word .ensures, c .before .before .before .word2 .ensures))
 
 -- src/lib.rt:199:1
 returns-2 : tie.Need-returns-2
-returns-2 c = ?
+returns-2 c =
+    let a = c .before .before .before .before .before .before .args in
+    let e = step-refused (a .net .now) (a .state .now) (a .code) (a .argument) (c .before .read2 .given .0 .0) (c .before .read2 .given .0 .1 .0) (ap said (sym (c .before .read2 .given .1)) ∙ c .before .before .before .read .ensures) in
+    (sym (ap returningZero e), sym (ap (afterwards (a .state .now)) e))
 
 -- src/lib.rt:199:1
 same-length : tie.Need-same-length
@@ -78,7 +100,14 @@ same-length c = search needs
 
 -- src/lib.rt:199:1
 returns-3 : tie.Need-returns-3
-returns-3 c = ?
+returns-3 c =
+    let a = c .before .before .before .before .before .before .before .before .before .before .before .before .before .before .before .before .args in
+    let r = read-of (a .net .now) (c .before .before .before .before .before .before .before .before .before .before .before .read3 .given .0 .0) (ap said (sym (c .before .before .before .before .before .before .before .before .before .before .before .read3 .given .1)) ∙ c .before .before .before .before .before .before .before .before .before .before .before .before .before .read .ensures) in
+    let p = c .before .before .before .before .before .before .before .before .word .result in
+    let w : Words (a .state .now) = record { each = λ i. omega (arith, c .before .before .before .before .before .before .before .before .before .before .before .before .before .before .slice-known .given i) } in
+    let e = sym (step-moves (a .net .now) (a .state .now) (c .before .before .before .before .before .before .before .before .before .before .before .read3 .given .0 .0) r (a .code) (a .argument) p (c .before .before .before .before .before .before .before .word2 .result) (c .before .before .before .before .before .before .tail .result .now) (c .before .before .before .before .before .before .before .before .before .if1 .left) w (c .before .before .before .before .before .before .before .before .word .ensures) (c .before .before .before .before .before .before .before .word2 .ensures) (c .before .before .before .before .before .before .tail .ensures)) in
+    let k : min (p - 0) 208 ≡ p = omega (arith, r .holds .head .places, c .before .before .before .before .before .before .before .before .word .ensures) in
+    ((rw (length-take, k) at (c .before .before .before .move-by .ensures .0)) ∙ ap returningZero e, (rw (length-take, k) at (c .before .before .before .move-by .ensures .1)) ∙ ap (afterwards (a .state .now)) e)
 
 pub step-spec : {M : Type 1} → statement M
 step-spec =

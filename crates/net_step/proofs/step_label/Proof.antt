@@ -1,3 +1,9 @@
+use mathlib.Core.Path.{_≡_, refl, ap, sym, _∙_}
+use lib.ListN.{length, take, drop, getD, length-take}
+use Rattle.effbd.specs.Answers.{Outcome, accepted, refused, returningZero, afterwards}
+use Rattle.net_step.proofs.Cases.{step-none, step-some}
+use Rattle.net_file.specs.Contents.{transitionsIn}
+use Rattle.net_step.specs.Stepping.{steppedWords}
 use borrow.Author.Needs.{needs}
 use Rattle.net_step.proofs.step_label.Statement.{statement}
 use Rattle.net_step.proofs.step_label.Tie as tie
@@ -17,7 +23,11 @@ same-length c = search needs
 
 -- src/lib.rt:159:9
 returns : tie.Need-returns
-returns c = ?
+returns c =
+    let a = c .before .before .before .before .before .before .args in
+    let e : steppedWords (transitionsIn (a .count) (a .transitions .now)) (a .label) (a .marks .now) (drop (length (a .marks .now)) (a .state .now)) ≡ refused 22 (a .label) =
+    step-none (a .count) (c .before .lowest .result) (a .transitions .now) (a .marks .now) (drop (length (a .marks .now)) (a .state .now)) (a .label) (c .before .lowest .ensures) (c .if1 .taken) in
+    (sym (ap returningZero e), sym (ap (afterwards (a .state .now)) e))
 
 -- src/lib.rt:161:9
 part-at-requires : tie.Need-part-at-requires
@@ -37,7 +47,10 @@ same-length-3 c = search needs
 
 -- src/lib.rt:152:1
 returns-2 : tie.Need-returns-2
-returns-2 c = ?
+returns-2 c =
+    let a = c .before .before .before .before .before .before .before .before .before .before .before .before .before .before .args in
+    let e = step-some (a .count) (c .before .before .before .before .before .before .before .before .before .lowest .result) (a .transitions .now) (a .marks .now) (drop (length (a .marks .now)) (a .state .now)) (a .label) (c .before .before .before .before .before .before .before .before .before .lowest .ensures) (c .before .before .before .before .before .before .before .part-at .result .now) (c .before .before .before .before .before .before .before .before .if1 .left) (c .before .before .before .before .before .before .before .part-at .ensures) in
+    (c .before .before .before .before .fire .ensures .0 ∙ sym (ap returningZero e), c .before .before .before .before .fire .ensures .1 ∙ sym (ap (afterwards (a .state .now)) e))
 
 pub step-label-spec : {M : Type 1} → statement M
 step-label-spec =

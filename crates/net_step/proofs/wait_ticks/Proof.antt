@@ -1,3 +1,14 @@
+use Prim.Native.Nat.{ℕ, suc, _+_, _-_, _*_, _≤_, _<_}
+use native.Mathlib.Omega.{arith}
+use mathlib.Core.Path.{_≡_, refl, ap, sym, _∙_}
+use lib.ListN.{length, take, drop, getD, length-take}
+use mathlib.Core.List.{List, _++_}
+use Rattle.effbd.specs.Answers.{Outcome, accepted, refused, returningZero, afterwards}
+use Rattle.net_step.specs.declared.Renewal.the-variants.{Waited}
+use Rattle.net_step.proofs.Loops.{tail-is}
+use Rattle.net_step.proofs.Cases.{tail-put, wait-zero, wait-held, wait-free}
+use Rattle.net_file.specs.Contents.{transitionsIn}
+use Rattle.net_step.specs.Stepping.{clocksBy, renewedClock}
 use borrow.Author.Needs.{needs}
 use Rattle.net_step.proofs.wait_ticks.Statement.{statement}
 use Rattle.net_step.proofs.wait_ticks.Tie as tie
@@ -8,7 +19,10 @@ use Rattle.net_step.proofs.renew.Reads as renew-reads
 
 -- src/lib.rt:172:9
 returns : tie.Need-returns
-returns c = ?
+returns c =
+    let a = c .before .before .before .before .args in
+    let e = wait-zero (transitionsIn (a .count) (a .transitions .now)) (a .ticks) (a .marks .now) (drop (length (a .marks .now)) (a .state .now)) (c .if1 .taken) in
+    (sym (ap returningZero e), sym (ap (afterwards (a .state .now)) e))
 
 -- src/lib.rt:175:8
 held-requires : tie.Need-held-requires
@@ -20,7 +34,10 @@ same-length c = search needs
 
 -- src/lib.rt:176:9
 returns-2 : tie.Need-returns-2
-returns-2 c = ?
+returns-2 c =
+    let a = c .before .before .before .before .before .before .before .args in
+    let e = wait-held (transitionsIn (a .count) (a .transitions .now)) (a .ticks) (a .marks .now) (drop (length (a .marks .now)) (a .state .now)) (c .before .before .before .if1 .left) (sym (c .before .held .ensures) ∙ c .if2 .taken) in
+    (sym (ap returningZero e), sym (ap (afterwards (a .state .now)) e))
 
 -- src/lib.rt:178:11
 mul-renew : tie.Need-mul-renew
@@ -48,7 +65,19 @@ same-length-2 c = search needs
 
 -- src/lib.rt:166:1
 returns-3 : tie.Need-returns-3
-returns-3 c = ?
+returns-3 c =
+    let a = c .before .before .before .before .before .before .before .before .before .before .before .args in
+    let p = length (a .marks .now) in
+    let l : p ≤ length (a .state .now) = omega (arith, c .before .before .before .before .before .before .before .before .before .before .before .pre .0) in
+    let f = renewedClock (Waited (a .ticks)) (a .marks .now) in
+    let ts = transitionsIn (a .count) (a .transitions .now) in
+    let e = wait-free ts (a .ticks) (a .marks .now) (drop p (a .state .now)) (c .before .before .before .before .before .before .before .if1 .left) (sym (c .before .before .before .before .before .held .ensures) ∙ c .before .before .before .before .if2 .left) in (
+      sym (ap returningZero e),
+      tail-put p (a .state .now) (c .before .before .renew .last .0) l
+          ∙ ap (λ (q : List ℕ). take p (a .state .now) ++ q) (c .before .before .renew .ensures ∙ ap (λ (q : List ℕ). clocksBy f 0 ts q) (tail-is p (a .state .now)))
+          ∙ ap (λ (q : List ℕ). q ++ clocksBy f 0 ts (drop p (a .state .now))) (sym (c .before .before .before .before .before .before .before .before .before .before .before .pre .1))
+          ∙ sym (ap (afterwards (a .state .now)) e),
+    )
 
 pub wait-ticks-spec : {M : Type 1} → statement M
 wait-ticks-spec =
