@@ -35,14 +35,14 @@ fn copy(to: &mut [u16], from: &[u16], n: usize)
     }
 }
 
-fn kept(j: u16, marks: &[u16], x: u16, rest: &[u8], clock: u16) -> u16
-    ensures { λ r. ⌜ r ≡ keptClock j (now (marks .entry)) x (transitionIn (now (rest .entry))) clock ⌝ }
+fn kept(j: u16, marks: &[u16], x: u16, rest: &[u8], running: u16) -> u16
+    ensures { λ r. ⌜ r ≡ keptClock j (now (marks .entry)) x (transitionIn (now (rest .entry))) running ⌝ }
 {
     if x == j {
         return 0;
     }
     if net_walk::covers(marks, words::tail(rest, 10)) {
-        return clock;
+        return running;
     }
     0
 }
