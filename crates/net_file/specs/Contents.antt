@@ -5,7 +5,7 @@ use mathlib.Core.List.{List, [], _∷_}
 use lib.ListN.{length, drop}
 use lib.Dec.{leb}
 use Rattle.effbd.specs.Records.{word, kindAt}
-use Rattle.effbd.specs.Nets.{Arc, Transition, takeArc, arcDue, arcFine, above, transitionFine, arcAt}
+use Rattle.effbd.specs.Nets.{Arc, Transition, Net, takeArc, mostPlaces, mostTransitions, arcDue, arcFine, above, transitionFine, arcAt}
 
 -- an arc stands at the start
 unfoldable pub arcHere : List ℕ → Bool
@@ -50,3 +50,10 @@ arcsFine count k from (x ∷ xs) = arcDue k (x .kind) && (arcFine count k from x
 unfoldable pub transitionsFine : (count label : ℕ) → List Transition → Bool
 transitionsFine count label [] = true
 transitionsFine count label (t ∷ ts) = transitionFine label t && (arcsFine count takeArc 0 (t .arcs) && transitionsFine count (t .label) ts)
+
+-- the head's values; a net that a file can hold
+unfoldable pub headFine : (places transitions : ℕ) → Bool
+headFine places transitions = leb 1 places && (leb places mostPlaces && leb transitions mostTransitions)
+
+unfoldable pub netFine : Net → Bool
+netFine n = headFine (length (n .marks)) (length (n .transitions)) && transitionsFine (length (n .marks)) 0 (n .transitions)

@@ -6,7 +6,7 @@ use lib.ListN.{length}
 use lib.Dec.{leb, eqb}
 use Rattle.effbd.specs.Answers.{Outcome, accepted, andThen, returningZero}
 use Rattle.effbd.specs.Records.{word, lengthAt, kindAt, lengthOf, faultAt, Got, readMany}
-use Rattle.effbd.specs.Nets.{Arc, Transition, Net, takeArc, giveArc, mostPlaces, mostTransitions, arcDue, arcFine, above, transitionFine, arcAt, transitionAt, markAt, markFault, readTail, readNet}
+use Rattle.effbd.specs.Nets.{Arc, Transition, Net, takeArc, giveArc, arcDue, arcFine, above, transitionFine, arcAt, transitionAt, markAt, markFault, readTail, readNet}
 use Rattle.effbd.specs.Firing.{netWordCount}
 use Rattle.net_file.specs.declared.Due.{Due}
 
@@ -54,10 +54,6 @@ ended due rest = eqb (due .places) 0 && (eqb (due .transitions) 0 && eqb (length
 unfoldable pub verdict : (count total : ℕ) → Due → List ℕ → Outcome ℕ
 verdict count total due rest = andThen (readMany markFault markAt total (due .places) rest)
     (λ got. returningZero (readTail count total (suc (length (got .rest))) (due .transitions) (due .kind) (due .from) (due .label) (got .rest)))
-
--- the head's values
-unfoldable pub headFine : (places transitions : ℕ) → Bool
-headFine places transitions = leb 1 places && (leb places mostPlaces && leb transitions mostTransitions)
 
 -- a net file's answer: how many words its state has, or the refusal
 unfoldable pub wordsOf : Outcome Net → Outcome ℕ

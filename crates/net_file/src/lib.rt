@@ -7,7 +7,8 @@ ghost use lib.Dec.{eqb};
 ghost use Rattle.effbd.specs.Answers.{said};
 ghost use Rattle.effbd.specs.Records.{faultAt};
 ghost use Rattle.effbd.specs.Nets.{arcFine, above as aboveOf, transitionFine, netHeadFault, readNet};
-ghost use Rattle.net_file.specs.Due.{start as startOf, arcOf, timed, headFine, arcNext, dueKind, fieldsFine, faultIn, nextDue, ended as endedBy, wordsOf};
+ghost use Rattle.net_file.specs.Contents.{headFine};
+ghost use Rattle.net_file.specs.Due.{start as startOf, arcOf, timed, arcNext, dueKind, fieldsFine, faultIn, nextDue, ended as endedBy, wordsOf};
 
 // The kinds of net records, and the limits that a net's head has to keep.
 const HEAD: u16 = 32;

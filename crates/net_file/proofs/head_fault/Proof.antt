@@ -1,7 +1,7 @@
 use mathlib.Core.Path.{_≡_, refl, ap, sym, _∙_}
 use borrow.Author.Tests.{lt-ltb, le-ltb, le-leb, lt-leb, eq-eqb, ne-eqb, not-true, not-false}
 use Rattle.effbd.specs.Nets.{netHeadFault}
-use Rattle.net_file.specs.Due.{headFine}
+use Rattle.net_file.specs.Contents.{headFine}
 use borrow.Author.Needs.{needs}
 use Rattle.net_file.proofs.head_fault.Statement.{statement}
 use Rattle.net_file.proofs.head_fault.Tie as tie

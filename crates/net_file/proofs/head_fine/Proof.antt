@@ -1,6 +1,6 @@
 use borrow.Author.Needs.{needs}
 use borrow.Author.Tests.{lt-ltb, le-ltb, le-leb, lt-leb, eq-eqb, ne-eqb, not-true, not-false}
-use Rattle.net_file.specs.Due.{headFine}
+use Rattle.net_file.specs.Contents.{headFine}
 use Rattle.net_file.proofs.head_fine.Statement.{statement}
 use Rattle.net_file.proofs.head_fine.Tie as tie
 use Rattle.net_file.proofs.head_fine.Reads as reads
