@@ -1,4 +1,5 @@
 pub mod Lists
+pub mod Bytes
 pub mod Records
 pub mod Tails
 pub mod Turns

@@ -17,12 +17,10 @@ use Rattle.effbd.specs.Nets.{Arc, Transition, Net, takeArc, arcBytes, transitio
 use Rattle.effbd.specs.Firing.{netWordCount, checkedNetMove, stepNet, freshNetWords, freshNet}
 use Rattle.net_file.specs.Due.{arcNext}
 use Rattle.net_file.specs.Contents.{arcsFine, transitionsFine, headFine, netFine}
+use Rattle.net_file.proofs.Bytes.{of-bytes}
 use Rattle.net_file.proofs.Records.{Clean, clean-none}
+use Rattle.net_file.proofs.Accepted.{HeadRead, NetRead, net-read, place-count, transition-count}
 use Rattle.net_file.proofs.Tails.{Arcs, arc-kind, arc-length, tail-arc, tail-end, tail-transition}
-
--- a word from its two bytes, whatever the number
-pub of-bytes : (n : ℕ) → n % 256 + 256 * (n / 256) ≡ n
-of-bytes n = omega arith
 
 module _ (count total : ℕ) where
   arc-clean : (k from : ℕ) (rest : List ℕ) → 35 ≤ k → 8 ≤ length rest → lengthAt rest ≡ 8 → arcDue k (kindAt rest) ≡ true → arcFine count k from (arcAt rest) ≡ true → arcFault count total k from rest ≡ 0
@@ -148,6 +146,18 @@ read-back n h = read-at bytes (n .marks) (transitionBytes (n .transitions)) plac
     clean : netHeadFault bytes ≡ 0
     clean = unfold netHeadFault lengthOf entryIn kindTable in clean-none bytes true true (leb 1 (word bytes 4) && (leb (word bytes 4) 208 && leb (word bytes 6) 128)) 4
         (record { long = omega arith; isDue = refl; isRight = refl; whole = omega arith; isFine = rw (of-bytes places, of-bytes (length (n .transitions))) (and-left sizes _ h) })
+
+-- THEOREM: the net of an accepted file is well-formed, and the file is its bytes
+pub accepted-fine : (file : List ℕ) (n : Net) → readNet file ≡ accepted n → netFine n ≡ true
+unfolding netFine headFine
+accepted-fine file n e =
+    let r = net-read file n e in
+    let p : length (n .marks) ≡ word file 4 = place-count file n r in
+    let t : length (n .transitions) ≡ word file 6 = transition-count file n r in
+    rw (p, t) (and-both (and-both (le-leb 1 (word file 4) (r .head .some)) (and-both (le-leb (word file 4) 208 (r .head .places)) (le-leb (word file 6) 128 (r .head .transitions)))) (r .fine))
+
+pub accepted-bytes : (file : List ℕ) (n : Net) → areBytes file ≡ true → readNet file ≡ accepted n → netBytes n ≡ file
+accepted-bytes file n b e = net-read file n e .bytes b
 
 -- THEOREM: a step over the bytes of a well-formed net is a step of that net
 pub step-of-bytes : (n : Net) (code argument : ℕ) (words : List ℕ) → netFine n ≡ true → stepNet (netBytes n) code argument words ≡ checkedNetMove n (moveOf code argument) words

@@ -20,8 +20,7 @@ use Rattle.net_file.specs.Due.{wordsOf}
 use Rattle.net_file.specs.Contents.{transitionsIn, behindPlaces, transitionsFine}
 use Rattle.net_file.proofs.Records.{never, then-inv}
 use Rattle.net_file.proofs.Lists.{length-tabulate, tabulate-same}
-use Rattle.net_file.proofs.Accepted.{HeadRead, NetRead, net-read, word-count}
-use Rattle.net_file.proofs.Walks.{length-transitions}
+use Rattle.net_file.proofs.Accepted.{HeadRead, NetRead, net-read, place-count, transition-count, word-count}
 use Rattle.net_walk.proofs.Effects.{Words}
 use Rattle.net_step.specs.Stepping.{movedWords, noTransition, freshWord}
 use Rattle.net_step.proofs.Refines.{fine-at, move-is}
@@ -72,7 +71,7 @@ module _ (file words : List ℕ) (size : ℕ) (read : Read file size) where
   fresh-length h = rw (read .says, ne-eqb (length words) (netWordCount (read .net)) (λ q. h (q ∙ read .counts)))
 
   mark-count : length (read .net .marks) ≡ word file 4
-  mark-count = ap length (read .holds .marks) ∙ length-tabulate (word file 4) _
+  mark-count = place-count file (read .net) (read .holds)
 
   marks-words : Words words → Words (take (length (read .net .marks)) words)
   marks-words w = record {
@@ -111,11 +110,8 @@ word-drop n m i file = rw (drop-drop n m file, getD-drop (m + n) file i 0, getD-
 pub fresh-is : (file words : List ℕ) (size places : ℕ) → Read file size → length words ≡ size → places ≡ word file 4 → freshNet file words ≡ accepted (tabulate (length words) (freshWord file places))
 unfolding freshNet freshNetWords freshWord
 fresh-is file words size places read l ep = rw (read .says, eq-eqb (length words) (netWordCount (read .net)) (l ∙ sym (read .counts)))
-    (ap accepted (ap₂ (λ (m : List ℕ) (n : ℕ). m ++ tabulate n (λ x. 0)) (read .holds .marks) (count)
+    (ap accepted (ap₂ (λ (m : List ℕ) (n : ℕ). m ++ tabulate n (λ x. 0)) (read .holds .marks) (transition-count file (read .net) (read .holds))
     ∙ (tabulate-append (word file 4) (word file 6) _ _ (freshWord file places)
     (λ i m. rw (ep, lt-ltb i (word file 4) m) (word-drop (6 * i) 8 4 file ∙ (let z : 8 + 6 * i + 4 ≡ 12 + 6 * i = omega arith in ap (word file) z)))
     (λ i m. rw (ep, le-ltb (word file 4 + i) (word file 4) (omega arith)))
     ∙ ap (λ (n : ℕ). tabulate n (freshWord file places)) (sym (l ∙ read .adds)))))
-  where
-    count : length (read .net .transitions) ≡ word file 6
-    count = ap length (read .holds .transitions) ∙ length-transitions (word file 6) (behindPlaces (word file 4) file)
