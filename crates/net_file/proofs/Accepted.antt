@@ -1,26 +1,26 @@
 -- What an accepted net file holds: its net is what its bytes say, and well-formed.
 use Prim.Native.Nat.{ℕ, zero, suc, _+_, _-_, _*_, _≤_, _<_}
 use mathlib.Core.Path.{_≡_, refl, sym, _∙_, ap, ap₂, subst, fun-ext}
-use mathlib.Core.Bool.{Bool, true, false, cond, _&&_}
+use mathlib.Core.Bool.{Bool, true, false, _&&_}
 use mathlib.Core.List.{List, [], _∷_, _++_}
 use native.Mathlib.Omega.{arith}
-use lib.ListN.{length, getD, drop, length-drop}
+use lib.ListN.{length, drop, length-drop}
 use lib.Seq.{drop-drop}
-use lib.Dec.{leb, ltb, eqb}
-use borrow.Author.Tests.{leb-true, ltb-true, eqb-true, eqb-false, eq-eqb, ne-eqb, le-leb, lt-leb}
-use Rattle.words.proofs.Tests.{decide, clash, and-left, and-right, and-both}
+use lib.Dec.{leb, eqb}
+use borrow.Author.Tests.{leb-true, eqb-true, eqb-false, le-leb}
+use Rattle.words.proofs.Tests.{decide, and-left, and-right, and-both}
 use Rattle.effbd.specs.Ranges.{tabulate}
-use Rattle.effbd.specs.Answers.{Outcome, accepted, refused, unless, andThen}
-use Rattle.effbd.specs.Records.{word, wordBytes, areBytes, lengthAt, kindAt, lengthOf, kindTable, entryIn, faultAt, Got, adding, readMany}
-use Rattle.effbd.specs.Nets.{Arc, Transition, Net, arcBytes, transitionBytes, markBytes, netBytes, takeArc, arcDue, arcFine, above, arcAt, transitionFine, transitionAt, markAt, markFault, netHeadFault, Tail, noTail, withArc, withTransition, arcFault, transitionFault, readTail, netWith, afterPlaces, readNet}
+use Rattle.effbd.specs.Answers.{Outcome, accepted, refused}
+use Rattle.effbd.specs.Records.{word, wordBytes, areBytes, lengthAt, kindAt, lengthOf, kindTable, entryIn, Got, readMany}
+use Rattle.effbd.specs.Nets.{Arc, Transition, Net, arcBytes, transitionBytes, markBytes, netBytes, takeArc, arcDue, above, arcAt, transitionFine, transitionAt, markAt, markFault, netHeadFault, Tail, noTail, withArc, withTransition, arcFault, transitionFault, readTail, netWith, afterPlaces, readNet}
 use Rattle.effbd.specs.Firing.{netWordCount}
 use Rattle.net_file.specs.Due.{arcNext}
 use Rattle.net_file.specs.Contents.{arcHere, arcsIn, pastArcs, transitionIn, afterTransition, transitionsIn, behindPlaces, arcsFine, transitionsFine}
 use Rattle.net_file.proofs.Lists.{length-tabulate}
 use Rattle.net_file.proofs.Bytes.{bytes-drop, word-at}
-use Rattle.net_file.proofs.Records.{Clean, none-clean, never, unless-inv, then-inv, adding-inv}
-use Rattle.net_file.proofs.Tails.{Arcs, ArcRead, arc-read, TransitionRead, transition-read, tail-arc, tail-end, tail-over, tail-transition}
-use Rattle.net_file.proofs.Turns.{PlaceRead, place-read}
+use Rattle.net_file.proofs.Records.{none-clean, never, unless-inv, then-inv, adding-inv}
+use Rattle.net_file.proofs.Tails.{ArcRead, arc-read, TransitionRead, transition-read, tail-arc, tail-end, tail-over, tail-transition}
+use Rattle.net_file.proofs.Turns.{place-read}
 use Rattle.net_file.proofs.Walks.{arcs-more, arcs-done, past-more, past-done, length-transitions}
 
 with-arc-inv : (x : Arc) (o : Outcome Tail) (t : Tail) → withArc x o ≡ accepted t → (u : Tail) × (o ≡ accepted u) × (record { arcs = x ∷ u .arcs; transitions = u .transitions } ≡ t)

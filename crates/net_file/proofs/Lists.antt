@@ -1,6 +1,6 @@
 -- Laws of tables and bounded tests of numbers.
 use Prim.Native.Nat.{ℕ, zero, suc, _<_}
-use mathlib.Core.Path.{_≡_, refl, ap, ap₂, sym, _∙_}
+use mathlib.Core.Path.{_≡_, refl, ap, ap₂}
 use mathlib.Core.Bool.{Bool, _&&_}
 use mathlib.Core.List.{_∷_}
 use native.Mathlib.Nat.{le-of-suc-le-suc, not-suc-le-zero}

@@ -1,26 +1,25 @@
 -- A net file and its net: reading the bytes of a well-formed net gives it back, and an accepted file is the bytes of its net.
 -- So a call on the bytes of a net works on that net.
-use Prim.Native.Nat.{ℕ, zero, suc, _+_, _-_, _*_, _/_, _%_, _≤_, _<_}
-use mathlib.Core.Path.{_≡_, refl, sym, _∙_, ap, ap₂, subst}
+use Prim.Native.Nat.{ℕ, zero, suc, _≤_, _<_}
+use mathlib.Core.Path.{_≡_, refl, sym, _∙_, subst}
 use mathlib.Core.Bool.{Bool, true, false, cond, _&&_}
 use mathlib.Core.List.{List, [], _∷_, _++_}
 use native.Mathlib.Omega.{arith}
-use lib.ListN.{length, getD, drop, length-drop}
-use lib.Seq.{drop-cons}
-use lib.Dec.{leb, ltb, eqb}
-use borrow.Author.Tests.{leb-true, ltb-true, eqb-true, eqb-false, eq-eqb, le-leb, lt-leb}
-use Rattle.words.proofs.Tests.{decide, and-left, and-right, and-both}
-use Rattle.effbd.specs.Answers.{Outcome, accepted, refused, unless, andThen}
-use Rattle.effbd.specs.Records.{word, wordBytes, areBytes, lengthAt, kindAt, lengthOf, kindTable, entryIn, faultAt, Got, readMany}
+use lib.ListN.{length, drop}
+use lib.Dec.{leb, eqb}
+use borrow.Author.Tests.{eq-eqb, le-leb, lt-leb}
+use Rattle.words.proofs.Tests.{and-left, and-right, and-both}
+use Rattle.effbd.specs.Answers.{accepted, refused}
+use Rattle.effbd.specs.Records.{word, wordBytes, areBytes, lengthAt, kindAt, lengthOf, kindTable, entryIn, readMany}
 use Rattle.effbd.specs.Moves.{moveOf}
-use Rattle.effbd.specs.Nets.{Arc, Transition, Net, takeArc, arcBytes, transitionBytes, markBytes, netBytes, arcDue, arcFine, above, arcAt, transitionFine, transitionAt, markAt, markFault, netHeadFault, Tail, noTail, withArc, withTransition, arcFault, transitionFault, readTail, afterPlaces, readNet}
+use Rattle.effbd.specs.Nets.{Arc, Transition, Net, takeArc, arcBytes, transitionBytes, markBytes, netBytes, arcDue, arcFine, above, arcAt, transitionFine, transitionAt, markAt, markFault, netHeadFault, Tail, withArc, withTransition, arcFault, transitionFault, readTail, afterPlaces, readNet}
 use Rattle.effbd.specs.Firing.{netWordCount, checkedNetMove, stepNet, freshNetWords, freshNet}
 use Rattle.net_file.specs.Due.{arcNext}
 use Rattle.net_file.specs.Contents.{arcsFine, transitionsFine, headFine, netFine}
 use Rattle.net_file.proofs.Bytes.{of-bytes}
-use Rattle.net_file.proofs.Records.{Clean, clean-none}
-use Rattle.net_file.proofs.Accepted.{HeadRead, NetRead, net-read, place-count, transition-count}
-use Rattle.net_file.proofs.Tails.{Arcs, arc-kind, arc-length, tail-arc, tail-end, tail-transition}
+use Rattle.net_file.proofs.Records.{clean-none}
+use Rattle.net_file.proofs.Accepted.{net-read, place-count, transition-count}
+use Rattle.net_file.proofs.Tails.{arc-kind, arc-length, tail-arc, tail-end, tail-transition}
 
 module _ (count total : ℕ) where
   arc-clean : (k from : ℕ) (rest : List ℕ) → 35 ≤ k → 8 ≤ length rest → lengthAt rest ≡ 8 → arcDue k (kindAt rest) ≡ true → arcFine count k from (arcAt rest) ≡ true → arcFault count total k from rest ≡ 0

@@ -1,5 +1,5 @@
 -- Where the reader of a net file stands, from the head to the end.
-use Prim.Native.Nat.{ℕ, zero, suc, _+_, _-_, _*_, _≤_, _<_}
+use Prim.Native.Nat.{ℕ, suc, _+_, _-_, _*_, _≤_, _<_}
 use mathlib.Core.Path.{_≡_, refl, sym, _∙_, ap, subst}
 use mathlib.Core.Bool.{Bool, true, false, cond, _&&_}
 use mathlib.Core.List.{List}
@@ -10,14 +10,14 @@ use borrow.Author.Tests.{leb-true, ltb-true, eqb-true, eqb-false, eq-eqb}
 use Rattle.words.proofs.Tests.{decide, and-left, and-right}
 use Rattle.effbd.specs.Answers.{Outcome, accepted, refused, unless, andThen, returningZero}
 use Rattle.effbd.specs.Records.{word, lengthAt, kindAt, Got, readMany}
-use Rattle.effbd.specs.Nets.{Arc, Net, clearArc, takeArc, arcFine, above, arcAt, markAt, markFault, netHeadFault, Tail, arcFault, transitionFault, readTail, netWith, afterPlaces, readNet}
+use Rattle.effbd.specs.Nets.{Arc, Net, clearArc, arcFine, above, arcAt, markAt, markFault, netHeadFault, Tail, readTail, netWith, afterPlaces, readNet}
 use Rattle.effbd.specs.Firing.{netWordCount}
 use Rattle.net_file.specs.declared.Due.{Due}
 use Rattle.net_file.specs.Due.{start, faultIn, nextDue, ended, verdict, wordsOf}
 use Rattle.net_file.proofs.Records.{unless-none, unless-some}
-use Rattle.net_file.proofs.Tails.{Arcs, ArcRead, arc-read, TransitionRead, transition-read}
-use Rattle.net_file.proofs.Turns.{Way, place, arc, over, transition, way, PlaceRead, place-read, fault-place, fault-arc, fault-over, fault-transition, next-place, next-arc, next-transition, turn, at-end}
-use Rattle.net_file.proofs.Accepted.{HeadRead, head-read, net-read, word-count}
+use Rattle.net_file.proofs.Tails.{arc-read, transition-read}
+use Rattle.net_file.proofs.Turns.{Way, place, arc, over, transition, way, place-read, fault-place, fault-arc, fault-over, fault-transition, next-place, next-arc, next-transition, turn, at-end}
+use Rattle.net_file.proofs.Accepted.{head-read, net-read, word-count}
 
 -- a bound on what has been read, by what is still due: a place has 6 bytes; behind a transition, 10 bytes, at most 208 arcs of
 -- each of 3 kinds follow, 8 bytes each, since their places rise. So every offset is below 2^20.

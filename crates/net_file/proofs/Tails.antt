@@ -1,20 +1,20 @@
 -- The reader of transitions and arcs, a record at a time.
 use Prim.Native.Nat.{ℕ, zero, suc, _+_, _-_, _≤_, _<_}
-use mathlib.Core.Path.{_≡_, refl, sym, _∙_, ap}
+use mathlib.Core.Path.{_≡_, refl, _∙_}
 use mathlib.Core.Logic.{_≢_}
-use mathlib.Core.Bool.{Bool, true, false, cond, _&&_}
+use mathlib.Core.Bool.{true, false}
 use mathlib.Core.List.{List}
 use native.Mathlib.Omega.{arith}
 use lib.ListN.{length, drop, length-drop}
-use lib.Dec.{leb, ltb, eqb}
-use borrow.Author.Tests.{leb-true, ltb-true, eqb-true, eqb-false, eq-eqb, ne-eqb, le-leb, lt-leb, lt-ltb}
+use lib.Dec.{leb, eqb}
+use borrow.Author.Tests.{leb-true, eqb-true, eqb-false, eq-eqb, ne-eqb, lt-leb, lt-ltb}
 use Rattle.words.proofs.Tests.{decide, and-left, and-right, all-elim}
 use Rattle.effbd.specs.Ranges.{allBelow}
-use Rattle.effbd.specs.Answers.{Outcome, accepted, refused, unless}
+use Rattle.effbd.specs.Answers.{accepted, refused, unless}
 use Rattle.effbd.specs.Records.{word, lengthAt, kindAt, lengthOf, faultAt, kindTable, entryIn}
-use Rattle.effbd.specs.Nets.{takeArc, giveArc, clearArc, arcDue, arcFine, above, arcAt, transitionFine, transitionAt, Tail, noTail, withArc, withTransition, arcFault, transitionFault, readTail}
+use Rattle.effbd.specs.Nets.{takeArc, arcDue, arcFine, above, arcAt, transitionFine, transitionAt, noTail, withArc, withTransition, arcFault, transitionFault, readTail}
 use Rattle.net_file.specs.Due.{arcNext}
-use Rattle.net_file.proofs.Records.{Clean, none-clean}
+use Rattle.net_file.proofs.Records.{none-clean}
 
 -- the kinds of arcs
 pub record Arcs (kind : ℕ) : Type 0 where

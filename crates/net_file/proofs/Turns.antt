@@ -1,20 +1,20 @@
 -- A turn of the reader: one law for every record, by what is due.
-use Prim.Native.Nat.{ℕ, zero, suc, _+_, _-_, _*_, _≤_, _<_}
+use Prim.Native.Nat.{ℕ, zero, suc, _-_, _≤_}
 use mathlib.Core.Path.{_≡_, refl, sym, _∙_, ap}
-use mathlib.Core.Bool.{Bool, true, false, cond, _&&_}
+use mathlib.Core.Bool.{true, false, _&&_}
 use mathlib.Core.List.{List}
 use native.Mathlib.Omega.{arith}
 use lib.ListN.{length, drop, length-drop}
-use lib.Dec.{leb, ltb, eqb}
-use borrow.Author.Tests.{leb-true, ltb-true, eqb-true, eqb-false, eq-eqb, ne-eqb}
+use lib.Dec.{leb, eqb}
+use borrow.Author.Tests.{eqb-true, eqb-false, eq-eqb, ne-eqb}
 use Rattle.words.proofs.Tests.{decide, clash, and-left, and-right}
 use Rattle.effbd.specs.Answers.{Outcome, accepted, refused, unless, andThen, returningZero}
-use Rattle.effbd.specs.Records.{word, lengthAt, kindAt, lengthOf, faultAt, kindTable, entryIn, Got, adding, readMany}
-use Rattle.effbd.specs.Nets.{takeArc, arcFine, above, transitionFine, arcAt, transitionAt, Arc, Transition, markAt, markFault, Tail, noTail, withArc, withTransition, arcFault, transitionFault, readTail}
+use Rattle.effbd.specs.Records.{word, lengthAt, kindAt, lengthOf, kindTable, entryIn, adding, readMany}
+use Rattle.effbd.specs.Nets.{takeArc, above, arcAt, transitionAt, Arc, Transition, markAt, markFault, Tail, withArc, withTransition, arcFault, transitionFault, readTail}
 use Rattle.net_file.specs.declared.Due.{Due}
 use Rattle.net_file.specs.Due.{arcNext, dueKind, fieldsFine, faultIn, nextDue, ended, verdict}
-use Rattle.net_file.proofs.Records.{Clean, none-clean, unless-same, unless-then, unless-some, adding-then}
-use Rattle.net_file.proofs.Tails.{Arcs, arc-kind, ArcRead, arc-read, TransitionRead, transition-read, tail-arc, tail-end, tail-over, tail-transition, tail-fuel}
+use Rattle.net_file.proofs.Records.{none-clean, unless-same, unless-then, adding-then}
+use Rattle.net_file.proofs.Tails.{arc-kind, arc-read, transition-read, tail-arc, tail-end, tail-over, tail-transition, tail-fuel}
 
 -- what may stand next
 pub data Way (due : Due) (rest : List ℕ) : Type 0 where

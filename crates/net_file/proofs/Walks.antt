@@ -1,7 +1,7 @@
 -- Walking arcs and transitions by tails: one more, no more.
-use Prim.Native.Nat.{ℕ, zero, suc, _+_, _-_, _*_, _≤_, _<_}
-use mathlib.Core.Path.{_≡_, refl, ap, sym, _∙_}
-use mathlib.Core.Bool.{Bool, true, false, cond, _&&_}
+use Prim.Native.Nat.{ℕ, zero, suc, _+_, _*_, _≤_, _<_}
+use mathlib.Core.Path.{_≡_, refl, ap, _∙_}
+use mathlib.Core.Bool.{true, false}
 use mathlib.Core.List.{List, [], _∷_}
 use native.Mathlib.Nat.{le-of-suc-le-suc, not-suc-le-zero}
 use native.Mathlib.Omega.{arith}
@@ -11,7 +11,7 @@ use lib.Seq.{drop-drop}
 use lib.Dec.{leb}
 use Rattle.words.proofs.Tests.{decide, and-left}
 use Rattle.effbd.specs.Records.{kindAt}
-use Rattle.effbd.specs.Nets.{Arc, Transition, takeArc, arcDue, arcAt}
+use Rattle.effbd.specs.Nets.{Transition, takeArc, arcDue, arcAt}
 use Rattle.net_file.specs.Contents.{arcHere, arcsWithin, arcsIn, pastArcs, transitionIn, afterTransition, transitionsIn, partAt}
 
 pub here-long : (rest : List ℕ) → arcHere rest ≡ true → 8 ≤ length rest

@@ -1,12 +1,12 @@
 -- A net file read as one row of records: what is due next decides what a record is checked for. Assumes nothing.
-use Prim.Native.Nat.{ℕ, suc, _+_, _-_}
+use Prim.Native.Nat.{ℕ, suc, _-_}
 use mathlib.Core.Bool.{Bool, true, cond, _&&_}
 use mathlib.Core.List.{List, []}
 use lib.ListN.{length}
 use lib.Dec.{leb, eqb}
 use Rattle.effbd.specs.Answers.{Outcome, accepted, andThen, returningZero}
-use Rattle.effbd.specs.Records.{word, lengthAt, kindAt, lengthOf, faultAt, Got, readMany}
-use Rattle.effbd.specs.Nets.{Arc, Transition, Net, takeArc, giveArc, arcDue, arcFine, above, transitionFine, arcAt, transitionAt, markAt, markFault, readTail, readNet}
+use Rattle.effbd.specs.Records.{word, lengthAt, kindAt, lengthOf, faultAt, readMany}
+use Rattle.effbd.specs.Nets.{Arc, Transition, Net, takeArc, giveArc, arcDue, arcFine, above, transitionFine, arcAt, transitionAt, markAt, markFault, readTail}
 use Rattle.effbd.specs.Firing.{netWordCount}
 use Rattle.net_file.specs.declared.Due.{Due}
 

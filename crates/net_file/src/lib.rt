@@ -17,11 +17,11 @@ const PLACE: u16 = 33;
 
 const TRANSITION: u16 = 34;
 
-const TAKE: u16 = 35;
+pub const TAKE: u16 = 35;
 
-const CLEAR: u16 = 36;
+pub const CLEAR: u16 = 36;
 
-const GIVE: u16 = 37;
+pub const GIVE: u16 = 37;
 
 const MOST_PLACES: u16 = 208;
 

@@ -1,28 +1,27 @@
 -- What a call comes to, by what the reader of the file answered.
-use Prim.Native.Nat.{ℕ, zero, suc, _+_, _-_, _*_, _≤_, _<_}
-use mathlib.Core.Path.{_≡_, refl, ap, ap₂, sym, _∙_, subst}
-use mathlib.Core.Bool.{Bool, true, false, cond}
-use mathlib.Core.List.{List, [], _∷_, _++_}
+use Prim.Native.Nat.{ℕ, zero, suc, _+_, _*_, _≤_, _<_}
+use mathlib.Core.Path.{_≡_, ap, ap₂, sym, _∙_}
+use mathlib.Core.Bool.{true}
+use mathlib.Core.List.{List, _∷_, _++_}
 use native.Mathlib.Nat.{zero-add}
 use native.Mathlib.Omega.{arith}
 use lib.ListN.{length, take, drop, getD, length-take, List·getD-eq-default}
 use lib.Seq.{drop-drop, getD-drop, getD-take, length-take-le}
-use lib.Dec.{ltb, eqb}
+use lib.Dec.{ltb}
 use borrow.Author.Tests.{eq-eqb, ne-eqb, lt-ltb, le-ltb, ltb-true, ltb-false}
 use Rattle.words.proofs.Tests.{decide}
 use Rattle.effbd.specs.Ranges.{tabulate}
 use Rattle.effbd.specs.Answers.{Outcome, accepted, refused, andThen}
 use Rattle.effbd.specs.Records.{word}
-use Rattle.effbd.specs.Moves.{moveOf}
 use Rattle.effbd.specs.Nets.{Net, readNet}
-use Rattle.effbd.specs.Firing.{netMove, netWordsOutcome, netStateOf, behaviourOf, netWordCount, checkedNetMove, stepNet, freshNetWords, freshNet}
+use Rattle.effbd.specs.Firing.{netWordCount, checkedNetMove, stepNet, freshNetWords, freshNet}
 use Rattle.net_file.specs.Due.{wordsOf}
 use Rattle.net_file.specs.Contents.{transitionsIn, behindPlaces, transitionsFine}
 use Rattle.net_file.proofs.Records.{never, then-inv}
-use Rattle.net_file.proofs.Lists.{length-tabulate, tabulate-same}
-use Rattle.net_file.proofs.Accepted.{HeadRead, NetRead, net-read, place-count, transition-count, word-count}
+use Rattle.net_file.proofs.Lists.{tabulate-same}
+use Rattle.net_file.proofs.Accepted.{NetRead, net-read, place-count, transition-count, word-count}
 use Rattle.net_walk.proofs.Effects.{Words}
-use Rattle.net_step.specs.Stepping.{movedWords, noTransition, freshWord}
+use Rattle.net_step.specs.Stepping.{movedWords, freshWord}
 use Rattle.net_step.proofs.Refines.{fine-at, move-is}
 
 -- a refused file

@@ -1,5 +1,5 @@
 -- Each case of a move, as the code comes to it.
-use Prim.Native.Nat.{ℕ, zero, suc, _+_, _-_, _≤_, _<_}
+use Prim.Native.Nat.{ℕ, suc, _+_, _-_, _≤_, _<_}
 use mathlib.Core.Path.{_≡_, refl, ap, sym, _∙_}
 use mathlib.Core.Bool.{Bool, true, false, cond}
 use mathlib.Core.List.{List, [], _∷_, _++_, append-nil}
@@ -9,8 +9,7 @@ use borrow.Author.Tests.{eq-eqb, ne-eqb, lt-ltb, le-ltb}
 use borrow.Rule.Slice.PartMut.{putMid, midOf as partOf, post-is}
 use lib.ListN.{length, take, drop, getD, drop-of-length-le}
 use lib.Seq.{take-all, drop-at, length-take-le, drop-length, getD-drop}
-use lib.Dec.{ltb, eqb}
-use Rattle.effbd.specs.Answers.{Outcome, accepted, refused}
+use Rattle.effbd.specs.Answers.{accepted, refused}
 use Rattle.effbd.specs.Nets.{Transition, takeArc, clearArc, giveArc}
 use Rattle.net_file.specs.Contents.{arcsIn, transitionIn, transitionsIn, partAt}
 use Rattle.net_file.proofs.Walks.{length-transitions, transition-at}

@@ -1,5 +1,5 @@
 -- The moves as the code makes them are the moves of the definitions, in a well-formed net.
-use Prim.Native.Nat.{ℕ, zero, suc, _+_, _-_, _≤_, _<_}
+use Prim.Native.Nat.{ℕ, zero, suc, _+_, _-_, _<_}
 use mathlib.Core.Path.{_≡_, refl, ap, ap₂, sym, _∙_}
 use mathlib.Core.Bool.{Bool, true, false, not, cond, _&&_, _||_}
 use mathlib.Core.List.{List, [], _∷_, _++_, map}
@@ -10,12 +10,12 @@ use lib.Dec.{leb, ltb, eqb}
 use borrow.Author.Tests.{ltb-false, le-leb, eqb-true, eqb-false, eq-eqb, ne-eqb}
 use Rattle.words.proofs.Tests.{decide, clash, and-left, and-right, all-elim}
 use Rattle.effbd.specs.Ranges.{allBelow, least, only, tabulate}
-use Rattle.effbd.specs.Answers.{Outcome, accepted, refused}
-use Rattle.effbd.specs.Moves.{Move, step-row, wait-ticks, no-move, moveOf}
-use Rattle.effbd.specs.Nets.{Arc, Transition, takeArc, giveArc, transitionFine}
-use Rattle.effbd.specs.Firing.{Effect, noEffect, Behaviour, NetState, effectOf, covers, takenAndCleared, firedState, overflows, fire, fireLowest, letsPass, tickedState, netWait, netMove, netWords, netWordsOutcome}
+use Rattle.effbd.specs.Answers.{accepted, refused}
+use Rattle.effbd.specs.Moves.{step-row, wait-ticks, no-move, moveOf}
+use Rattle.effbd.specs.Nets.{Transition, takeArc, giveArc, transitionFine}
+use Rattle.effbd.specs.Firing.{Effect, noEffect, Behaviour, NetState, effectOf, covers, takenAndCleared, firedState, overflows, fire, fireLowest, letsPass, tickedState, netWait, netMove, netWordsOutcome}
 use Rattle.net_file.specs.Contents.{arcsFine, transitionsFine}
-use Rattle.net_file.proofs.Lists.{length-tabulate, tabulate-same, all-same}
+use Rattle.net_file.proofs.Lists.{tabulate-same, all-same}
 use Rattle.net_walk.specs.Walked.{covered, applied, reduced, sums, stands, lowest}
 use Rattle.net_walk.specs.declared.Sums.{Sums}
 use Rattle.net_walk.specs.declared.Sums.the-variants.{Fit, Over}

@@ -1,25 +1,21 @@
 -- What the walks compute is what the definitions say by the number of a place: enabled, takes and clears, gives, sums.
-use Prim.Native.Nat.{ℕ, zero, suc, _+_, _-_, _*_, _≤_, _<_, min}
+use Prim.Native.Nat.{ℕ, zero, suc, _+_, _-_, _≤_, _<_, min}
 use mathlib.Core.Path.{_≡_, refl, sym, _∙_, ap}
 use mathlib.Core.Logic.{_≢_}
-use mathlib.Core.Bool.{Bool, true, false, not, cond, _&&_, _||_}
+use mathlib.Core.Bool.{Bool, true, false, cond, _&&_, _||_}
 use mathlib.Core.List.{List, [], _∷_}
 use native.Mathlib.Omega.{arith}
 use lib.ListN.{length, getD, set, length-set}
 use lib.Seq.{getD-set-same, getD-set-other, ext-getD}
 use lib.Dec.{leb, ltb, eqb}
-use borrow.Author.Tests.{leb-true, ltb-true, ltb-false, eqb-true, eqb-false, eq-eqb, ne-eqb, le-leb, lt-leb, le-ltb, lt-ltb}
-use Rattle.words.proofs.Tests.{decide, clash, and-left, and-right, and-both}
-use Rattle.effbd.specs.Ranges.{allBelow, least, only, within, tabulate}
+use borrow.Author.Tests.{leb-true, ltb-true, eqb-true, eqb-false, ne-eqb, le-leb, lt-leb, le-ltb, lt-ltb}
+use Rattle.words.proofs.Tests.{decide, clash}
+use Rattle.effbd.specs.Ranges.{only, within, tabulate}
 use Rattle.effbd.specs.Moves.{mostWord}
-use Rattle.effbd.specs.Nets.{Arc, Transition, takeArc, clearArc, giveArc, arcDue, arcFine, above}
-use Rattle.effbd.specs.Firing.{Effect, Behaviour, NetState, weightAt, clearedAt, effectOf, covers, takenAndCleared, overflows, firedState}
-use Rattle.net_file.specs.Contents.{arcsFine}
-use Rattle.net_file.proofs.Lists.{length-tabulate, getD-tabulate, tabulate-same, all-same}
-use Rattle.net_walk.specs.Walked.{covered, zeros, changed, changedIf, applied, reduced, tooMuch, sums}
-use Rattle.net_walk.specs.declared.Sums.{Sums}
-use Rattle.net_walk.specs.declared.Sums.the-variants.{Fit, Over}
-use Rattle.net_walk.proofs.Ranges.{all-intro, all-fail, all-but, least-is, least-same}
+use Rattle.effbd.specs.Nets.{Arc, Transition, takeArc, clearArc, giveArc}
+use Rattle.effbd.specs.Firing.{Behaviour, weightAt, clearedAt, effectOf, takenAndCleared}
+use Rattle.net_file.proofs.Lists.{length-tabulate, getD-tabulate}
+use Rattle.net_walk.specs.Walked.{zeros, changed, changedIf, applied, reduced}
 
 -- numbers of 16 bits
 pub record Words (marks : List ℕ) : Type 0 where

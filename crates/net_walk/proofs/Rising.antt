@@ -1,8 +1,8 @@
 -- Where places rise, one arc of a kind at most stands at a place: enabled and sums, arc by arc, are those by place.
-use Prim.Native.Nat.{ℕ, zero, suc, _+_, _-_, _*_, _≤_, _<_, min}
+use Prim.Native.Nat.{ℕ, suc, _+_, _≤_, _<_, min}
 use mathlib.Core.Path.{_≡_, refl, sym, _∙_, ap, subst}
 use mathlib.Core.Logic.{_≢_}
-use mathlib.Core.Bool.{Bool, true, false, not, cond, _&&_, _||_}
+use mathlib.Core.Bool.{Bool, true, false, not, cond, _&&_}
 use mathlib.Core.List.{List, [], _∷_}
 use native.Mathlib.Nat.{zero-add}
 use native.Mathlib.Omega.{arith}
@@ -10,11 +10,11 @@ use lib.ListN.{length, getD, List·getD-eq-default}
 use lib.Seq.{ext-getD}
 use lib.Dec.{leb, ltb, eqb}
 use borrow.Author.Tests.{leb-true, ltb-true, ltb-false, eqb-true, eqb-false, eq-eqb, ne-eqb, le-leb, lt-leb}
-use Rattle.words.proofs.Tests.{decide, clash, and-left, and-right, all-elim}
+use Rattle.words.proofs.Tests.{decide, and-left, and-right, all-elim}
 use Rattle.effbd.specs.Ranges.{allBelow, least, only, tabulate}
 use Rattle.effbd.specs.Moves.{mostWord}
 use Rattle.effbd.specs.Nets.{Arc, Transition, takeArc, clearArc, giveArc, arcDue, arcFine, above}
-use Rattle.effbd.specs.Firing.{Effect, Behaviour, NetState, weightAt, clearedAt, effectOf, covers, takenAndCleared, overflows, firedState}
+use Rattle.effbd.specs.Firing.{Behaviour, NetState, weightAt, clearedAt, effectOf, covers, takenAndCleared, overflows, firedState}
 use Rattle.net_file.specs.Contents.{arcsFine}
 use Rattle.net_file.proofs.Lists.{length-tabulate, getD-tabulate, all-same}
 use Rattle.net_walk.specs.Walked.{covered, applied, reduced, tooMuch, sums}

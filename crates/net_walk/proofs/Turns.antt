@@ -1,19 +1,18 @@
 -- A turn and the end of each walk.
-use Prim.Native.Nat.{ℕ, zero, suc, _+_, _-_, _*_, _≤_, _<_, min}
-use mathlib.Core.Path.{_≡_, refl, ap, sym, _∙_}
-use mathlib.Core.Bool.{Bool, true, false, cond, _&&_}
-use mathlib.Core.List.{List, [], _∷_}
+use Prim.Native.Nat.{ℕ, suc, _+_, _-_, _≤_, _<_, min}
+use mathlib.Core.Path.{_≡_, sym, _∙_}
+use mathlib.Core.Bool.{Bool, true, false, cond}
+use mathlib.Core.List.{List}
 use native.Mathlib.Omega.{arith}
-use borrow.Author.Tests.{eqb-true, eq-eqb, ne-eqb, le-leb, lt-leb, leb-true}
+use borrow.Author.Tests.{eqb-true, eq-eqb, ne-eqb, le-leb, lt-leb}
 use lib.ListN.{length, drop, getD, set}
-use lib.Dec.{ltb, eqb, leb}
+use lib.Dec.{eqb, leb}
 use Rattle.words.proofs.Tests.{decide, clash, and-left, and-right, and-both}
 use Rattle.effbd.specs.Records.{word, kindAt}
-use Rattle.effbd.specs.Nets.{Arc, Transition, takeArc, arcDue, arcAt}
+use Rattle.effbd.specs.Nets.{takeArc, arcDue, arcAt}
 use Rattle.net_file.specs.Contents.{arcHere, arcsIn, transitionIn, afterTransition, transitionsIn, partAt}
 use Rattle.net_file.proofs.Walks.{here-long, arcs-more, arcs-done, transitions-more, transitions-none, part-more, part-none}
 use Rattle.net_walk.specs.Walked.{takeHere, covered, zeros, changed, changedIf, applied, tooMuch, sums, stands, lowest}
-use Rattle.net_walk.specs.declared.Sums.{Sums}
 use Rattle.net_walk.specs.declared.Sums.the-variants.{Fit, Over}
 
 pub take-kind : (rest : List ℕ) → takeHere rest ≡ true → eqb (kindAt rest) takeArc ≡ true

@@ -1,17 +1,14 @@
 // Walks over the arcs and transitions of a net file, on its bytes. Nothing is asked of the file: what its bytes say, accepted
 // or not, is defined in net_file's specs/Contents.antt.
+use net_file::CLEAR;
+use net_file::GIVE;
+use net_file::TAKE;
 ghost use mathlib.Core.Path.{_≡_};
 ghost use Prim.Native.Nat.{_+_, _-_, min};
 ghost use Rattle.effbd.specs.Nets.{arcAt};
 ghost use Rattle.effbd.specs.Moves.{mostWord};
 ghost use Rattle.net_file.specs.Contents.{arcHere, arcsIn, pastArcs, transitionIn, afterTransition, transitionsIn, partAt};
 ghost use Rattle.net_walk.specs.Walked.{takeHere, covered, zeros, changed, changedIf, applied, tooMuch, sums as sumsOf, stands as standsIn, lowest as lowestIn};
-
-pub const TAKE: u16 = 35;
-
-pub const CLEAR: u16 = 36;
-
-pub const GIVE: u16 = 37;
 
 // The sums of marks and gives: they fit 16 bits, or the first place at which one does not.
 pub enum Sums {

@@ -1,38 +1,28 @@
-use mathlib.Core.Path.{_≡_, refl, ap, sym, _∙_}
-use borrow.Author.Tests.{lt-ltb, le-ltb, le-leb, lt-leb, eq-eqb, ne-eqb, not-true, not-false}
+use borrow.Author.Tests.{lt-ltb, le-ltb, le-leb, lt-leb, eq-eqb, ne-eqb}
 use Rattle.effbd.specs.Nets.{arcFine}
 use borrow.Author.Needs.{needs}
 use Rattle.net_file.proofs.arc_fine.Statement.{statement}
 use Rattle.net_file.proofs.arc_fine.Tie as tie
-use Rattle.net_file.proofs.arc_fine.Reads as reads
-use Rattle.net_file.proofs.arc_fine.Lts as lts
-use Rattle.net_file.proofs.lowest.Reads as lowest-reads
 
--- src/lib.rt:94:25
 lowest-requires : tie.Need-lowest-requires
 lowest-requires c κs = search needs
 
--- src/lib.rt:95:9
 returns : tie.Need-returns
 unfolding arcFine
 returns c = rw (← c .before .lowest .ensures, lt-leb _ _ (c .if1 .taken))
 
--- src/lib.rt:98:9
 returns-2 : tie.Need-returns-2
 unfolding arcFine
 returns-2 c = rw (← c .before .before .before .lowest .ensures, le-leb _ _ (c .before .before .if1 .left), eq-eqb _ _ (c .before .if2 .taken), le-leb _ _ (c .if3 .taken))
 
--- src/lib.rt:98:9
 returns-3 : tie.Need-returns-3
 unfolding arcFine
 returns-3 c = rw (← c .before .before .before .lowest .ensures, le-leb _ _ (c .before .before .if1 .left), eq-eqb _ _ (c .before .if2 .taken), lt-leb _ _ (c .if3 .left))
 
--- src/lib.rt:91:1
 returns-4 : tie.Need-returns-4
 unfolding arcFine
 returns-4 c = rw (← c .before .before .before .lowest .ensures, le-leb _ _ (c .before .before .if1 .left), ne-eqb _ _ (c .before .if2 .left), lt-ltb _ _ (c .if4 .taken))
 
--- src/lib.rt:91:1
 returns-5 : tie.Need-returns-5
 unfolding arcFine
 returns-5 c = rw (← c .before .before .before .lowest .ensures, le-leb _ _ (c .before .before .if1 .left), ne-eqb _ _ (c .before .if2 .left), le-ltb _ _ (c .if4 .left))

@@ -1,29 +1,21 @@
-use mathlib.Core.Path.{_≡_, refl, ap, sym, _∙_}
-use borrow.Author.Tests.{lt-ltb, le-ltb, le-leb, lt-leb, eq-eqb, ne-eqb, not-true, not-false}
+use borrow.Author.Tests.{le-leb, lt-leb}
 use Rattle.effbd.specs.Nets.{arcDue}
 use Rattle.net_file.specs.Due.{arcNext}
 use borrow.Author.Needs.{needs}
 use Rattle.net_file.proofs.arc_next.Statement.{statement}
 use Rattle.net_file.proofs.arc_next.Tie as tie
-use Rattle.net_file.proofs.arc_next.Reads as reads
-use Rattle.net_file.proofs.arc_next.Lts as lts
-use Rattle.words.proofs.word.Reads as word-reads
 
--- src/lib.rt:125:9
 word-requires : tie.Need-word-requires
 word-requires c κs = search needs
 
--- src/lib.rt:122:1
 returns : tie.Need-returns
 unfolding arcNext arcDue
 returns c = rw (← c .before .before .word .ensures, le-leb _ _ (c .before .if1 .taken), le-leb _ _ (c .if2 .taken))
 
--- src/lib.rt:122:1
 returns-2 : tie.Need-returns-2
 unfolding arcNext arcDue
 returns-2 c = rw (← c .before .before .word .ensures, le-leb _ _ (c .before .if1 .taken), lt-leb _ _ (c .if2 .left))
 
--- src/lib.rt:122:1
 returns-3 : tie.Need-returns-3
 unfolding arcNext arcDue
 returns-3 c = rw (lt-leb _ _ (c .if1 .left))

@@ -1,22 +1,16 @@
-use borrow.Author.Needs.{needs}
-use borrow.Author.Tests.{lt-ltb, le-ltb, le-leb, lt-leb, eq-eqb, ne-eqb, not-true, not-false}
+use borrow.Author.Tests.{eq-eqb, ne-eqb}
 use Rattle.net_file.specs.Due.{ended}
 use Rattle.net_file.proofs.ended.Statement.{statement}
 use Rattle.net_file.proofs.ended.Tie as tie
-use Rattle.net_file.proofs.ended.Reads as reads
-use Rattle.net_file.proofs.ended.Lts as lts
 
--- src/lib.rt:207:1
 returns : tie.Need-returns
 unfolding ended
 returns c = simp (eq-eqb _ _ (c .before .before .if1 .taken), eq-eqb _ _ (c .if2 .taken))
 
--- src/lib.rt:207:1
 returns-2 : tie.Need-returns-2
 unfolding ended
 returns-2 c = simp (eq-eqb _ _ (c .before .before .if1 .taken), ne-eqb _ _ (c .if2 .left))
 
--- src/lib.rt:207:1
 returns-3 : tie.Need-returns-3
 unfolding ended
 returns-3 c = simp (ne-eqb _ _ (c .if1 .left))

@@ -1,22 +1,13 @@
 use borrow.Author.Needs.{needs}
-use mathlib.Core.Path.{_≡_, refl, ap, sym, _∙_}
-use borrow.Author.Tests.{lt-ltb, le-ltb, le-leb, lt-leb, eq-eqb, ne-eqb, not-true, not-false}
-use Prim.Native.Nat.{ℕ, _-_}
+use mathlib.Core.Path.{ap, sym, _∙_}
+use borrow.Author.Tests.{not-true, not-false}
+use Prim.Native.Nat.{_-_}
 use native.Mathlib.Omega.{arith}
 use lib.ListN.{length}
-use Rattle.effbd.specs.Answers.{said, refused}
+use Rattle.effbd.specs.Answers.{refused}
 use Rattle.net_file.proofs.Standing.{Stands, head-bad, head-fine, go-on, shrinks, stop, done, near-offset}
 use Rattle.net_file.proofs.read.Statement.{statement}
 use Rattle.net_file.proofs.read.Tie as tie
-use Rattle.net_file.proofs.read.Reads as reads
-use Rattle.net_file.proofs.read.Lts as lts
-use Rattle.net_file.proofs.ended.Reads as ended-reads
-use Rattle.net_file.proofs.fault.Reads as fault-reads
-use Rattle.net_file.proofs.head_fault.Reads as head-fault-reads
-use Rattle.net_file.proofs.next.Reads as next-reads
-use Rattle.net_file.proofs.start.Reads as start-reads
-use Rattle.words.proofs.tail.Reads as tail-reads
-use Rattle.words.proofs.word.Reads as word-reads
 
 abbrev Inv-loop : tie.InvT-loop
 Inv-loop net bad places transitions due₀ rest₀ due rest = Stands net rest places transitions due
@@ -24,51 +15,39 @@ Inv-loop net bad places transitions due₀ rest₀ due rest = Stands net rest pl
 abbrev μ-loop : tie.MeasureT-loop
 μ-loop net bad places transitions due₀ rest₀ due rest = length rest
 
--- src/lib.rt:218:9
 head-fault-requires : tie.Need-head-fault-requires Inv-loop μ-loop
 head-fault-requires c κs = search needs
 
--- src/lib.rt:220:9
 returns : tie.Need-returns Inv-loop μ-loop
 returns c = ap (λ k. refused k 0) (c .before .head-fault .ensures) ∙ head-bad (c .before .before .before .args .net .now) (λ q. c .if1 .taken (c .before .head-fault .ensures ∙ q))
 
--- src/lib.rt:222:9
 word-requires : tie.Need-word-requires Inv-loop μ-loop
 word-requires c κs = search needs
 
--- src/lib.rt:223:9
 word-requires-2 : tie.Need-word-requires-2 Inv-loop μ-loop
 word-requires-2 c κs = search needs
 
--- src/lib.rt:224:9
 start-requires : tie.Need-start-requires Inv-loop μ-loop
 start-requires c κs = search needs
 
--- src/lib.rt:225:9
 tail-requires : tie.Need-tail-requires Inv-loop μ-loop
 tail-requires c κs = search needs
 
--- src/lib.rt:226:5
 loop-holds : tie.Need-loop-holds Inv-loop μ-loop
 loop-holds c = head-fine (c .before .before .before .before .before .before .before .args .net .now) (c .tail .result .now) (c .before .before .before .word .result) (c .before .before .word2 .result) (c .before .start .result) (sym (c .before .before .before .before .before .head-fault .ensures) ∙ c .before .before .before .before .if1 .left) (c .before .before .before .word .ensures) (c .before .before .word2 .ensures) (c .before .start .ensures) (c .tail .ensures)
 
--- src/lib.rt:226:12
 ended-requires : tie.Need-ended-requires Inv-loop μ-loop
 ended-requires c κs = search needs
 
--- src/lib.rt:227:13
 fault-requires : tie.Need-fault-requires Inv-loop μ-loop
 fault-requires c κs = search needs
 
--- src/lib.rt:229:44
 sub-t15 : tie.Need-sub-t15 Inv-loop μ-loop
 sub-t15 c = let n = c .before .before .before .before .loop .inv .near .inside in omega arith
 
--- src/lib.rt:229:43
 cast-t16 : tie.Need-cast-t16 Inv-loop μ-loop
 cast-t16 c = let n = near-offset (length (c .before .before .before .before .before .before .before .before .before .before .before .before .args .net .now)) (c .before .before .before .before .loop .due) (c .before .before .before .before .loop .rest .now) (c .before .before .before .before .loop .inv .near) in omega arith
 
--- src/lib.rt:229:13
 returns-2 : tie.Need-returns-2 Inv-loop μ-loop
 returns-2 c =
     let l = c .before .before .before .before .loop in
@@ -76,30 +55,24 @@ returns-2 c =
     ∙ stop (c .before .before .before .before .before .before .before .before .before .before .before .before .args .net .now) (l .rest .now) (c .before .before .before .before .before .before .before .before .word .result) (c .before .before .before .before .before .before .before .word2 .result) (l .due) (l .inv)
     (sym (c .before .before .before .ended .ensures) ∙ not-true _ (c .before .before .if2 .taken)) (λ q. c .if3 .taken (c .before .fault .ensures ∙ q))
 
--- src/lib.rt:231:20
 word-requires-3 : tie.Need-word-requires-3 Inv-loop μ-loop
 word-requires-3 c κs = search needs
 
--- src/lib.rt:231:20
 cast-size : tie.Need-cast-size Inv-loop μ-loop
 cast-size c = search needs
 
--- src/lib.rt:232:9
 next-requires : tie.Need-next-requires Inv-loop μ-loop
 next-requires c κs = search needs
 
--- src/lib.rt:233:13
 tail-requires-2 : tie.Need-tail-requires-2 Inv-loop μ-loop
 tail-requires-2 c κs = search needs
 
--- src/lib.rt:226:5
 loop-less : tie.Need-loop-less Inv-loop μ-loop
 loop-less c =
     let l = c .before .before .before .before .before .before .before .loop in
     shrinks (c .before .before .before .before .before .before .before .before .before .before .before .before .before .before .before .args .net .now) (l .rest .now) (c .before .before .before .before .before .before .before .before .before .before .before .word .result) (c .before .before .before .before .before .before .before .before .before .before .word2 .result) (l .due) (l .inv)
     (c .before .before .word3 .result) (c .tail2 .result .now) (sym (c .before .before .before .before .fault .ensures) ∙ c .before .before .before .if3 .left) (c .before .before .word3 .ensures) (c .tail2 .ensures)
 
--- src/lib.rt:226:5
 loop-again : tie.Need-loop-again Inv-loop μ-loop
 loop-again c =
     let l = c .before .before .before .before .before .before .before .loop in
@@ -108,19 +81,15 @@ loop-again c =
     (sym (c .before .before .before .before .before .before .ended .ensures) ∙ not-true _ (c .before .before .before .before .before .if2 .taken)) (sym (c .before .before .before .before .fault .ensures) ∙ c .before .before .before .if3 .left)
     (c .before .before .word3 .ensures) (c .before .next .ensures) (c .tail2 .ensures)
 
--- src/lib.rt:236:22
 cast-t18 : tie.Need-cast-t18 Inv-loop μ-loop
 cast-t18 c = search needs
 
--- src/lib.rt:236:38
 cast-t19 : tie.Need-cast-t19 Inv-loop μ-loop
 cast-t19 c = search needs
 
--- src/lib.rt:236:22
 add-t20 : tie.Need-add-t20 Inv-loop μ-loop
 add-t20 c = search needs
 
--- src/lib.rt:215:1
 returns-3 : tie.Need-returns-3 Inv-loop μ-loop
 returns-3 c =
     let l = c .before .before .loop in

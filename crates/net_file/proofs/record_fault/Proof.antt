@@ -1,47 +1,35 @@
-use mathlib.Core.Path.{_≡_, refl, ap, sym, _∙_}
-use borrow.Author.Tests.{lt-ltb, le-ltb, le-leb, lt-leb, eq-eqb, ne-eqb, not-true, not-false}
+use borrow.Author.Tests.{lt-ltb, le-ltb}
 use Rattle.effbd.specs.Records.{faultAt}
 use borrow.Author.Needs.{needs}
 use Rattle.net_file.proofs.record_fault.Statement.{statement}
 use Rattle.net_file.proofs.record_fault.Tie as tie
-use Rattle.net_file.proofs.record_fault.Reads as reads
-use Rattle.net_file.proofs.record_fault.Lts as lts
-use Rattle.words.proofs.word.Reads as word-reads
 
--- src/lib.rt:52:9
 returns : tie.Need-returns
 unfolding faultAt
 returns c = rw (lt-ltb _ _ (c .if1 .taken))
 
--- src/lib.rt:55:9
 returns-2 : tie.Need-returns-2
 unfolding faultAt
 returns-2 c = rw (le-ltb _ _ (c .before .if1 .left), c .if2 .taken)
 
--- src/lib.rt:58:9
 returns-3 : tie.Need-returns-3
 unfolding faultAt
 returns-3 c = rw (le-ltb _ _ (c .before .before .if1 .left), c .before .if2 .left, c .if3 .taken)
 
--- src/lib.rt:60:21
 word-requires : tie.Need-word-requires
 word-requires c κs = search needs
 
--- src/lib.rt:60:21
 cast-if4 : tie.Need-cast-if4
 cast-if4 c = search needs
 
--- src/lib.rt:61:9
 returns-4 : tie.Need-returns-4
 unfolding faultAt
 returns-4 c = rw (le-ltb _ _ (c .before .before .before .before .if1 .left), c .before .before .before .if2 .left, c .before .before .if3 .left, ← c .before .word .ensures, lt-ltb _ _ (c .if4 .taken))
 
--- src/lib.rt:64:9
 returns-5 : tie.Need-returns-5
 unfolding faultAt
 returns-5 c = rw (le-ltb _ _ (c .before .before .before .before .before .if1 .left), c .before .before .before .before .if2 .left, c .before .before .before .if3 .left, ← c .before .before .word .ensures, le-ltb _ _ (c .before .if4 .left), c .if5 .taken)
 
--- src/lib.rt:48:1
 returns-6 : tie.Need-returns-6
 unfolding faultAt
 returns-6 c = rw (le-ltb _ _ (c .before .before .before .before .before .if1 .left), c .before .before .before .before .if2 .left, c .before .before .before .if3 .left, ← c .before .before .word .ensures, le-ltb _ _ (c .before .if4 .left), c .if5 .left)

@@ -1,22 +1,16 @@
-use borrow.Author.Needs.{needs}
-use borrow.Author.Tests.{lt-ltb, le-ltb, le-leb, lt-leb, eq-eqb, ne-eqb, not-true, not-false}
+use borrow.Author.Tests.{lt-ltb, le-ltb, le-leb, lt-leb}
 use Rattle.effbd.specs.Nets.{transitionFine}
 use Rattle.net_file.proofs.transition_fine.Statement.{statement}
 use Rattle.net_file.proofs.transition_fine.Tie as tie
-use Rattle.net_file.proofs.transition_fine.Reads as reads
-use Rattle.net_file.proofs.transition_fine.Lts as lts
 
--- src/lib.rt:103:1
 returns : tie.Need-returns
 unfolding transitionFine
 returns c = simp (le-leb _ _ (c .before .if1 .taken), lt-ltb _ _ (c .if2 .taken))
 
--- src/lib.rt:103:1
 returns-2 : tie.Need-returns-2
 unfolding transitionFine
 returns-2 c = simp (le-leb _ _ (c .before .if1 .taken), le-ltb _ _ (c .if2 .left))
 
--- src/lib.rt:103:1
 returns-3 : tie.Need-returns-3
 unfolding transitionFine
 returns-3 c = simp (lt-leb _ _ (c .if1 .left))

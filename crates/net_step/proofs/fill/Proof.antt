@@ -1,17 +1,14 @@
 use borrow.Author.Needs.{needs}
-use Prim.Native.Nat.{ℕ, suc, _+_, _-_, _*_, _≤_, _<_}
+use Prim.Native.Nat.{_-_, _≤_}
 use native.Mathlib.Omega.{arith}
-use mathlib.Core.Path.{_≡_, refl, ap, sym, _∙_}
-use lib.ListN.{length, take, drop, set, length-set}
-use mathlib.Core.List.{List, _++_}
+use mathlib.Core.Path.{_≡_, refl, _∙_}
+use lib.ListN.{length, drop, length-set}
+use mathlib.Core.List.{_++_}
 use Rattle.effbd.specs.Ranges.{tabulate}
 use Rattle.net_step.specs.Stepping.{freshWord}
 use Rattle.net_step.proofs.Loops.{front-more, front-all}
 use Rattle.net_step.proofs.fill.Statement.{statement}
 use Rattle.net_step.proofs.fill.Tie as tie
-use Rattle.net_step.proofs.fill.Reads as reads
-use Rattle.net_step.proofs.fill.Lts as lts
-use Rattle.net_step.proofs.fresh_word.Reads as fresh-word-reads
 
 abbrev Inv-loop : tie.InvT-loop
 Inv-loop net places state₀ i₀ state i = (i ≤ length state₀) × (length state ≡ length state₀) × (state ≡ tabulate i (freshWord net places) ++ drop i state₀)
@@ -19,41 +16,32 @@ Inv-loop net places state₀ i₀ state i = (i ≤ length state₀) × (length s
 abbrev μ-loop : tie.MeasureT-loop
 μ-loop net places state₀ i₀ state i = length state - i
 
--- src/lib.rt:233:5
 loop-holds : tie.Need-loop-holds Inv-loop μ-loop
 loop-holds c = (search needs, refl, refl)
 
--- src/lib.rt:234:20
 fresh-word-requires : tie.Need-fresh-word-requires Inv-loop μ-loop
 fresh-word-requires c κs = search needs
 
--- src/lib.rt:234:9
 mul-state : tie.Need-mul-state Inv-loop μ-loop
 mul-state c = search needs
 
--- src/lib.rt:234:9
 slice-write-state : tie.Need-slice-write-state Inv-loop μ-loop
 slice-write-state c = search needs
 
--- src/lib.rt:235:9
 add-i : tie.Need-add-i Inv-loop μ-loop
 add-i c = search needs
 
--- src/lib.rt:233:5
 loop-less : tie.Need-loop-less Inv-loop μ-loop
 loop-less c = rw length-set (omega arith)
 
--- src/lib.rt:233:5
 loop-again : tie.Need-loop-again Inv-loop μ-loop
 loop-again c =
     let l = c .before .before .loop in let a = c .before .before .before .before .before .args in
     (omega arith, simp length-set (l .inv .1), rw (c .fresh-word .ensures, l .inv .2) (front-more (a .state .now) (freshWord (a .net .now) (a .places)) (l .i) (omega arith)))
 
--- src/lib.rt:229:1
 same-length : tie.Need-same-length Inv-loop μ-loop
 same-length c = search needs
 
--- src/lib.rt:229:1
 returns : tie.Need-returns Inv-loop μ-loop
 returns c =
     let l = c .before .loop in let a = c .before .before .before .before .args in

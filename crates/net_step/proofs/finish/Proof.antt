@@ -1,7 +1,7 @@
-use Prim.Native.Nat.{ℕ, suc, _+_, _-_, _*_, _≤_, _<_}
+use Prim.Native.Nat.{ℕ, _≤_}
 use native.Mathlib.Omega.{arith}
-use mathlib.Core.Path.{_≡_, refl, ap, sym, _∙_}
-use lib.ListN.{length, take, drop, getD, length-take}
+use mathlib.Core.Path.{ap, _∙_}
+use lib.ListN.{length, drop}
 use mathlib.Core.List.{List, _++_}
 use Rattle.effbd.specs.Nets.{giveArc}
 use Rattle.net_step.specs.declared.Renewal.the-variants.{Fired}
@@ -12,49 +12,34 @@ use Rattle.net_step.specs.Stepping.{clocksBy, renewedClock}
 use borrow.Author.Needs.{needs}
 use Rattle.net_step.proofs.finish.Statement.{statement}
 use Rattle.net_step.proofs.finish.Tie as tie
-use Rattle.net_step.proofs.finish.Reads as reads
-use Rattle.net_step.proofs.finish.Lts as lts
-use Rattle.net_step.proofs.copy.Reads as copy-reads
-use Rattle.net_step.proofs.renew.Reads as renew-reads
-use Rattle.net_walk.proofs.apply.Reads as apply-reads
 
--- src/lib.rt:122:11
 mul-renew : tie.Need-mul-renew
 mul-renew c = search needs
 
--- src/lib.rt:122:11
 sub-renew : tie.Need-sub-renew
 sub-renew c = search needs
 
--- src/lib.rt:122:11
 part-renew-start : tie.Need-part-renew-start
 part-renew-start c = search needs
 
--- src/lib.rt:122:11
 part-renew-end : tie.Need-part-renew-end
 part-renew-end c = search needs
 
--- src/lib.rt:122:5
 renew-requires : tie.Need-renew-requires
 renew-requires c κs = search needs
 
--- src/lib.rt:123:5
 apply-requires : tie.Need-apply-requires
 apply-requires c κs = search needs
 
--- src/lib.rt:124:5
 copy-requires : tie.Need-copy-requires
 copy-requires c κs = search needs
 
--- src/lib.rt:117:1
 same-length : tie.Need-same-length
 same-length c = search needs
 
--- src/lib.rt:117:1
 same-length-2 : tie.Need-same-length-2
 same-length-2 c = search needs
 
--- src/lib.rt:117:1
 returns : tie.Need-returns
 returns c =
     let a = c .before .before .before .before .before .before .before .before .before .before .before .before .before .before .before .before .before .before .args in

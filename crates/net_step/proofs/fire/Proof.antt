@@ -1,9 +1,8 @@
-use Prim.Native.Nat.{ℕ, suc, _+_, _-_, _*_, _≤_, _<_}
-use native.Mathlib.Omega.{arith}
-use mathlib.Core.Path.{_≡_, refl, ap, sym, _∙_}
-use lib.ListN.{length, take, drop, getD, length-take}
-use mathlib.Core.List.{List, _++_}
-use Rattle.effbd.specs.Answers.{Outcome, accepted, refused, returningZero, afterwards}
+use Prim.Native.Nat.{_-_}
+use mathlib.Core.Path.{_≡_, ap, sym, _∙_}
+use lib.ListN.{length, drop}
+use mathlib.Core.List.{_++_}
+use Rattle.effbd.specs.Answers.{accepted, refused, returningZero, afterwards}
 use Rattle.effbd.specs.Nets.{giveArc}
 use Rattle.net_walk.specs.declared.Sums.the-variants.{Fit, Over}
 use Rattle.net_step.proofs.Cases.{fire-late, fire-on, mid-is, sums-of, fire-done}
@@ -13,40 +12,25 @@ use Rattle.net_step.specs.Stepping.{firedWords, clocksBy, keptClock}
 use borrow.Author.Needs.{needs}
 use Rattle.net_step.proofs.fire.Statement.{statement}
 use Rattle.net_step.proofs.fire.Tie as tie
-use Rattle.net_step.proofs.fire.Reads as reads
-use Rattle.net_step.proofs.fire.Lts as lts
-use Rattle.net_step.proofs.finish.Reads as finish-reads
-use Rattle.net_walk.proofs.apply.Reads as apply-reads
-use Rattle.net_walk.proofs.sums_fit.Reads as sums-fit-reads
-use Rattle.words.proofs.get.Reads as get-reads
-use Rattle.words.proofs.tail.Reads as tail-reads
-use Rattle.words.proofs.word.Reads as word-reads
 
--- src/lib.rt:133:35
 add-get : tie.Need-add-get
 add-get c = search needs
 
--- src/lib.rt:133:9
 get-requires : tie.Need-get-requires
 get-requires c κs = search needs
 
--- src/lib.rt:134:9
 word-requires : tie.Need-word-requires
 word-requires c κs = search needs
 
--- src/lib.rt:136:37
 sub-t18 : tie.Need-sub-t18
 sub-t18 c = search needs
 
--- src/lib.rt:136:36
 cast-t19 : tie.Need-cast-t19
 cast-t19 c = search needs
 
--- src/lib.rt:136:9
 same-length : tie.Need-same-length
 same-length c = search needs
 
--- src/lib.rt:136:9
 returns : tie.Need-returns
 unfolding transitionIn
 returns c =
@@ -55,47 +39,36 @@ returns c =
     fire-late (transitionsIn (a .count) (a .transitions .now)) (a .j) (transitionIn (a .part .now)) (a .marks .now) (a .state .now) (length (a .marks .now)) (c .before .before .get .result) (c .before .word .result) (c .before .before .get .ensures) (c .before .word .ensures) (c .if1 .taken) in
     (sym (ap returningZero e), sym (ap (afterwards (a .state .now)) e))
 
--- src/lib.rt:138:9
 tail-requires : tie.Need-tail-requires
 tail-requires c κs = search needs
 
--- src/lib.rt:139:5
 apply-requires : tie.Need-apply-requires
 apply-requires c κs = search needs
 
--- src/lib.rt:140:5
 apply-requires-2 : tie.Need-apply-requires-2
 apply-requires-2 c κs = search needs
 
--- src/lib.rt:141:9
 sums-fit-requires : tie.Need-sums-fit-requires
 sums-fit-requires c κs = search needs
 
--- src/lib.rt:143:20
 enum-known-fit : tie.Need-enum-known-fit
 enum-known-fit c = search needs
 
--- src/lib.rt:143:50
 cast-t28 : tie.Need-cast-t28
 cast-t28 c = search needs
 
--- src/lib.rt:145:20
 enum-told : tie.Need-enum-told
 enum-told c = search needs
 
--- src/lib.rt:145:13
 finish-requires : tie.Need-finish-requires
 finish-requires c κs = search needs
 
--- src/lib.rt:128:1
 same-length-2 : tie.Need-same-length-2
 same-length-2 c = search needs
 
--- src/lib.rt:128:1
 same-length-3 : tie.Need-same-length-3
 same-length-3 c = search needs
 
--- src/lib.rt:128:1
 returns-2 : tie.Need-returns-2
 unfolding transitionIn
 returns-2 c =
@@ -108,15 +81,12 @@ returns-2 c =
     (sym (c .before .fit .given .1) ∙ sums-of (a .part .now) arcs (a .marks .now) mid (c .before .before .before .before .before .before .before .before .before .before .before .before .before .tail .ensures) (c .before .before .before .sums-fit .result) (c .before .before .before .sums-fit .ensures)) in
     (sym (ap returningZero e), sym (ap (afterwards (a .state .now)) e))
 
--- src/lib.rt:128:1
 same-length-4 : tie.Need-same-length-4
 same-length-4 c = search needs
 
--- src/lib.rt:128:1
 same-length-5 : tie.Need-same-length-5
 same-length-5 c = search needs
 
--- src/lib.rt:128:1
 returns-3 : tie.Need-returns-3
 unfolding transitionIn
 returns-3 c =

@@ -1,31 +1,22 @@
-use mathlib.Core.Path.{_≡_, refl, ap, sym, _∙_}
-use borrow.Author.Tests.{lt-ltb, le-ltb, le-leb, lt-leb, eq-eqb, ne-eqb, not-true, not-false}
+use borrow.Author.Tests.{lt-ltb, le-ltb}
 use Rattle.net_step.specs.Stepping.{freshWord}
 use borrow.Author.Needs.{needs}
 use Rattle.net_step.proofs.fresh_word.Statement.{statement}
 use Rattle.net_step.proofs.fresh_word.Tie as tie
-use Rattle.net_step.proofs.fresh_word.Reads as reads
-use Rattle.net_step.proofs.fresh_word.Lts as lts
-use Rattle.words.proofs.word.Reads as word-reads
 
--- src/lib.rt:224:38
 mul-word : tie.Need-mul-word
 mul-word c = search needs
 
--- src/lib.rt:224:33
 add-word : tie.Need-add-word
 add-word c = search needs
 
--- src/lib.rt:224:9
 word-requires : tie.Need-word-requires
 word-requires c κs = search needs
 
--- src/lib.rt:224:9
 returns : tie.Need-returns
 unfolding freshWord
 returns c = rw (lt-ltb _ _ (c .before .if1 .taken)) (c .word .ensures)
 
--- src/lib.rt:220:1
 returns-2 : tie.Need-returns-2
 unfolding freshWord
 returns-2 c = rw (le-ltb _ _ (c .if1 .left))

@@ -1,8 +1,8 @@
 use borrow.Author.Needs.{needs}
-use Prim.Native.Nat.{ℕ, suc, _+_, _-_, _*_, _≤_, _<_}
+use Prim.Native.Nat.{ℕ, _-_, _≤_}
 use native.Mathlib.Omega.{arith}
-use mathlib.Core.Path.{_≡_, refl, ap, sym, _∙_}
-use lib.ListN.{length, drop, getD, length-drop}
+use mathlib.Core.Path.{_≡_, ap, sym, _∙_}
+use lib.ListN.{drop, getD}
 use native.Mathlib.Nat.{sub-zero}
 use mathlib.Core.List.{List}
 use Rattle.net_step.proofs.Loops.{tail-is, held-go, held-stop, held-end}
@@ -10,11 +10,6 @@ use Rattle.net_file.specs.Contents.{transitionsIn, transitionIn}
 use Rattle.net_step.specs.Stepping.{waitHeld, holdsWait}
 use Rattle.net_step.proofs.held.Statement.{statement}
 use Rattle.net_step.proofs.held.Tie as tie
-use Rattle.net_step.proofs.held.Reads as reads
-use Rattle.net_step.proofs.held.Lts as lts
-use Rattle.net_step.proofs.holds.Reads as holds-reads
-use Rattle.net_walk.proofs.after.Reads as after-reads
-use Rattle.words.proofs.get.Reads as get-reads
 
 abbrev Inv-loop : tie.InvT-loop
 Inv-loop state places ticks marks transitions count clocks rest₀ x₀ rest x = (x ≤ count) × (clocks ≡ drop places state) × (waitHeld ticks marks x (transitionsIn (count - x) rest) (drop places state) ≡ waitHeld ticks marks 0 (transitionsIn count transitions) (drop places state))
@@ -22,58 +17,45 @@ Inv-loop state places ticks marks transitions count clocks rest₀ x₀ rest x =
 abbrev μ-loop : tie.MeasureT-loop
 μ-loop state places ticks marks transitions count clocks rest₀ x₀ rest x = count - x
 
--- src/lib.rt:102:18
 mul-clocks : tie.Need-mul-clocks Inv-loop μ-loop
 mul-clocks c = search needs
 
--- src/lib.rt:102:18
 sub-clocks : tie.Need-sub-clocks Inv-loop μ-loop
 sub-clocks c = search needs
 
--- src/lib.rt:102:18
 part-clocks-start : tie.Need-part-clocks-start Inv-loop μ-loop
 part-clocks-start c = search needs
 
--- src/lib.rt:102:18
 part-clocks-end : tie.Need-part-clocks-end Inv-loop μ-loop
 part-clocks-end c = search needs
 
--- src/lib.rt:105:5
 loop-holds : tie.Need-loop-holds Inv-loop μ-loop
 loop-holds c = let a = c .before .before .before .before .args in (search needs, tail-is (a .places) (a .state .now), rw sub-zero)
 
--- src/lib.rt:106:57
 cast-get : tie.Need-cast-get Inv-loop μ-loop
 cast-get c = search needs
 
--- src/lib.rt:106:38
 get-requires : tie.Need-get-requires Inv-loop μ-loop
 get-requires c κs = search needs
 
--- src/lib.rt:106:12
 holds-requires : tie.Need-holds-requires Inv-loop μ-loop
 holds-requires c κs = search needs
 
--- src/lib.rt:107:13
 returns : tie.Need-returns Inv-loop μ-loop
 returns c =
     let l = c .before .before .before .before .loop in let a = c .before .before .before .before .before .before .before .before .before .args in
     sym (held-stop (a .ticks) (a .marks .now) (a .count) (l .x) (l .rest .now) (drop (a .places) (a .state .now)) (c .before .before .before .loop-test .taken)
     (ap (λ (o : ℕ). holdsWait (a .ticks) (a .marks .now) (transitionIn (l .rest .now)) o) (sym (c .before .before .get .ensures ∙ ap (λ (q : List ℕ). getD q (l .x) 0) (l .inv .1))) ∙ sym (c .before .holds .ensures) ∙ c .if1 .taken)) ∙ l .inv .2
 
--- src/lib.rt:109:13
 after-requires : tie.Need-after-requires Inv-loop μ-loop
 after-requires c κs = search needs
 
--- src/lib.rt:111:9
 add-x : tie.Need-add-x Inv-loop μ-loop
 add-x c = search needs
 
--- src/lib.rt:105:5
 loop-less : tie.Need-loop-less Inv-loop μ-loop
 loop-less c = omega arith
 
--- src/lib.rt:105:5
 loop-again : tie.Need-loop-again Inv-loop μ-loop
 loop-again c =
     let l = c .before .before .before .before .before .loop in let a = c .before .before .before .before .before .before .before .before .before .before .args in (
@@ -83,7 +65,6 @@ loop-again c =
           (ap (λ (o : ℕ). holdsWait (a .ticks) (a .marks .now) (transitionIn (l .rest .now)) o) (sym (c .before .before .before .get .ensures ∙ ap (λ (q : List ℕ). getD q (l .x) 0) (l .inv .1))) ∙ sym (c .before .before .holds .ensures) ∙ c .before .if1 .left)) ∙ l .inv .2),
     )
 
--- src/lib.rt:98:1
 returns-2 : tie.Need-returns-2 Inv-loop μ-loop
 returns-2 c =
     let l = c .before .loop in let a = c .before .before .before .before .before .before .args in

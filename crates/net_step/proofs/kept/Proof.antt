@@ -1,34 +1,24 @@
-use mathlib.Core.Path.{_≡_, refl, ap, sym, _∙_}
-use borrow.Author.Tests.{lt-ltb, le-ltb, le-leb, lt-leb, eq-eqb, ne-eqb, not-true, not-false}
+use borrow.Author.Tests.{eq-eqb, ne-eqb}
 use Rattle.net_file.specs.Contents.{transitionIn}
 use Rattle.net_step.specs.Stepping.{keptClock}
 use borrow.Author.Needs.{needs}
 use Rattle.net_step.proofs.kept.Statement.{statement}
 use Rattle.net_step.proofs.kept.Tie as tie
-use Rattle.net_step.proofs.kept.Reads as reads
-use Rattle.net_step.proofs.kept.Lts as lts
-use Rattle.net_walk.proofs.covers.Reads as covers-reads
-use Rattle.words.proofs.tail.Reads as tail-reads
 
--- src/lib.rt:43:9
 returns : tie.Need-returns
 unfolding keptClock
 returns c = simp (eq-eqb _ _ (c .if1 .taken))
 
--- src/lib.rt:45:32
 tail-requires : tie.Need-tail-requires
 tail-requires c κs = search needs
 
--- src/lib.rt:45:8
 covers-requires : tie.Need-covers-requires
 covers-requires c κs = search needs
 
--- src/lib.rt:46:9
 returns-2 : tie.Need-returns-2
 unfolding keptClock transitionIn
 returns-2 c = rw (ne-eqb _ _ (c .before .before .before .if1 .left), ← c .before .before .tail .ensures, ← c .before .covers .ensures, c .if2 .taken)
 
--- src/lib.rt:39:1
 returns-3 : tie.Need-returns-3
 unfolding keptClock transitionIn
 returns-3 c = rw (ne-eqb _ _ (c .before .before .before .if1 .left), ← c .before .before .tail .ensures, ← c .before .covers .ensures, c .if2 .left)

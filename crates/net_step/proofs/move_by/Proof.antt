@@ -1,43 +1,32 @@
-use Prim.Native.Nat.{ℕ, suc, _+_, _-_, _*_, _≤_, _<_}
+use Prim.Native.Nat.{ℕ}
 use native.Mathlib.Omega.{arith}
-use mathlib.Core.Path.{_≡_, refl, ap, sym, _∙_}
-use lib.ListN.{length, take, drop, getD, length-take}
-use Rattle.effbd.specs.Answers.{Outcome, accepted, refused, returningZero, afterwards}
+use mathlib.Core.Path.{refl, ap, sym, _∙_}
+use lib.ListN.{length, take, drop}
+use Rattle.effbd.specs.Answers.{returningZero, afterwards}
 use Rattle.net_step.proofs.Cases.{copied, move-step, move-wait, move-none}
 use Rattle.net_file.specs.Contents.{transitionsIn}
 use borrow.Author.Needs.{needs}
 use Rattle.net_step.proofs.move_by.Statement.{statement}
 use Rattle.net_step.proofs.move_by.Tie as tie
-use Rattle.net_step.proofs.move_by.Reads as reads
-use Rattle.net_step.proofs.move_by.Lts as lts
-use Rattle.net_step.proofs.copy.Reads as copy-reads
-use Rattle.net_step.proofs.step_label.Reads as step-label-reads
-use Rattle.net_step.proofs.wait_ticks.Reads as wait-ticks-reads
 
--- src/lib.rt:189:5
 copy-requires : tie.Need-copy-requires
 copy-requires c κs = search needs
 
--- src/lib.rt:191:14
 step-label-requires : tie.Need-step-label-requires
 step-label-requires c κs = search needs
 
--- src/lib.rt:192:14
 wait-ticks-requires : tie.Need-wait-ticks-requires
 wait-ticks-requires c κs =
     let a = c .before .before .before .before .before .before .before .before .before .before .before .args in
     let k = c .before .before .before .before .before .copy in
     (omega (arith, k .kept .0, c .before .before .before .before .before .before .before .before .before .before .before .pre), copied (length (a .marks .now)) (a .marks .now) (a .state .now) (k .last .0) refl (k .ensures) ∙ ap (λ (q : ℕ). take q (a .state .now)) (sym (k .kept .0)))
 
--- src/lib.rt:183:1
 same-length : tie.Need-same-length
 same-length c = search needs
 
--- src/lib.rt:183:1
 same-length-2 : tie.Need-same-length-2
 same-length-2 c = search needs
 
--- src/lib.rt:183:1
 returns : tie.Need-returns
 returns c =
     let a = c .before .before .before .before .before .before .before .before .before .before .before .before .before .before .before .before .args in
@@ -45,15 +34,12 @@ returns c =
     let e = move-step (transitionsIn (a .count) (a .transitions .now)) (a .code) (a .argument) (length (a .marks .now)) (k .last .0) (a .state .now) (copied (length (a .marks .now)) (a .marks .now) (a .state .now) (k .last .0) refl (k .ensures)) (k .kept .0) (c .before .before .before .before .before .before .before .match .keys1) in
     (c .before .before .before .before .step-label .ensures .0 ∙ ap returningZero e, c .before .before .before .before .step-label .ensures .1 ∙ ap (afterwards (a .state .now)) e)
 
--- src/lib.rt:183:1
 same-length-3 : tie.Need-same-length-3
 same-length-3 c = search needs
 
--- src/lib.rt:183:1
 same-length-4 : tie.Need-same-length-4
 same-length-4 c = search needs
 
--- src/lib.rt:183:1
 returns-2 : tie.Need-returns-2
 returns-2 c =
     let a = c .before .before .before .before .before .before .before .before .before .before .before .before .before .before .args in
@@ -61,15 +47,12 @@ returns-2 c =
     let e = move-wait (transitionsIn (a .count) (a .transitions .now)) (a .code) (a .argument) (length (a .marks .now)) (k .last .0) (a .state .now) (copied (length (a .marks .now)) (a .marks .now) (a .state .now) (k .last .0) refl (k .ensures)) (k .kept .0) (c .before .before .before .before .before .match .keys2) in
     (c .before .before .wait-ticks .ensures .0 ∙ ap returningZero e, c .before .before .wait-ticks .ensures .1 ∙ ap (afterwards (a .state .now)) e)
 
--- src/lib.rt:183:1
 same-length-5 : tie.Need-same-length-5
 same-length-5 c = search needs
 
--- src/lib.rt:183:1
 same-length-6 : tie.Need-same-length-6
 same-length-6 c = search needs
 
--- src/lib.rt:183:1
 returns-3 : tie.Need-returns-3
 returns-3 c =
     let a = c .before .before .before .before .before .before .before .before .before .args in

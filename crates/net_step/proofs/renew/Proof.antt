@@ -1,18 +1,12 @@
 use borrow.Author.Needs.{needs}
-use Prim.Native.Nat.{ℕ, suc, _+_, _-_, _*_, _≤_, _<_}
+use Prim.Native.Nat.{_-_}
 use native.Mathlib.Omega.{arith}
-use mathlib.Core.Path.{_≡_, refl, ap, sym, _∙_}
-use lib.ListN.{length, drop, getD, length-drop}
+use mathlib.Core.Path.{_≡_, refl, _∙_}
+use lib.ListN.{length}
 use Rattle.net_step.proofs.Loops.{Written, write-none, write-go, write-end}
 use Rattle.net_step.specs.Stepping.{renewedClock}
 use Rattle.net_step.proofs.renew.Statement.{statement}
 use Rattle.net_step.proofs.renew.Tie as tie
-use Rattle.net_step.proofs.renew.Reads as reads
-use Rattle.net_step.proofs.renew.Lts as lts
-use Rattle.net_step.proofs.renewed.Reads as renewed-reads
-use Rattle.net_walk.proofs.after.Reads as after-reads
-use Rattle.words.proofs.get.Reads as get-reads
-use Rattle.words.proofs.put.Reads as put-reads
 
 abbrev Inv-loop : tie.InvT-loop
 Inv-loop clocks₀ how marks transitions count rest₀ x₀ clocks rest x = (length clocks ≡ length clocks₀) × Written (renewedClock how marks) count transitions clocks₀ clocks rest x
@@ -20,43 +14,33 @@ Inv-loop clocks₀ how marks transitions count rest₀ x₀ clocks rest x = (len
 abbrev μ-loop : tie.MeasureT-loop
 μ-loop clocks₀ how marks transitions count rest₀ x₀ clocks rest x = count - x
 
--- src/lib.rt:81:5
 loop-holds : tie.Need-loop-holds Inv-loop μ-loop
 loop-holds c = let a = c .before .before .before .args in (refl, write-none (renewedClock (a .how) (a .marks .now)) (a .count) (a .transitions .now) (a .clocks .now))
 
--- src/lib.rt:82:69
 cast-get : tie.Need-cast-get Inv-loop μ-loop
 cast-get c = search needs
 
--- src/lib.rt:82:50
 get-requires : tie.Need-get-requires Inv-loop μ-loop
 get-requires c κs = search needs
 
--- src/lib.rt:82:13
 renewed-requires : tie.Need-renewed-requires Inv-loop μ-loop
 renewed-requires c κs = search needs
 
--- src/lib.rt:83:28
 cast-put : tie.Need-cast-put Inv-loop μ-loop
 cast-put c = search needs
 
--- src/lib.rt:83:9
 put-requires : tie.Need-put-requires Inv-loop μ-loop
 put-requires c κs = search needs
 
--- src/lib.rt:84:13
 after-requires : tie.Need-after-requires Inv-loop μ-loop
 after-requires c κs = search needs
 
--- src/lib.rt:86:9
 add-x : tie.Need-add-x Inv-loop μ-loop
 add-x c = search needs
 
--- src/lib.rt:81:5
 loop-less : tie.Need-loop-less Inv-loop μ-loop
 loop-less c = omega arith
 
--- src/lib.rt:81:5
 loop-again : tie.Need-loop-again Inv-loop μ-loop
 loop-again c =
     let l = c .before .before .before .before .before .before .before .before .before .loop in let a = c .before .before .before .before .before .before .before .before .before .before .before .before .before .args in (
@@ -66,11 +50,9 @@ loop-again c =
           (c .before .before .before .before .before .before .get .ensures) (c .before .before .before .before .before .renewed .ensures) (c .before .before .before .put .ensures) (c .after .ensures),
     )
 
--- src/lib.rt:75:1
 same-length : tie.Need-same-length Inv-loop μ-loop
 same-length c = search needs
 
--- src/lib.rt:75:1
 returns : tie.Need-returns Inv-loop μ-loop
 returns c =
     let l = c .before .loop in let a = c .before .before .before .before .before .args in

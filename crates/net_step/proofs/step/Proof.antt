@@ -1,39 +1,28 @@
-use Prim.Native.Nat.{ℕ, suc, _+_, _-_, _*_, _≤_, _<_}
+use Prim.Native.Nat.{_-_}
 use native.Mathlib.Omega.{arith}
-use mathlib.Core.Path.{_≡_, refl, ap, sym, _∙_}
+use mathlib.Core.Path.{_≡_, ap, sym, _∙_}
 use Prim.Native.Nat.{min}
-use lib.ListN.{length, take, drop, getD, length-take}
-use Rattle.effbd.specs.Answers.{Outcome, accepted, refused, returningZero, afterwards}
+use lib.ListN.{length-take}
+use Rattle.effbd.specs.Answers.{returningZero, afterwards}
 use Rattle.effbd.specs.Answers.{said}
 use Rattle.net_walk.proofs.Effects.{Words}
-use Rattle.net_step.proofs.Calls.{Read, read-of, step-refused, step-length, step-moves}
+use Rattle.net_step.proofs.Calls.{read-of, step-refused, step-length, step-moves}
 use borrow.Author.Needs.{needs}
 use Rattle.net_step.proofs.step.Statement.{statement}
 use Rattle.net_step.proofs.step.Tie as tie
-use Rattle.net_step.proofs.step.Reads as reads
-use Rattle.net_step.proofs.step.Lts as lts
-use Rattle.net_file.proofs.read.Reads as read-reads
-use Rattle.net_step.proofs.move_by.Reads as move-by-reads
-use Rattle.words.proofs.tail.Reads as tail-reads
-use Rattle.words.proofs.word.Reads as word-reads
 
--- src/lib.rt:203:9
 read-requires : tie.Need-read-requires
 read-requires c κs = search needs
 
--- src/lib.rt:205:25
 enum-known-read : tie.Need-enum-known-read
 enum-known-read c = search needs
 
--- src/lib.rt:206:26
 enum-known-read-2 : tie.Need-enum-known-read-2
 enum-known-read-2 c = search needs
 
--- src/lib.rt:207:31
 cast-if1 : tie.Need-cast-if1
 cast-if1 c = search needs
 
--- src/lib.rt:208:17
 returns : tie.Need-returns
 returns c =
     let a = c .before .before .before .before .before .before .before .args in
@@ -41,64 +30,51 @@ returns c =
     let e = step-length (a .net .now) (a .state .now) (c .before .before .read3 .given .0 .0) r (a .code) (a .argument) (c .if1 .taken) in
     (sym (ap returningZero e), sym (ap (afterwards (a .state .now)) e))
 
--- src/lib.rt:210:26
 word-requires : tie.Need-word-requires
 word-requires c κs = search needs
 
--- src/lib.rt:210:26
 cast-places : tie.Need-cast-places
 cast-places c = search needs
 
--- src/lib.rt:211:17
 word-requires-2 : tie.Need-word-requires-2
 word-requires-2 c κs = search needs
 
--- src/lib.rt:212:52
 mul-tail : tie.Need-mul-tail
 mul-tail c = search needs
 
--- src/lib.rt:212:48
 add-tail : tie.Need-add-tail
 add-tail c = search needs
 
--- src/lib.rt:212:17
 tail-requires : tie.Need-tail-requires
 tail-requires c κs = search needs
 
--- src/lib.rt:214:21
 sub-move-by : tie.Need-sub-move-by
 sub-move-by c = search needs
 
--- src/lib.rt:214:21
 part-marks-start : tie.Need-part-marks-start
 part-marks-start c = search needs
 
--- src/lib.rt:214:21
 part-marks-end : tie.Need-part-marks-end
 part-marks-end c =
     let a = c .before .before .before .before .before .before .before .before .before .before .args in
     let r = read-of (a .net .now) (c .before .before .before .before .before .read3 .given .0 .0) (ap said (sym (c .before .before .before .before .before .read3 .given .1)) ∙ c .before .before .before .before .before .before .before .read .ensures) in
     omega (arith, r .holds .head .places, c .before .before .word .ensures)
 
--- src/lib.rt:214:13
 move-by-requires : tie.Need-move-by-requires
 move-by-requires c κs =
     let a = c .before .before .before .before .before .before .before .before .before .before .before .before .args in
     let r = read-of (a .net .now) (c .before .before .before .before .before .before .before .read3 .given .0 .0) (ap said (sym (c .before .before .before .before .before .before .before .read3 .given .1)) ∙ c .before .before .before .before .before .before .before .before .before .read .ensures) in
     rw length-take (omega (arith, r .holds .head .places, r .adds, c .before .before .before .before .before .if1 .left, c .before .before .before .before .word .ensures, c .before .before .before .word2 .ensures))
 
--- src/lib.rt:199:1
 returns-2 : tie.Need-returns-2
 returns-2 c =
     let a = c .before .before .before .before .before .before .args in
     let e = step-refused (a .net .now) (a .state .now) (a .code) (a .argument) (c .before .read2 .given .0 .0) (c .before .read2 .given .0 .1 .0) (ap said (sym (c .before .read2 .given .1)) ∙ c .before .before .before .read .ensures) in
     (sym (ap returningZero e), sym (ap (afterwards (a .state .now)) e))
 
--- src/lib.rt:199:1
 same-length : tie.Need-same-length
 same-length c = search needs
 
--- src/lib.rt:199:1
 returns-3 : tie.Need-returns-3
 returns-3 c =
     let a = c .before .before .before .before .before .before .before .before .before .before .before .before .before .before .before .before .args in

@@ -1,27 +1,19 @@
-use mathlib.Core.Path.{_≡_, refl, ap, sym, _∙_}
-use lib.ListN.{length, take, drop, getD, length-take}
-use Rattle.effbd.specs.Answers.{Outcome, accepted, refused, returningZero, afterwards}
+use mathlib.Core.Path.{_≡_, ap, sym, _∙_}
+use lib.ListN.{length, drop}
+use Rattle.effbd.specs.Answers.{refused, returningZero, afterwards}
 use Rattle.net_step.proofs.Cases.{step-none, step-some}
 use Rattle.net_file.specs.Contents.{transitionsIn}
 use Rattle.net_step.specs.Stepping.{steppedWords}
 use borrow.Author.Needs.{needs}
 use Rattle.net_step.proofs.step_label.Statement.{statement}
 use Rattle.net_step.proofs.step_label.Tie as tie
-use Rattle.net_step.proofs.step_label.Reads as reads
-use Rattle.net_step.proofs.step_label.Lts as lts
-use Rattle.net_step.proofs.fire.Reads as fire-reads
-use Rattle.net_walk.proofs.lowest.Reads as lowest-reads
-use Rattle.net_walk.proofs.part_at.Reads as part-at-reads
 
--- src/lib.rt:157:9
 lowest-requires : tie.Need-lowest-requires
 lowest-requires c κs = search needs
 
--- src/lib.rt:159:9
 same-length : tie.Need-same-length
 same-length c = search needs
 
--- src/lib.rt:159:9
 returns : tie.Need-returns
 returns c =
     let a = c .before .before .before .before .before .before .args in
@@ -29,23 +21,18 @@ returns c =
     step-none (a .count) (c .before .lowest .result) (a .transitions .now) (a .marks .now) (drop (length (a .marks .now)) (a .state .now)) (a .label) (c .before .lowest .ensures) (c .if1 .taken) in
     (sym (ap returningZero e), sym (ap (afterwards (a .state .now)) e))
 
--- src/lib.rt:161:9
 part-at-requires : tie.Need-part-at-requires
 part-at-requires c κs = search needs
 
--- src/lib.rt:162:5
 fire-requires : tie.Need-fire-requires
 fire-requires c κs = search needs
 
--- src/lib.rt:152:1
 same-length-2 : tie.Need-same-length-2
 same-length-2 c = search needs
 
--- src/lib.rt:152:1
 same-length-3 : tie.Need-same-length-3
 same-length-3 c = search needs
 
--- src/lib.rt:152:1
 returns-2 : tie.Need-returns-2
 returns-2 c =
     let a = c .before .before .before .before .before .before .before .before .before .before .before .before .before .before .args in

@@ -1,9 +1,9 @@
-use Prim.Native.Nat.{ℕ, suc, _+_, _-_, _*_, _≤_, _<_}
+use Prim.Native.Nat.{ℕ, _≤_}
 use native.Mathlib.Omega.{arith}
-use mathlib.Core.Path.{_≡_, refl, ap, sym, _∙_}
-use lib.ListN.{length, take, drop, getD, length-take}
+use mathlib.Core.Path.{ap, sym, _∙_}
+use lib.ListN.{length, take, drop}
 use mathlib.Core.List.{List, _++_}
-use Rattle.effbd.specs.Answers.{Outcome, accepted, refused, returningZero, afterwards}
+use Rattle.effbd.specs.Answers.{returningZero, afterwards}
 use Rattle.net_step.specs.declared.Renewal.the-variants.{Waited}
 use Rattle.net_step.proofs.Loops.{tail-is}
 use Rattle.net_step.proofs.Cases.{tail-put, wait-zero, wait-held, wait-free}
@@ -12,58 +12,43 @@ use Rattle.net_step.specs.Stepping.{clocksBy, renewedClock}
 use borrow.Author.Needs.{needs}
 use Rattle.net_step.proofs.wait_ticks.Statement.{statement}
 use Rattle.net_step.proofs.wait_ticks.Tie as tie
-use Rattle.net_step.proofs.wait_ticks.Reads as reads
-use Rattle.net_step.proofs.wait_ticks.Lts as lts
-use Rattle.net_step.proofs.held.Reads as held-reads
-use Rattle.net_step.proofs.renew.Reads as renew-reads
 
--- src/lib.rt:172:9
 returns : tie.Need-returns
 returns c =
     let a = c .before .before .before .before .args in
     let e = wait-zero (transitionsIn (a .count) (a .transitions .now)) (a .ticks) (a .marks .now) (drop (length (a .marks .now)) (a .state .now)) (c .if1 .taken) in
     (sym (ap returningZero e), sym (ap (afterwards (a .state .now)) e))
 
--- src/lib.rt:175:8
 held-requires : tie.Need-held-requires
 held-requires c κs = search needs
 
--- src/lib.rt:176:9
 same-length : tie.Need-same-length
 same-length c = search needs
 
--- src/lib.rt:176:9
 returns-2 : tie.Need-returns-2
 returns-2 c =
     let a = c .before .before .before .before .before .before .before .args in
     let e = wait-held (transitionsIn (a .count) (a .transitions .now)) (a .ticks) (a .marks .now) (drop (length (a .marks .now)) (a .state .now)) (c .before .before .before .if1 .left) (sym (c .before .held .ensures) ∙ c .if2 .taken) in
     (sym (ap returningZero e), sym (ap (afterwards (a .state .now)) e))
 
--- src/lib.rt:178:11
 mul-renew : tie.Need-mul-renew
 mul-renew c = search needs
 
--- src/lib.rt:178:11
 sub-renew : tie.Need-sub-renew
 sub-renew c = search needs
 
--- src/lib.rt:178:11
 part-renew-start : tie.Need-part-renew-start
 part-renew-start c = search needs
 
--- src/lib.rt:178:11
 part-renew-end : tie.Need-part-renew-end
 part-renew-end c = search needs
 
--- src/lib.rt:178:5
 renew-requires : tie.Need-renew-requires
 renew-requires c κs = search needs
 
--- src/lib.rt:166:1
 same-length-2 : tie.Need-same-length-2
 same-length-2 c = search needs
 
--- src/lib.rt:166:1
 returns-3 : tie.Need-returns-3
 returns-3 c =
     let a = c .before .before .before .before .before .before .before .before .before .before .before .args in

@@ -1,5 +1,5 @@
 use borrow.Author.Needs.{needs}
-use lib.ListN.{length, drop, getD, length-drop}
+use lib.ListN.{length, length-drop}
 use native.Mathlib.Omega.{arith}
 use mathlib.Core.Path.{_≡_, refl, ap, sym, _∙_}
 use Rattle.net_walk.proofs.Turns.{applied-go, applied-end}
@@ -8,11 +8,6 @@ use Rattle.net_file.proofs.Walks.{here-long}
 use Rattle.net_file.specs.Contents.{arcsIn}
 use Rattle.net_walk.proofs.apply.Statement.{statement}
 use Rattle.net_walk.proofs.apply.Tie as tie
-use Rattle.net_walk.proofs.apply.Reads as reads
-use Rattle.net_walk.proofs.apply.Lts as lts
-use Rattle.net_walk.proofs.arc_here.Reads as arc-here-reads
-use Rattle.net_walk.proofs.change_if.Reads as change-if-reads
-use Rattle.words.proofs.tail.Reads as tail-reads
 
 abbrev Inv-loop : tie.InvT-loop
 Inv-loop marks₀ kind arcs rest₀ marks rest = (length marks ≡ length marks₀) × (applied kind (arcsIn rest) marks ≡ applied kind (arcsIn arcs) marks₀)
@@ -20,29 +15,23 @@ Inv-loop marks₀ kind arcs rest₀ marks rest = (length marks ≡ length marks�
 abbrev μ-loop : tie.MeasureT-loop
 μ-loop marks₀ kind arcs rest₀ marks rest = length rest
 
--- src/lib.rt:113:5
 loop-holds : tie.Need-loop-holds Inv-loop μ-loop
 loop-holds c = (refl, refl)
 
--- src/lib.rt:113:11
 arc-here-requires : tie.Need-arc-here-requires Inv-loop μ-loop
 arc-here-requires c κs = search needs
 
--- src/lib.rt:114:9
 change-if-requires : tie.Need-change-if-requires Inv-loop μ-loop
 change-if-requires c κs = search needs
 
--- src/lib.rt:115:13
 tail-requires : tie.Need-tail-requires Inv-loop μ-loop
 tail-requires c κs = search needs
 
--- src/lib.rt:113:5
 loop-less : tie.Need-loop-less Inv-loop μ-loop
 loop-less c =
     let l = c .before .before .before .before .before .before .before .loop in
     omega (arith, ap length (c .tail .ensures), length-drop 8 (l .rest .now), here-long (l .rest .now) (sym (c .before .before .before .before .before .before .arc-here .ensures) ∙ c .before .before .before .before .before .if1 .taken))
 
--- src/lib.rt:113:5
 loop-again : tie.Need-loop-again Inv-loop μ-loop
 loop-again c =
     let l = c .before .before .before .before .before .before .before .loop in (
@@ -50,11 +39,9 @@ loop-again c =
       rw (c .tail .ensures) (sym (applied-go (l .marks) (l .rest .now) (sym (c .before .before .before .before .before .before .arc-here .ensures) ∙ c .before .before .before .before .before .if1 .taken) (c .before .before .before .before .before .before .before .before .before .before .args .kind) (c .before .before .before .change-if .last .0) (c .before .before .before .change-if .ensures)) ∙ l .inv .1),
     )
 
--- src/lib.rt:109:1
 same-length : tie.Need-same-length Inv-loop μ-loop
 same-length c = search needs
 
--- src/lib.rt:109:1
 returns : tie.Need-returns Inv-loop μ-loop
 returns c =
     let l = c .before .before .loop in

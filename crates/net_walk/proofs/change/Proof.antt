@@ -1,65 +1,46 @@
-use mathlib.Core.Path.{_≡_, refl, ap, sym, _∙_}
+use mathlib.Core.Path.{_∙_}
 use Rattle.net_walk.proofs.Turns.{change-take, change-clear, change-give}
 use borrow.Author.Needs.{needs}
 use Rattle.net_walk.proofs.change.Statement.{statement}
 use Rattle.net_walk.proofs.change.Tie as tie
-use Rattle.net_walk.proofs.change.Reads as reads
-use Rattle.net_walk.proofs.change.Lts as lts
-use Rattle.net_walk.proofs.lowered.Reads as lowered-reads
-use Rattle.net_walk.proofs.raised.Reads as raised-reads
-use Rattle.net_walk.proofs.zero.Reads as zero-reads
-use Rattle.words.proofs.get.Reads as get-reads
-use Rattle.words.proofs.put.Reads as put-reads
 
--- src/lib.rt:91:9
 get-requires : tie.Need-get-requires
 get-requires c κs = search needs
 
--- src/lib.rt:93:51
 lowered-requires : tie.Need-lowered-requires
 lowered-requires c κs = search needs
 
--- src/lib.rt:93:17
 put-requires : tie.Need-put-requires
 put-requires c κs = search needs
 
--- src/lib.rt:94:18
 zero-requires : tie.Need-zero-requires
 zero-requires c κs = search needs
 
--- src/lib.rt:95:48
 raised-requires : tie.Need-raised-requires
 raised-requires c κs = search needs
 
--- src/lib.rt:95:14
 put-requires-2 : tie.Need-put-requires-2
 put-requires-2 c κs = search needs
 
--- src/lib.rt:88:1
 same-length : tie.Need-same-length
 same-length c = search needs
 
--- src/lib.rt:88:1
 returns : tie.Need-returns
 returns c =
     let a = c .before .before .before .before .before .before .before .before .before .args in
     c .before .before .put .ensures ∙ change-take (a .marks .now) (a .kind) (a .first) (a .second) (c .before .before .before .before .before .before .get .result) (c .before .before .before .before .before .before .get .ensures) (c .before .before .before .lowered .result) (c .before .before .before .before .before .match .keys1) (c .before .before .before .lowered .ensures)
 
--- src/lib.rt:88:1
 same-length-2 : tie.Need-same-length-2
 same-length-2 c = search needs
 
--- src/lib.rt:88:1
 returns-2 : tie.Need-returns-2
 returns-2 c =
     let a = c .before .before .before .before .before .before .before .before .args in
     c .before .before .zero .ensures ∙ change-clear (a .marks .now) (a .kind) (a .first) (a .second) (c .before .before .before .before .match .keys2)
 
--- src/lib.rt:88:1
 same-length-3 : tie.Need-same-length-3
 same-length-3 c = search needs
 
--- src/lib.rt:88:1
 returns-3 : tie.Need-returns-3
 returns-3 c =
     let a = c .before .before .before .before .before .before .before .before .before .args in let r = c .before .before .before .before .before .match .rest in

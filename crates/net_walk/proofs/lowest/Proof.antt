@@ -1,17 +1,13 @@
 use borrow.Author.Needs.{needs}
-use Prim.Native.Nat.{ℕ, suc, _+_, _-_, _*_, _≤_, _<_}
+use Prim.Native.Nat.{_+_, _-_, _≤_}
 use native.Mathlib.Omega.{arith}
-use mathlib.Core.Path.{_≡_, refl, ap, sym, _∙_}
+use mathlib.Core.Path.{_≡_, sym, _∙_}
 use native.Mathlib.Nat.{sub-zero, zero-add}
 use Rattle.net_walk.proofs.Turns.{lowest-go, lowest-found, lowest-end}
 use Rattle.net_walk.specs.Walked.{lowest}
 use Rattle.net_file.specs.Contents.{transitionsIn}
 use Rattle.net_walk.proofs.lowest.Statement.{statement}
 use Rattle.net_walk.proofs.lowest.Tie as tie
-use Rattle.net_walk.proofs.lowest.Reads as reads
-use Rattle.net_walk.proofs.lowest.Lts as lts
-use Rattle.net_walk.proofs.after.Reads as after-reads
-use Rattle.net_walk.proofs.stands.Reads as stands-reads
 
 abbrev Inv-loop : tie.InvT-loop
 Inv-loop marks transitions count label rest₀ j₀ rest j = (j ≤ count) × (j + lowest (transitionsIn (count - j) rest) marks label ≡ lowest (transitionsIn count transitions) marks label)
@@ -19,39 +15,31 @@ Inv-loop marks transitions count label rest₀ j₀ rest j = (j ≤ count) × (j
 abbrev μ-loop : tie.MeasureT-loop
 μ-loop marks transitions count label rest₀ j₀ rest j = count - j
 
--- src/lib.rt:179:5
 loop-holds : tie.Need-loop-holds Inv-loop μ-loop
 loop-holds c = (search needs, rw (sub-zero, zero-add))
 
--- src/lib.rt:180:12
 stands-requires : tie.Need-stands-requires Inv-loop μ-loop
 stands-requires c κs = search needs
 
--- src/lib.rt:181:13
 returns : tie.Need-returns Inv-loop μ-loop
 returns c =
     let l = c .before .before .before .loop in let a = c .before .before .before .before .before .before .args in
     sym (lowest-found (a .count) (l .j) (a .marks .now) (l .rest .now) (a .label) (c .before .before .loop-test .taken) (sym (c .before .stands .ensures) ∙ c .if1 .taken)) ∙ l .inv .1
 
--- src/lib.rt:183:13
 after-requires : tie.Need-after-requires Inv-loop μ-loop
 after-requires c κs = search needs
 
--- src/lib.rt:185:9
 add-j : tie.Need-add-j Inv-loop μ-loop
 add-j c = search needs
 
--- src/lib.rt:179:5
 loop-less : tie.Need-loop-less Inv-loop μ-loop
 loop-less c = omega arith
 
--- src/lib.rt:179:5
 loop-again : tie.Need-loop-again Inv-loop μ-loop
 loop-again c =
     let l = c .before .before .before .before .loop in let a = c .before .before .before .before .before .before .before .args in
     (omega arith, rw (c .after .ensures) (sym (lowest-go (a .count) (l .j) (a .marks .now) (l .rest .now) (a .label) (c .before .before .before .loop-test .taken) (sym (c .before .before .stands .ensures) ∙ c .before .if1 .left)) ∙ l .inv .1))
 
--- src/lib.rt:174:1
 returns-2 : tie.Need-returns-2 Inv-loop μ-loop
 returns-2 c =
     let l = c .before .loop in let a = c .before .before .before .before .args in

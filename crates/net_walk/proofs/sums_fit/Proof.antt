@@ -1,5 +1,5 @@
 use borrow.Author.Needs.{needs}
-use lib.ListN.{length, drop, getD, length-drop}
+use lib.ListN.{length, length-drop}
 use native.Mathlib.Omega.{arith}
 use mathlib.Core.Path.{_≡_, refl, ap, sym, _∙_}
 use Rattle.net_walk.proofs.Turns.{sums-go, sums-stop, sums-end}
@@ -8,12 +8,6 @@ use Rattle.net_file.proofs.Walks.{here-long}
 use Rattle.net_file.specs.Contents.{arcsIn}
 use Rattle.net_walk.proofs.sums_fit.Statement.{statement}
 use Rattle.net_walk.proofs.sums_fit.Tie as tie
-use Rattle.net_walk.proofs.sums_fit.Reads as reads
-use Rattle.net_walk.proofs.sums_fit.Lts as lts
-use Rattle.net_walk.proofs.arc_here.Reads as arc-here-reads
-use Rattle.net_walk.proofs.too_much.Reads as too-much-reads
-use Rattle.words.proofs.tail.Reads as tail-reads
-use Rattle.words.proofs.word.Reads as word-reads
 
 abbrev Inv-loop : tie.InvT-loop
 Inv-loop marks arcs rest₀ rest = sums (arcsIn rest) marks ≡ sums (arcsIn arcs) marks
@@ -21,45 +15,36 @@ Inv-loop marks arcs rest₀ rest = sums (arcsIn rest) marks ≡ sums (arcsIn arc
 abbrev μ-loop : tie.MeasureT-loop
 μ-loop marks arcs rest₀ rest = length rest
 
--- src/lib.rt:135:5
 loop-holds : tie.Need-loop-holds Inv-loop μ-loop
 loop-holds c = refl
 
--- src/lib.rt:135:11
 arc-here-requires : tie.Need-arc-here-requires Inv-loop μ-loop
 arc-here-requires c κs = search needs
 
--- src/lib.rt:136:12
 too-much-requires : tie.Need-too-much-requires Inv-loop μ-loop
 too-much-requires c κs = search needs
 
--- src/lib.rt:137:31
 word-requires : tie.Need-word-requires Inv-loop μ-loop
 word-requires c κs = search needs
 
--- src/lib.rt:137:13
 returns : tie.Need-returns Inv-loop μ-loop
 returns c =
     let l = c .before .before .before .before .before .loop in
     sym (sums-stop (c .before .before .before .before .before .before .before .before .args .marks .now) (l .rest .now) (sym (c .before .before .before .before .arc-here .ensures) ∙ c .before .before .before .if1 .taken) (c .word .result) (sym (c .before .before .too-much .ensures) ∙ c .before .if2 .taken) (c .word .ensures)) ∙ l .inv
 
--- src/lib.rt:139:13
 tail-requires : tie.Need-tail-requires Inv-loop μ-loop
 tail-requires c κs = search needs
 
--- src/lib.rt:135:5
 loop-less : tie.Need-loop-less Inv-loop μ-loop
 loop-less c =
     let l = c .before .before .before .before .before .loop in
     omega (arith, ap length (c .tail .ensures), length-drop 8 (l .rest .now), here-long (l .rest .now) (sym (c .before .before .before .before .arc-here .ensures) ∙ c .before .before .before .if1 .taken))
 
--- src/lib.rt:135:5
 loop-again : tie.Need-loop-again Inv-loop μ-loop
 loop-again c =
     let l = c .before .before .before .before .before .loop in
     rw (c .tail .ensures) (sym (sums-go (c .before .before .before .before .before .before .before .before .args .marks .now) (l .rest .now) (sym (c .before .before .before .before .arc-here .ensures) ∙ c .before .before .before .if1 .taken) (sym (c .before .before .too-much .ensures) ∙ c .before .if2 .left)) ∙ l .inv)
 
--- src/lib.rt:131:1
 returns-2 : tie.Need-returns-2 Inv-loop μ-loop
 returns-2 c =
     let l = c .before .before .loop in

@@ -1,15 +1,12 @@
 use borrow.Author.Needs.{needs}
-use lib.ListN.{length, drop, getD, length-drop}
-use Prim.Native.Nat.{ℕ, suc, _+_, _-_, _*_, _≤_, _<_}
+use lib.ListN.{length}
+use Prim.Native.Nat.{_+_, _-_}
 use native.Mathlib.Omega.{arith}
-use mathlib.Core.Path.{_≡_, refl, ap, sym, _∙_}
+use mathlib.Core.Path.{_≡_, refl, sym, _∙_}
 use Rattle.net_walk.proofs.Turns.{zeros-go, zeros-end}
 use Rattle.net_walk.specs.Walked.{zeros}
 use Rattle.net_walk.proofs.zero.Statement.{statement}
 use Rattle.net_walk.proofs.zero.Tie as tie
-use Rattle.net_walk.proofs.zero.Reads as reads
-use Rattle.net_walk.proofs.zero.Lts as lts
-use Rattle.words.proofs.put.Reads as put-reads
 
 abbrev Inv-loop : tie.InvT-loop
 Inv-loop marks₀ first last place₀ marks place = (length marks ≡ length marks₀) × (zeros (last + 1 - place) place marks ≡ zeros (last + 1 - first) first marks₀)
@@ -17,33 +14,26 @@ Inv-loop marks₀ first last place₀ marks place = (length marks ≡ length mar
 abbrev μ-loop : tie.MeasureT-loop
 μ-loop marks₀ first last place₀ marks place = last + 1 - place
 
--- src/lib.rt:81:5
 loop-holds : tie.Need-loop-holds Inv-loop μ-loop
 loop-holds c = (refl, refl)
 
--- src/lib.rt:82:9
 put-requires : tie.Need-put-requires Inv-loop μ-loop
 put-requires c κs = search needs
 
--- src/lib.rt:83:9
 add-place : tie.Need-add-place Inv-loop μ-loop
 add-place c = search needs
 
--- src/lib.rt:81:5
 loop-less : tie.Need-loop-less Inv-loop μ-loop
 loop-less c = omega arith
 
--- src/lib.rt:81:5
 loop-again : tie.Need-loop-again Inv-loop μ-loop
 loop-again c =
     let l = c .before .before .before .before .before .loop in
     (c .before .before .put .kept .0 ∙ l .inv .0, rw (c .before .before .put .ensures) (sym (zeros-go (c .before .before .before .before .before .before .before .args .last) (l .place) (l .marks) (c .before .before .before .before .loop-test .taken)) ∙ l .inv .1))
 
--- src/lib.rt:77:1
 same-length : tie.Need-same-length Inv-loop μ-loop
 same-length c = search needs
 
--- src/lib.rt:77:1
 returns : tie.Need-returns Inv-loop μ-loop
 returns c = let l = c .before .loop in sym (zeros-end (c .before .before .before .args .last) (l .place) (l .marks) (c .loop-test .left)) ∙ l .inv .1
 

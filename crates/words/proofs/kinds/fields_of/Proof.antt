@@ -2,23 +2,17 @@ use Rattle.words.proofs.KindTable.{fields, fields-at, fields-out}
 use borrow.Author.Needs.{needs}
 use Rattle.words.proofs.kinds.fields_of.Statement.{statement}
 use Rattle.words.proofs.kinds.fields_of.Tie as tie
-use Rattle.words.proofs.kinds.fields_of.Reads as reads
-use Rattle.words.proofs.kinds.fields_of.Lts as lts
 
--- src/kinds.rt:26:16
 mul-result : tie.Need-mul-result
 mul-result c = search needs
 
--- src/kinds.rt:26:16
 array-read-result : tie.Need-array-read-result
 array-read-result c = search needs
 
--- src/kinds.rt:26:9
 returns : tie.Need-returns
 unfolding fields
 returns c = fields-at (c .before .args .kind) (c .if1 .taken)
 
--- src/kinds.rt:22:1
 returns-2 : tie.Need-returns-2
 returns-2 c = fields-out (c .before .args .kind) (c .if1 .left)
 

@@ -2,23 +2,17 @@ use Rattle.words.proofs.KindTable.{lengths, length-at, length-out}
 use borrow.Author.Needs.{needs}
 use Rattle.words.proofs.kinds.length_of.Statement.{statement}
 use Rattle.words.proofs.kinds.length_of.Tie as tie
-use Rattle.words.proofs.kinds.length_of.Reads as reads
-use Rattle.words.proofs.kinds.length_of.Lts as lts
 
--- src/kinds.rt:16:16
 mul-result : tie.Need-mul-result
 mul-result c = search needs
 
--- src/kinds.rt:16:16
 array-read-result : tie.Need-array-read-result
 array-read-result c = search needs
 
--- src/kinds.rt:16:9
 returns : tie.Need-returns
 unfolding lengths
 returns c = length-at (c .before .args .kind) (c .if1 .taken)
 
--- src/kinds.rt:12:1
 returns-2 : tie.Need-returns-2
 returns-2 c = length-out (c .before .args .kind) (c .if1 .left)
 
