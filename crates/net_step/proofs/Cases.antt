@@ -9,15 +9,27 @@ use borrow.Author.Tests.{eq-eqb, ne-eqb, lt-ltb, le-ltb}
 use borrow.Rule.Slice.PartMut.{putMid, midOf as partOf, post-is}
 use lib.ListN.{length, take, drop, getD, drop-of-length-le}
 use lib.Seq.{take-all, drop-at, length-take-le, drop-length, getD-drop}
-use Rattle.effbd.specs.Answers.{accepted, refused}
+use Rattle.effbd.specs.Answers.{Outcome, accepted, refused, afterwards, returningZero}
+use Rattle.effbd.specs.declared.Answer.{Answer}
+use Rattle.effbd.specs.declared.Answer.the-variants.{Accepted, Refused}
 use Rattle.effbd.specs.Nets.{Transition, takeArc, clearArc, giveArc}
 use Rattle.net_file.specs.Contents.{arcsIn, transitionIn, transitionsIn, partAt}
 use Rattle.net_file.proofs.Walks.{length-transitions, transition-at}
 use Rattle.net_walk.specs.Walked.{stands, applied, reduced, sums, lowest}
 use Rattle.net_walk.specs.declared.Sums.{Sums}
-use Rattle.net_step.specs.Stepping.{keptClock, renewedClock, clocksBy, waitHeld, given, firedWords, noTransition, steppedWords, waitedWords, movedWords}
+use Rattle.net_step.specs.Stepping.{keptClock, renewedClock, clocksBy, waitHeld, given, firedWords, noTransition, steppedWords, waitedWords, movedWords, Answered}
 use Rattle.net_step.specs.declared.Renewal.the-variants.{Fired, Waited}
 use Rattle.net_step.proofs.Loops.{tail-is}
+
+-- a call that is turned away, that moves, whose outcome is another's
+pub turned-away : (before : List ℕ) (number value : ℕ) (outcome : Outcome (List ℕ)) → outcome ≡ refused number value → Answered (Refused number value) before before outcome
+turned-away before number value outcome e = record { says = sym (ap returningZero e); leaves = sym (ap (afterwards before) e) }
+
+pub moved-to : (before after words : List ℕ) (outcome : Outcome (List ℕ)) → outcome ≡ accepted words → after ≡ words → Answered (Accepted 0) before after outcome
+moved-to before after words outcome e h = record { says = sym (ap returningZero e); leaves = h ∙ sym (ap (afterwards before) e) }
+
+pub answered-as : {answer : Answer} {before after : List ℕ} {o p : Outcome (List ℕ)} → Answered answer before after o → o ≡ p → Answered answer before after p
+answered-as {answer} {before} r e = record { says = r .says ∙ ap returningZero e; leaves = r .leaves ∙ ap (afterwards before) e }
 
 -- a lent tail that came back
 pub tail-put : (p : ℕ) (state clocks : List ℕ) → p ≤ length state → putMid p (length state - p) state clocks ≡ take p state ++ clocks

@@ -1,10 +1,12 @@
 -- A net's moves as the code makes them, transition by transition in the file's order, on the words of a state. Assumes nothing.
 use Prim.Native.Nat.{ℕ, _+_, _-_, _*_}
+use mathlib.Core.Path.{_≡_}
 use mathlib.Core.Bool.{Bool, false, cond, _&&_, _||_}
 use mathlib.Core.List.{List, [], _∷_, _++_}
 use lib.ListN.{length, getD}
 use lib.Dec.{leb, ltb, eqb}
-use Rattle.effbd.specs.Answers.{Outcome, accepted, refused}
+use Rattle.effbd.specs.Answers.{Outcome, accepted, refused, afterwards, returningZero, said}
+use Rattle.effbd.specs.declared.Answer.{Answer}
 use Rattle.effbd.specs.Records.{word}
 use Rattle.effbd.specs.Nets.{Transition, giveArc}
 use Rattle.net_walk.specs.Walked.{covered, applied, reduced, sums, lowest}
@@ -64,6 +66,11 @@ module _ (ts : List Transition) where
   unfoldable pub movedWords : (code argument : ℕ) → (marks clocks : List ℕ) → Outcome (List ℕ)
   movedWords code argument marks clocks =
       cond (eqb code 1) (steppedWords argument marks clocks) (cond (eqb code 2) (waitedWords argument marks clocks) (refused 21 0))
+
+-- a call answers and leaves the state as the outcome has it
+pub record Answered (answer : Answer) (before after : List ℕ) (outcome : Outcome (List ℕ)) : Type 0 where
+  pub says : said answer ≡ returningZero outcome
+  pub leaves : after ≡ afterwards before outcome
 
 -- word i of a fresh state: the marks that a file of so many places gives, clocks 0
 unfoldable pub freshWord : List ℕ → ℕ → ℕ → ℕ

@@ -15,7 +15,7 @@ ghost use Rattle.effbd.specs.Nets.{giveArc};
 ghost use Rattle.effbd.specs.Firing.{stepNet, freshNet};
 ghost use Rattle.net_file.specs.Contents.{arcsIn, transitionIn, transitionsIn};
 ghost use Rattle.net_walk.specs.Walked.{applied, reduced};
-ghost use Rattle.net_step.specs.Stepping.{keptClock, grownClock, renewedClock, clocksBy, holdsWait, waitHeld, firedWords, steppedWords, waitedWords, movedWords, freshWord};
+ghost use Rattle.net_step.specs.Stepping.{keptClock, grownClock, renewedClock, clocksBy, holdsWait, waitHeld, firedWords, steppedWords, waitedWords, movedWords, Answered, freshWord};
 
 // How clocks are renewed: transition number j fired, or so many ticks passed.
 pub enum Renewal {
@@ -146,8 +146,7 @@ fn fire(
     part: &[u8],
 ) -> Answer
     requires { ⌜ length (now state) ≡ length (now marks) + count ⌝ }
-    ensures { λ r. ⌜ said r ≡ returningZero (firedWords (transitionsIn count (now (transitions .entry))) j (transitionIn (now (part .entry))) (now (marks .entry)) (drop (length (now (marks .entry))) (now (state .entry)))) ⌝ }
-    ensures { λ _. ⌜ now (state .exit) ≡ afterwards (now (state .entry)) (firedWords (transitionsIn count (now (transitions .entry))) j (transitionIn (now (part .entry))) (now (marks .entry)) (drop (length (now (marks .entry))) (now (state .entry)))) ⌝ }
+    ensures { λ r. ⌜ Answered r (now (state .entry)) (now (state .exit)) (firedWords (transitionsIn count (now (transitions .entry))) j (transitionIn (now (part .entry))) (now (marks .entry)) (drop (length (now (marks .entry))) (now (state .entry)))) ⌝ }
 {
     let clock = words::get(state, marks.len() + j as usize);
     let earliest = words::word(part, 6);
@@ -176,8 +175,7 @@ fn step_label(
     label: u16,
 ) -> Answer
     requires { ⌜ length (now state) ≡ length (now marks) + count ⌝ }
-    ensures { λ r. ⌜ said r ≡ returningZero (steppedWords (transitionsIn count (now (transitions .entry))) label (now (marks .entry)) (drop (length (now (marks .entry))) (now (state .entry)))) ⌝ }
-    ensures { λ _. ⌜ now (state .exit) ≡ afterwards (now (state .entry)) (steppedWords (transitionsIn count (now (transitions .entry))) label (now (marks .entry)) (drop (length (now (marks .entry))) (now (state .entry)))) ⌝ }
+    ensures { λ r. ⌜ Answered r (now (state .entry)) (now (state .exit)) (steppedWords (transitionsIn count (now (transitions .entry))) label (now (marks .entry)) (drop (length (now (marks .entry))) (now (state .entry)))) ⌝ }
 {
     let j = net_walk::lowest(marks, transitions, count, label);
     if j == count {
@@ -196,8 +194,7 @@ fn wait_ticks(
     ticks: u16,
 ) -> Answer
     requires { ⌜ (length (now state) ≡ length (now marks) + count) × (now marks ≡ take (length (now marks)) (now state)) ⌝ }
-    ensures { λ r. ⌜ said r ≡ returningZero (waitedWords (transitionsIn count (now (transitions .entry))) ticks (now (marks .entry)) (drop (length (now (marks .entry))) (now (state .entry)))) ⌝ }
-    ensures { λ _. ⌜ now (state .exit) ≡ afterwards (now (state .entry)) (waitedWords (transitionsIn count (now (transitions .entry))) ticks (now (marks .entry)) (drop (length (now (marks .entry))) (now (state .entry)))) ⌝ }
+    ensures { λ r. ⌜ Answered r (now (state .entry)) (now (state .exit)) (waitedWords (transitionsIn count (now (transitions .entry))) ticks (now (marks .entry)) (drop (length (now (marks .entry))) (now (state .entry)))) ⌝ }
 {
     if ticks == 0 {
         return Answer::Refused(21, 0);
@@ -226,8 +223,7 @@ fn move_by(
     argument: u16,
 ) -> Answer
     requires { ⌜ length (now state) ≡ length (now marks) + count ⌝ }
-    ensures { λ r. ⌜ said r ≡ returningZero (movedWords (transitionsIn count (now (transitions .entry))) code argument (take (length (now (marks .entry))) (now (state .entry))) (drop (length (now (marks .entry))) (now (state .entry)))) ⌝ }
-    ensures { λ _. ⌜ now (state .exit) ≡ afterwards (now (state .entry)) (movedWords (transitionsIn count (now (transitions .entry))) code argument (take (length (now (marks .entry))) (now (state .entry))) (drop (length (now (marks .entry))) (now (state .entry)))) ⌝ }
+    ensures { λ r. ⌜ Answered r (now (state .entry)) (now (state .exit)) (movedWords (transitionsIn count (now (transitions .entry))) code argument (take (length (now (marks .entry))) (now (state .entry))) (drop (length (now (marks .entry))) (now (state .entry)))) ⌝ }
 {
     let places = marks.len();
     copy(marks, state, places);

@@ -1,11 +1,11 @@
 use Prim.Native.Nat.{_-_}
-use mathlib.Core.Path.{_≡_, ap, sym, _∙_}
+use mathlib.Core.Path.{_≡_, sym, _∙_}
 use lib.ListN.{length, drop}
 use mathlib.Core.List.{_++_}
-use Rattle.effbd.specs.Answers.{accepted, refused, returningZero, afterwards}
+use Rattle.effbd.specs.Answers.{accepted, refused}
 use Rattle.effbd.specs.Nets.{giveArc}
 use Rattle.net_walk.specs.declared.Sums.the-variants.{Fit, Over}
-use Rattle.net_step.proofs.Cases.{fire-late, fire-on, mid-is, sums-of, fire-done}
+use Rattle.net_step.proofs.Cases.{fire-late, fire-on, mid-is, sums-of, fire-done, turned-away, moved-to}
 use Rattle.net_walk.specs.Walked.{applied}
 use Rattle.net_file.specs.Contents.{transitionIn, transitionsIn}
 use Rattle.net_step.specs.Stepping.{firedWords, clocksBy, keptClock}
@@ -37,7 +37,7 @@ returns c =
     let a = c .before .before .before .before .before .before .before .before .args in
     let e : firedWords (transitionsIn (a .count) (a .transitions .now)) (a .j) (transitionIn (a .part .now)) (a .marks .now) (drop (length (a .marks .now)) (a .state .now)) ≡ refused 24 (c .before .word .result - c .before .before .get .result) =
     fire-late (transitionsIn (a .count) (a .transitions .now)) (a .j) (transitionIn (a .part .now)) (a .marks .now) (a .state .now) (length (a .marks .now)) (c .before .before .get .result) (c .before .word .result) (c .before .before .get .ensures) (c .before .word .ensures) (c .if1 .taken) in
-    (sym (ap returningZero e), sym (ap (afterwards (a .state .now)) e))
+    turned-away (a .state .now) _ _ _ e
 
 tail-requires : tie.Need-tail-requires
 tail-requires c κs = search needs
@@ -79,7 +79,7 @@ returns-2 c =
     fire-on (transitionsIn (a .count) (a .transitions .now)) (a .j) (transitionIn (a .part .now)) (a .marks .now) (a .state .now) (length (a .marks .now)) (c .before .before .before .before .before .before .before .before .before .before .before .before .before .before .before .before .get .result) (c .before .before .before .before .before .before .before .before .before .before .before .before .before .before .before .word .result) (c .before .before .before .before .before .before .before .before .before .before .before .before .before .before .before .before .get .ensures) (c .before .before .before .before .before .before .before .before .before .before .before .before .before .before .before .word .ensures) (c .before .before .before .before .before .before .before .before .before .before .before .before .before .before .if1 .left)
     mid (Over (c .before .fit .given .0 .0)) (mid-is (a .part .now) arcs (a .marks .now) mid (c .before .before .before .before .before .before .before .before .before .before .before .before .before .tail .ensures) (c .before .before .before .before .before .before .before .before .before .before .before .apply .last .0) (c .before .before .before .before .before .before .before .before .before .before .before .apply .ensures) (c .before .before .before .before .before .before .before .apply2 .ensures))
     (sym (c .before .fit .given .1) ∙ sums-of (a .part .now) arcs (a .marks .now) mid (c .before .before .before .before .before .before .before .before .before .before .before .before .before .tail .ensures) (c .before .before .before .sums-fit .result) (c .before .before .before .sums-fit .ensures)) in
-    (sym (ap returningZero e), sym (ap (afterwards (a .state .now)) e))
+    turned-away (a .state .now) _ _ _ e
 
 same-length-4 : tie.Need-same-length-4
 same-length-4 c = search needs
@@ -100,7 +100,7 @@ returns-3 c =
     fire-on ts (a .j) t (a .marks .now) (a .state .now) p (c .before .before .before .before .before .before .before .before .before .before .before .before .before .before .before .before .before .before .before .before .before .before .get .result) (c .before .before .before .before .before .before .before .before .before .before .before .before .before .before .before .before .before .before .before .before .before .word .result) (c .before .before .before .before .before .before .before .before .before .before .before .before .before .before .before .before .before .before .before .before .before .before .get .ensures) (c .before .before .before .before .before .before .before .before .before .before .before .before .before .before .before .before .before .before .before .before .before .word .ensures) (c .before .before .before .before .before .before .before .before .before .before .before .before .before .before .before .before .before .before .before .before .if1 .left)
     mid Fit (mid-is (a .part .now) arcs (a .marks .now) mid (c .before .before .before .before .before .before .before .before .before .before .before .before .before .before .before .before .before .before .before .tail .ensures) (c .before .before .before .before .before .before .before .before .before .before .before .before .before .before .before .before .before .apply .last .0) (c .before .before .before .before .before .before .before .before .before .before .before .before .before .before .before .before .before .apply .ensures) (c .before .before .before .before .before .before .before .before .before .before .before .before .before .apply2 .ensures))
     (sym (c .before .before .before .before .before .before .before .enum-told .given .1) ∙ sums-of (a .part .now) arcs (a .marks .now) mid (c .before .before .before .before .before .before .before .before .before .before .before .before .before .before .before .before .before .before .before .tail .ensures) (c .before .before .before .before .before .before .before .before .before .sums-fit .result) (c .before .before .before .before .before .before .before .before .before .sums-fit .ensures)) in
-    (sym (ap returningZero e), fire-done (a .part .now) arcs (a .marks .now) mid (c .before .before .before .before .before .before .before .before .before .before .before .before .before .before .before .before .before .before .before .tail .ensures) ts (a .j) p (a .state .now) (c .before .before .before .before .finish .last .1 .0) (c .before .before .before .before .before .before .before .before .before .before .before .before .before .apply2 .kept .0 ∙ c .before .before .before .before .before .before .before .before .before .before .before .before .before .before .before .before .before .apply .kept .0) (c .before .before .before .before .finish .ensures) ∙ sym (ap (afterwards (a .state .now)) e))
+    moved-to (a .state .now) _ _ _ e (fire-done (a .part .now) arcs (a .marks .now) mid (c .before .before .before .before .before .before .before .before .before .before .before .before .before .before .before .before .before .before .before .tail .ensures) ts (a .j) p (a .state .now) (c .before .before .before .before .finish .last .1 .0) (c .before .before .before .before .before .before .before .before .before .before .before .before .before .apply2 .kept .0 ∙ c .before .before .before .before .before .before .before .before .before .before .before .before .before .before .before .before .before .apply .kept .0) (c .before .before .before .before .finish .ensures))
 
 pub fire-spec : {M : Type 1} → statement M
 fire-spec =

@@ -2,8 +2,7 @@ use Prim.Native.Nat.{ℕ}
 use native.Mathlib.Omega.{arith}
 use mathlib.Core.Path.{refl, ap, sym, _∙_}
 use lib.ListN.{length, take, drop}
-use Rattle.effbd.specs.Answers.{returningZero, afterwards}
-use Rattle.net_step.proofs.Cases.{copied, move-step, move-wait, move-none}
+use Rattle.net_step.proofs.Cases.{copied, move-step, move-wait, move-none, turned-away, answered-as}
 use Rattle.net_file.specs.Contents.{transitionsIn}
 use borrow.Author.Needs.{needs}
 use Rattle.net_step.proofs.move_by.Statement.{statement}
@@ -32,7 +31,7 @@ returns c =
     let a = c .before .before .before .before .before .before .before .before .before .before .before .before .before .before .before .before .args in
     let k = c .before .before .before .before .before .before .before .before .before .before .copy in
     let e = move-step (transitionsIn (a .count) (a .transitions .now)) (a .code) (a .argument) (length (a .marks .now)) (k .last .0) (a .state .now) (copied (length (a .marks .now)) (a .marks .now) (a .state .now) (k .last .0) refl (k .ensures)) (k .kept .0) (c .before .before .before .before .before .before .before .match .keys1) in
-    (c .before .before .before .before .step-label .ensures .0 ∙ ap returningZero e, c .before .before .before .before .step-label .ensures .1 ∙ ap (afterwards (a .state .now)) e)
+    answered-as (c .before .before .before .before .step-label .ensures) e
 
 same-length-3 : tie.Need-same-length-3
 same-length-3 c = search needs
@@ -45,7 +44,7 @@ returns-2 c =
     let a = c .before .before .before .before .before .before .before .before .before .before .before .before .before .before .args in
     let k = c .before .before .before .before .before .before .before .before .copy in
     let e = move-wait (transitionsIn (a .count) (a .transitions .now)) (a .code) (a .argument) (length (a .marks .now)) (k .last .0) (a .state .now) (copied (length (a .marks .now)) (a .marks .now) (a .state .now) (k .last .0) refl (k .ensures)) (k .kept .0) (c .before .before .before .before .before .match .keys2) in
-    (c .before .before .wait-ticks .ensures .0 ∙ ap returningZero e, c .before .before .wait-ticks .ensures .1 ∙ ap (afterwards (a .state .now)) e)
+    answered-as (c .before .before .wait-ticks .ensures) e
 
 same-length-5 : tie.Need-same-length-5
 same-length-5 c = search needs
@@ -57,7 +56,7 @@ returns-3 : tie.Need-returns-3
 returns-3 c =
     let a = c .before .before .before .before .before .before .before .before .before .args in
     let e = move-none (transitionsIn (a .count) (a .transitions .now)) (a .code) (a .argument) (take (length (a .marks .now)) (a .state .now)) (drop (length (a .marks .now)) (a .state .now)) (c .match .rest .0 .1) (c .match .rest .1) in
-    (sym (ap returningZero e), sym (ap (afterwards (a .state .now)) e))
+    turned-away (a .state .now) _ _ _ e
 
 pub move-by-spec : {M : Type 1} → statement M
 move-by-spec =

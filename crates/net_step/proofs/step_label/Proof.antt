@@ -1,7 +1,7 @@
-use mathlib.Core.Path.{_≡_, ap, sym, _∙_}
+use mathlib.Core.Path.{_≡_, sym}
 use lib.ListN.{length, drop}
-use Rattle.effbd.specs.Answers.{refused, returningZero, afterwards}
-use Rattle.net_step.proofs.Cases.{step-none, step-some}
+use Rattle.effbd.specs.Answers.{refused}
+use Rattle.net_step.proofs.Cases.{step-none, step-some, turned-away, answered-as}
 use Rattle.net_file.specs.Contents.{transitionsIn}
 use Rattle.net_step.specs.Stepping.{steppedWords}
 use borrow.Author.Needs.{needs}
@@ -19,7 +19,7 @@ returns c =
     let a = c .before .before .before .before .before .before .args in
     let e : steppedWords (transitionsIn (a .count) (a .transitions .now)) (a .label) (a .marks .now) (drop (length (a .marks .now)) (a .state .now)) ≡ refused 22 (a .label) =
     step-none (a .count) (c .before .lowest .result) (a .transitions .now) (a .marks .now) (drop (length (a .marks .now)) (a .state .now)) (a .label) (c .before .lowest .ensures) (c .if1 .taken) in
-    (sym (ap returningZero e), sym (ap (afterwards (a .state .now)) e))
+    turned-away (a .state .now) _ _ _ e
 
 part-at-requires : tie.Need-part-at-requires
 part-at-requires c κs = search needs
@@ -37,7 +37,7 @@ returns-2 : tie.Need-returns-2
 returns-2 c =
     let a = c .before .before .before .before .before .before .before .before .before .before .before .before .before .before .args in
     let e = step-some (a .count) (c .before .before .before .before .before .before .before .before .before .lowest .result) (a .transitions .now) (a .marks .now) (drop (length (a .marks .now)) (a .state .now)) (a .label) (c .before .before .before .before .before .before .before .before .before .lowest .ensures) (c .before .before .before .before .before .before .before .part-at .result .now) (c .before .before .before .before .before .before .before .before .if1 .left) (c .before .before .before .before .before .before .before .part-at .ensures) in
-    (c .before .before .before .before .fire .ensures .0 ∙ sym (ap returningZero e), c .before .before .before .before .fire .ensures .1 ∙ sym (ap (afterwards (a .state .now)) e))
+    answered-as (c .before .before .before .before .fire .ensures) (sym e)
 
 pub step-label-spec : {M : Type 1} → statement M
 step-label-spec =

@@ -3,10 +3,9 @@ use native.Mathlib.Omega.{arith}
 use mathlib.Core.Path.{ap, sym, _∙_}
 use lib.ListN.{length, take, drop}
 use mathlib.Core.List.{List, _++_}
-use Rattle.effbd.specs.Answers.{returningZero, afterwards}
 use Rattle.net_step.specs.declared.Renewal.the-variants.{Waited}
 use Rattle.net_step.proofs.Loops.{tail-is}
-use Rattle.net_step.proofs.Cases.{tail-put, wait-zero, wait-held, wait-free}
+use Rattle.net_step.proofs.Cases.{tail-put, wait-zero, wait-held, wait-free, turned-away, moved-to}
 use Rattle.net_file.specs.Contents.{transitionsIn}
 use Rattle.net_step.specs.Stepping.{clocksBy, renewedClock}
 use borrow.Author.Needs.{needs}
@@ -17,7 +16,7 @@ returns : tie.Need-returns
 returns c =
     let a = c .before .before .before .before .args in
     let e = wait-zero (transitionsIn (a .count) (a .transitions .now)) (a .ticks) (a .marks .now) (drop (length (a .marks .now)) (a .state .now)) (c .if1 .taken) in
-    (sym (ap returningZero e), sym (ap (afterwards (a .state .now)) e))
+    turned-away (a .state .now) _ _ _ e
 
 held-requires : tie.Need-held-requires
 held-requires c κs = search needs
@@ -29,7 +28,7 @@ returns-2 : tie.Need-returns-2
 returns-2 c =
     let a = c .before .before .before .before .before .before .before .args in
     let e = wait-held (transitionsIn (a .count) (a .transitions .now)) (a .ticks) (a .marks .now) (drop (length (a .marks .now)) (a .state .now)) (c .before .before .before .if1 .left) (sym (c .before .held .ensures) ∙ c .if2 .taken) in
-    (sym (ap returningZero e), sym (ap (afterwards (a .state .now)) e))
+    turned-away (a .state .now) _ _ _ e
 
 mul-renew : tie.Need-mul-renew
 mul-renew c = search needs
@@ -56,13 +55,11 @@ returns-3 c =
     let l : p ≤ length (a .state .now) = omega (arith, c .before .before .before .before .before .before .before .before .before .before .before .pre .0) in
     let f = renewedClock (Waited (a .ticks)) (a .marks .now) in
     let ts = transitionsIn (a .count) (a .transitions .now) in
-    let e = wait-free ts (a .ticks) (a .marks .now) (drop p (a .state .now)) (c .before .before .before .before .before .before .before .if1 .left) (sym (c .before .before .before .before .before .held .ensures) ∙ c .before .before .before .before .if2 .left) in (
-      sym (ap returningZero e),
-      tail-put p (a .state .now) (c .before .before .renew .last .0) l
-          ∙ ap (λ (q : List ℕ). take p (a .state .now) ++ q) (c .before .before .renew .ensures ∙ ap (λ (q : List ℕ). clocksBy f 0 ts q) (tail-is p (a .state .now)))
-          ∙ ap (λ (q : List ℕ). q ++ clocksBy f 0 ts (drop p (a .state .now))) (sym (c .before .before .before .before .before .before .before .before .before .before .before .pre .1))
-          ∙ sym (ap (afterwards (a .state .now)) e),
-    )
+    let e = wait-free ts (a .ticks) (a .marks .now) (drop p (a .state .now)) (c .before .before .before .before .before .before .before .if1 .left) (sym (c .before .before .before .before .before .held .ensures) ∙ c .before .before .before .before .if2 .left) in
+    moved-to (a .state .now) _ _ _ e
+    (tail-put p (a .state .now) (c .before .before .renew .last .0) l
+    ∙ ap (λ (q : List ℕ). take p (a .state .now) ++ q) (c .before .before .renew .ensures ∙ ap (λ (q : List ℕ). clocksBy f 0 ts q) (tail-is p (a .state .now)))
+    ∙ ap (λ (q : List ℕ). q ++ clocksBy f 0 ts (drop p (a .state .now))) (sym (c .before .before .before .before .before .before .before .before .before .before .before .pre .1)))
 
 pub wait-ticks-spec : {M : Type 1} → statement M
 wait-ticks-spec =
