@@ -7,3 +7,4 @@ pub mod Walks
 pub mod Accepted
 pub mod Standing
 pub mod Round
+pub mod Offsets

@@ -74,12 +74,14 @@ fn record_fault(rest: &[u8], due: bool, right: bool, fine: bool, number: u16) ->
     0
 }
 
+// Places 1 to 208, transitions 0 to 128.
 fn head_fine(places: u16, transitions: u16) -> bool
     ensures { λ r. ⌜ r ≡ headFine places transitions ⌝ }
 {
     1 <= places && (places <= MOST_PLACES && transitions <= MOST_TRANSITIONS)
 }
 
+// The fault of the head, 0 for none.
 fn head_fault(net: &[u8]) -> u16
     ensures { λ r. ⌜ r ≡ netHeadFault (now (net .entry)) ⌝ }
 {
@@ -96,6 +98,7 @@ fn lowest(due: Due, kind: u16) -> u32
     if kind == due.kind { due.from } else { 0 }
 }
 
+// Places below `count` and rising, ranges in order, weights 1 or more.
 fn arc_fine(count: u16, due: Due, kind: u16, first: u16, second: u16) -> bool
     ensures { λ r. ⌜ r ≡ arcFine count (due .kind) (due .from) (arcOf kind first second) ⌝ }
 {
@@ -108,12 +111,14 @@ fn arc_fine(count: u16, due: Due, kind: u16, first: u16, second: u16) -> bool
     first < count && 1 <= second
 }
 
+// Labels below 64 and never falling, earliest at most latest.
 fn transition_fine(before: u16, label: u16, earliest: u16, latest: u16) -> bool
     ensures { λ r. ⌜ r ≡ transitionFine before (timed label earliest latest) ⌝ }
 {
     before <= label && (label < LABEL_LIMIT && earliest <= latest)
 }
 
+// The values of a record of kind `kind`.
 fn fields_fine(count: u16, due: Due, kind: u16, rest: &[u8]) -> bool
     ensures { λ r. ⌜ r ≡ fieldsFine count due kind (now (rest .entry)) ⌝ }
 {

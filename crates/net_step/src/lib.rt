@@ -35,6 +35,7 @@ fn copy(to: &mut [u16], from: &[u16], n: usize)
     }
 }
 
+// The clock of transition number x after number j fired: kept if it is enabled after takes and clears, which `marks` are.
 fn kept(j: u16, marks: &[u16], x: u16, rest: &[u8], running: u16) -> u16
     ensures { λ r. ⌜ r ≡ keptClock j (now (marks .entry)) x (transitionIn (now (rest .entry))) running ⌝ }
 {
@@ -47,6 +48,7 @@ fn kept(j: u16, marks: &[u16], x: u16, rest: &[u8], running: u16) -> u16
     0
 }
 
+// The clock after a wait that nobody holds: an enabled transition's grows.
 fn grown(ticks: u16, marks: &[u16], rest: &[u8], clock: u16) -> u16
     ensures { λ r. ⌜ r ≡ grownClock ticks (now (marks .entry)) (transitionIn (now (rest .entry))) clock ⌝ }
 {
@@ -86,6 +88,7 @@ fn renew(clocks: &mut [u16], how: Renewal, marks: &[u16], transitions: &[u8], co
     }
 }
 
+// Does the transition at the start of `rest` hold the wait, its clock passing its latest?
 fn holds(ticks: u16, marks: &[u16], rest: &[u8], clock: u16) -> bool
     ensures { λ r. ⌜ r ≡ holdsWait ticks (now (marks .entry)) (transitionIn (now (rest .entry))) clock ⌝ }
 {
@@ -273,6 +276,7 @@ fn fresh_word(net: &[u8], places: u16, i: usize) -> u16
     0
 }
 
+// Every word of a fresh state.
 fn fill(net: &[u8], places: u16, state: &mut [u16])
     ensures { λ _. ⌜ now (state .exit) ≡ tabulate (length (now (state .entry))) (freshWord (now (net .entry)) places) ⌝ }
 {

@@ -16,6 +16,7 @@ pub enum Sums {
     Over(u16),
 }
 
+// Does an arc stand at the start?
 fn arc_here(rest: &[u8]) -> bool
     ensures { λ r. ⌜ r ≡ arcHere (now (rest .entry)) ⌝ }
 {
@@ -23,6 +24,7 @@ fn arc_here(rest: &[u8]) -> bool
     8 <= rest.len() && (TAKE <= kind && kind <= GIVE)
 }
 
+// Does a take?
 fn take_here(rest: &[u8]) -> bool
     ensures { λ r. ⌜ r ≡ takeHere (now (rest .entry)) ⌝ }
 {
@@ -56,12 +58,14 @@ pub fn past<'a>(arcs: &'a [u8]) -> &'a [u8]
     rest
 }
 
+// A take: below 0 it stops, where a covered take never comes.
 fn lowered(mark: u16, weight: u16) -> u16
     ensures { λ r. ⌜ r ≡ mark - weight ⌝ }
 {
     if weight <= mark { mark - weight } else { 0 }
 }
 
+// A give: above 65,535 it stops, where a sum that fits never comes.
 fn raised(mark: u16, weight: u16) -> u16
     ensures { λ r. ⌜ r ≡ min mostWord (mark + weight) ⌝ }
 {
@@ -116,6 +120,7 @@ pub fn apply(marks: &mut [u16], kind: u16, arcs: &[u8])
     }
 }
 
+// Is the arc at the start a give whose sum passes 65,535?
 fn too_much(marks: &[u16], rest: &[u8]) -> bool
     ensures { λ r. ⌜ r ≡ tooMuch (arcAt (now (rest .entry))) (now (marks .entry)) ⌝ }
 {

@@ -33,7 +33,9 @@ returns-2 c = rw (c .before .before .match .keys2) (c .transition-fine .ensures 
 
 returns-3 : tie.Need-returns-3
 unfolding fieldsFine
-returns-3 c = let r = c .before .before .match .rest in c .arc-fine .ensures ∙ simp (ne-eqb _ _ (r .1), ne-eqb _ _ (r .0 .1), c .before .word4 .ensures, c .before .before .before .word2 .ensures, c .before .before .before .before .word .ensures)
+returns-3 c =
+    let r = c .before .before .match .rest in
+    rw (ne-eqb _ _ (r .1), ne-eqb _ _ (r .0 .1), ← c .before .word4 .ensures, ← c .before .before .before .word2 .ensures, ← c .before .before .before .before .word .ensures) (c .arc-fine .ensures)
 
 pub fields-fine-spec : {M : Type 1} → statement M
 fields-fine-spec =
