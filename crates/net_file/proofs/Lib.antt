@@ -1,0 +1,10 @@
+pub mod Lists
+pub mod Bytes
+pub mod Records
+pub mod Tails
+pub mod Turns
+pub mod Walks
+pub mod Accepted
+pub mod Standing
+pub mod Round
+pub mod Offsets

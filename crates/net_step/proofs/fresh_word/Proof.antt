@@ -1,0 +1,25 @@
+use borrow.Author.Tests.{lt-ltb, le-ltb}
+use Rattle.net_step.specs.Stepping.{freshWord}
+use borrow.Author.Needs.{needs}
+use Rattle.net_step.proofs.fresh_word.Statement.{statement}
+use Rattle.net_step.proofs.fresh_word.Tie as tie
+
+mul-word : tie.Need-mul-word
+mul-word c = search needs
+
+add-word : tie.Need-add-word
+add-word c = search needs
+
+word-requires : tie.Need-word-requires
+word-requires c κs = search needs
+
+returns : tie.Need-returns
+unfolding freshWord
+returns c = rw (lt-ltb _ _ (c .before .if1 .taken)) (c .word .ensures)
+
+returns-2 : tie.Need-returns-2
+unfolding freshWord
+returns-2 c = rw (le-ltb _ _ (c .if1 .left))
+
+pub fresh-word-spec : {M : Type 1} → statement M
+fresh-word-spec = tie.close (tie.spec mul-word add-word word-requires returns returns-2)

@@ -1,0 +1,109 @@
+use Prim.Native.Nat.{_-_}
+use native.Mathlib.Omega.{arith}
+use mathlib.Core.Path.{_≡_, ap, sym, _∙_}
+use Prim.Native.Nat.{min}
+use lib.ListN.{length-take}
+use Rattle.effbd.specs.Answers.{returningZero, afterwards}
+use Rattle.effbd.specs.Answers.{said}
+use Rattle.net_walk.proofs.Effects.{Words}
+use Rattle.net_step.proofs.Calls.{read-of, step-refused, step-length, step-moves}
+use borrow.Author.Needs.{needs}
+use Rattle.net_step.proofs.step.Statement.{statement}
+use Rattle.net_step.proofs.step.Tie as tie
+
+read-requires : tie.Need-read-requires
+read-requires c κs = search needs
+
+enum-known-read : tie.Need-enum-known-read
+enum-known-read c = search needs
+
+enum-known-read-2 : tie.Need-enum-known-read-2
+enum-known-read-2 c = search needs
+
+cast-if1 : tie.Need-cast-if1
+cast-if1 c = search needs
+
+returns : tie.Need-returns
+returns c =
+    let a = c .before .before .before .before .before .before .before .args in
+    let r = read-of (a .net .now) (c .before .before .read3 .given .0 .0) (ap said (sym (c .before .before .read3 .given .1)) ∙ c .before .before .before .before .read .ensures) in
+    let e = step-length (a .net .now) (a .state .now) (c .before .before .read3 .given .0 .0) r (a .code) (a .argument) (c .if1 .taken) in
+    (sym (ap returningZero e), sym (ap (afterwards (a .state .now)) e))
+
+word-requires : tie.Need-word-requires
+word-requires c κs = search needs
+
+cast-places : tie.Need-cast-places
+cast-places c = search needs
+
+word-requires-2 : tie.Need-word-requires-2
+word-requires-2 c κs = search needs
+
+mul-tail : tie.Need-mul-tail
+mul-tail c = search needs
+
+add-tail : tie.Need-add-tail
+add-tail c = search needs
+
+tail-requires : tie.Need-tail-requires
+tail-requires c κs = search needs
+
+sub-move-by : tie.Need-sub-move-by
+sub-move-by c = search needs
+
+part-marks-start : tie.Need-part-marks-start
+part-marks-start c = search needs
+
+part-marks-end : tie.Need-part-marks-end
+part-marks-end c =
+    let a = c .before .before .before .before .before .before .before .before .before .before .args in
+    let r = read-of (a .net .now) (c .before .before .before .before .before .read3 .given .0 .0) (ap said (sym (c .before .before .before .before .before .read3 .given .1)) ∙ c .before .before .before .before .before .before .before .read .ensures) in
+    omega (arith, r .holds .head .places, c .before .before .word .ensures)
+
+move-by-requires : tie.Need-move-by-requires
+move-by-requires c κs =
+    let a = c .before .before .before .before .before .before .before .before .before .before .before .before .args in
+    let r = read-of (a .net .now) (c .before .before .before .before .before .before .before .read3 .given .0 .0) (ap said (sym (c .before .before .before .before .before .before .before .read3 .given .1)) ∙ c .before .before .before .before .before .before .before .before .before .read .ensures) in
+    rw length-take (omega (arith, r .holds .head .places, r .adds, c .before .before .before .before .before .if1 .left, c .before .before .before .before .word .ensures, c .before .before .before .word2 .ensures))
+
+returns-2 : tie.Need-returns-2
+returns-2 c =
+    let a = c .before .before .before .before .before .before .args in
+    let e = step-refused (a .net .now) (a .state .now) (a .code) (a .argument) (c .before .read2 .given .0 .0) (c .before .read2 .given .0 .1 .0) (ap said (sym (c .before .read2 .given .1)) ∙ c .before .before .before .read .ensures) in
+    (sym (ap returningZero e), sym (ap (afterwards (a .state .now)) e))
+
+same-length : tie.Need-same-length
+same-length c = search needs
+
+returns-3 : tie.Need-returns-3
+returns-3 c =
+    let a = c .before .before .before .before .before .before .before .before .before .before .before .before .before .before .before .before .args in
+    let r = read-of (a .net .now) (c .before .before .before .before .before .before .before .before .before .before .before .read3 .given .0 .0) (ap said (sym (c .before .before .before .before .before .before .before .before .before .before .before .read3 .given .1)) ∙ c .before .before .before .before .before .before .before .before .before .before .before .before .before .read .ensures) in
+    let p = c .before .before .before .before .before .before .before .before .word .result in
+    let w : Words (a .state .now) = record { each = λ i. omega (arith, c .before .before .before .before .before .before .before .before .before .before .before .before .before .before .slice-known .given i) } in
+    let e = sym (step-moves (a .net .now) (a .state .now) (c .before .before .before .before .before .before .before .before .before .before .before .read3 .given .0 .0) r (a .code) (a .argument) p (c .before .before .before .before .before .before .before .word2 .result) (c .before .before .before .before .before .before .tail .result .now) (c .before .before .before .before .before .before .before .before .before .if1 .left) w (c .before .before .before .before .before .before .before .before .word .ensures) (c .before .before .before .before .before .before .before .word2 .ensures) (c .before .before .before .before .before .before .tail .ensures)) in
+    let k : min (p - 0) 208 ≡ p = omega (arith, r .holds .head .places, c .before .before .before .before .before .before .before .before .word .ensures) in
+    ((rw (length-take, k) at (c .before .before .before .move-by .ensures .says)) ∙ ap returningZero e, (rw (length-take, k) at (c .before .before .before .move-by .ensures .leaves)) ∙ ap (afterwards (a .state .now)) e)
+
+pub step-spec : {M : Type 1} → statement M
+step-spec =
+    tie.close
+    (tie.spec
+    read-requires
+    enum-known-read
+    enum-known-read-2
+    cast-if1
+    returns
+    word-requires
+    cast-places
+    word-requires-2
+    mul-tail
+    add-tail
+    tail-requires
+    sub-move-by
+    part-marks-start
+    part-marks-end
+    move-by-requires
+    returns-2
+    same-length
+    returns-3)

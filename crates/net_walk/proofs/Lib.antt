@@ -1,0 +1,4 @@
+pub mod Turns
+pub mod Ranges
+pub mod Effects
+pub mod Rising
