@@ -6,5 +6,4 @@ pub mod Turns
 pub mod Walks
 pub mod Accepted
 pub mod Standing
-pub mod Round
 pub mod Offsets

@@ -1,11 +1,11 @@
--- What the bytes of a net file say, accepted or not, read by tails; and what makes a net one that a file can hold. Assumes nothing.
+-- What the bytes of a net file say, accepted or not, read by tails; and what arcs and transitions may follow one another. Assumes nothing.
 use Prim.Native.Nat.{ℕ, zero, suc, _+_, _*_}
 use mathlib.Core.Bool.{Bool, true, cond, _&&_}
 use mathlib.Core.List.{List, [], _∷_}
 use lib.ListN.{length, drop}
 use lib.Dec.{leb}
 use Rattle.effbd.specs.Records.{word, kindAt}
-use Rattle.effbd.specs.Nets.{Arc, Transition, Net, takeArc, mostPlaces, mostTransitions, arcDue, arcFine, above, transitionFine, arcAt}
+use Rattle.effbd.specs.Nets.{Arc, Transition, takeArc, mostPlaces, mostTransitions, arcDue, arcFine, above, transitionFine, arcAt}
 
 -- an arc stands at the start
 unfoldable pub arcHere : List ℕ → Bool
@@ -51,9 +51,6 @@ unfoldable pub transitionsFine : (count label : ℕ) → List Transition → Boo
 transitionsFine count label [] = true
 transitionsFine count label (t ∷ ts) = transitionFine label t && (arcsFine count takeArc 0 (t .arcs) && transitionsFine count (t .label) ts)
 
--- the head's values; a net that a file can hold
+-- the head's values
 unfoldable pub headFine : (places transitions : ℕ) → Bool
 headFine places transitions = leb 1 places && (leb places mostPlaces && leb transitions mostTransitions)
-
-unfoldable pub netFine : Net → Bool
-netFine n = headFine (length (n .marks)) (length (n .transitions)) && transitionsFine (length (n .marks)) 0 (n .transitions)
