@@ -1,0 +1,4 @@
+pub mod Basics
+pub mod KindTable
+pub mod Fields
+pub mod Loops

@@ -1,0 +1,21 @@
+use borrow.Author.Needs.{needs}
+use Rattle.diagram_file.proofs.nesting.kind_in.Statement.{statement}
+use Rattle.diagram_file.proofs.nesting.kind_in.Tie as tie
+use Rattle.diagram_file.proofs.nesting.kind_in.Reads as reads
+use Rattle.diagram_file.proofs.nesting.kind_in.Lts as lts
+use Rattle.words.proofs.get.Reads as get-reads
+
+-- src/nesting.rt:64:9
+get-requires : tie.Need-get-requires
+get-requires c κs = search needs
+
+-- src/nesting.rt:64:9
+returns : tie.Need-returns
+returns c = ?
+
+-- src/nesting.rt:60:1
+returns-2 : tie.Need-returns-2
+returns-2 c = ?
+
+pub kind-in-spec : {M : Type 1} → statement M
+kind-in-spec = tie.close (tie.spec get-requires returns returns-2)

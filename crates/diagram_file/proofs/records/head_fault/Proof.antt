@@ -1,0 +1,59 @@
+use borrow.Author.Needs.{needs}
+use Rattle.diagram_file.proofs.records.head_fault.Statement.{statement}
+use Rattle.diagram_file.proofs.records.head_fault.Tie as tie
+use Rattle.diagram_file.proofs.records.head_fault.Reads as reads
+use Rattle.diagram_file.proofs.records.head_fault.Lts as lts
+use Rattle.diagram_file.proofs.kinds.length_of.Reads as length-of-reads
+use Rattle.diagram_file.proofs.records.head_fine.Reads as head-fine-reads
+use Rattle.diagram_file.proofs.records.record_fault.Reads as record-fault-reads
+use Rattle.words.proofs.word.Reads as word-reads
+
+-- src/records.rt:156:9
+word-requires : tie.Need-word-requires
+word-requires c κs = search needs
+
+-- src/records.rt:157:9
+word-requires-2 : tie.Need-word-requires-2
+word-requires-2 c κs = search needs
+
+-- src/records.rt:158:26
+word-requires-3 : tie.Need-word-requires-3
+word-requires-3 c κs = search needs
+
+-- src/records.rt:158:49
+word-requires-4 : tie.Need-word-requires-4
+word-requires-4 c κs = search needs
+
+-- src/records.rt:158:72
+word-requires-5 : tie.Need-word-requires-5
+word-requires-5 c κs = search needs
+
+-- src/records.rt:158:9
+head-fine-requires : tie.Need-head-fine-requires
+head-fine-requires c κs = search needs
+
+-- src/records.rt:159:9
+length-of-requires : tie.Need-length-of-requires
+length-of-requires c κs = search needs
+
+-- src/records.rt:160:5
+record-fault-requires : tie.Need-record-fault-requires
+record-fault-requires c κs = search needs
+
+-- src/records.rt:153:1
+returns : tie.Need-returns
+returns c = ?
+
+pub head-fault-spec : {M : Type 1} → statement M
+head-fault-spec =
+    tie.close
+    (tie.spec
+    word-requires
+    word-requires-2
+    word-requires-3
+    word-requires-4
+    word-requires-5
+    head-fine-requires
+    length-of-requires
+    record-fault-requires
+    returns)

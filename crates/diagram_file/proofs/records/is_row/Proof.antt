@@ -1,0 +1,15 @@
+use Rattle.diagram_file.proofs.records.is_row.Statement.{statement}
+use Rattle.diagram_file.proofs.records.is_row.Tie as tie
+use Rattle.diagram_file.proofs.records.is_row.Reads as reads
+use Rattle.diagram_file.proofs.records.is_row.Lts as lts
+
+-- src/records.rt:78:1
+returns : tie.Need-returns
+returns c = ?
+
+-- src/records.rt:78:1
+returns-2 : tie.Need-returns-2
+returns-2 c = ?
+
+pub is-row-spec : {M : Type 1} → statement M
+is-row-spec = tie.close (tie.spec returns returns-2)

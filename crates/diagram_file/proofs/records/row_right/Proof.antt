@@ -1,0 +1,43 @@
+use borrow.Author.Needs.{needs}
+use Rattle.diagram_file.proofs.records.row_right.Statement.{statement}
+use Rattle.diagram_file.proofs.records.row_right.Tie as tie
+use Rattle.diagram_file.proofs.records.row_right.Reads as reads
+use Rattle.diagram_file.proofs.records.row_right.Lts as lts
+use Rattle.diagram_file.proofs.kinds.length_of.Reads as length-of-reads
+use Rattle.diagram_file.proofs.records.function_right.Reads as function-right-reads
+use Rattle.words.proofs.word.Reads as word-reads
+
+-- src/records.rt:94:9
+word-requires : tie.Need-word-requires
+word-requires c κs = search needs
+
+-- src/records.rt:95:9
+word-requires-2 : tie.Need-word-requires-2
+word-requires-2 c κs = search needs
+
+-- src/records.rt:97:9
+function-right-requires : tie.Need-function-right-requires
+function-right-requires c κs = search needs
+
+-- src/records.rt:97:9
+returns : tie.Need-returns
+returns c = ?
+
+-- src/records.rt:99:15
+length-of-requires : tie.Need-length-of-requires
+length-of-requires c κs = search needs
+
+-- src/records.rt:91:1
+returns-2 : tie.Need-returns-2
+returns-2 c = ?
+
+pub row-right-spec : {M : Type 1} → statement M
+row-right-spec =
+    tie.close
+    (tie.spec
+    word-requires
+    word-requires-2
+    function-right-requires
+    returns
+    length-of-requires
+    returns-2)

@@ -1,0 +1,31 @@
+use borrow.Author.Needs.{needs}
+use Rattle.diagram_file.proofs.records.uses_number.Statement.{statement}
+use Rattle.diagram_file.proofs.records.uses_number.Tie as tie
+use Rattle.diagram_file.proofs.records.uses_number.Reads as reads
+use Rattle.diagram_file.proofs.records.uses_number.Lts as lts
+use Rattle.diagram_file.proofs.records.use_count.Reads as use-count-reads
+use Rattle.words.proofs.word.Reads as word-reads
+
+-- src/records.rt:201:9
+word-requires : tie.Need-word-requires
+word-requires c κs = search needs
+
+-- src/records.rt:203:26
+word-requires-2 : tie.Need-word-requires-2
+word-requires-2 c κs = search needs
+
+-- src/records.rt:203:9
+use-count-requires : tie.Need-use-count-requires
+use-count-requires c κs = search needs
+
+-- src/records.rt:203:9
+returns : tie.Need-returns
+returns c = ?
+
+-- src/records.rt:198:1
+returns-2 : tie.Need-returns-2
+returns-2 c = ?
+
+pub uses-number-spec : {M : Type 1} → statement M
+uses-number-spec =
+    tie.close (tie.spec word-requires word-requires-2 use-count-requires returns returns-2)
