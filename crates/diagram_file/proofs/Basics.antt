@@ -34,16 +34,16 @@ all-elim (suc n) f e i l = decide (eqb i n)
 -- the least number that passes
 pub least-is : (n : ℕ) (f : ℕ → Bool) (i : ℕ) → i < n → f i ≡ true → ((j : ℕ) → j < i → f j ≡ false) → least n f ≡ i
 least-is zero f i l e h = absurd (omega arith)
-least-is (suc n) f zero l e h = rw e
-least-is (suc n) f (suc i) l e h = rw (h 0 (omega arith)) (ap suc (least-is n (λ j. f (suc j)) i (omega arith) e (λ j z. h (suc j) (omega arith))))
+least-is (suc n) f zero l e h = rw (least, e)
+least-is (suc n) f (suc i) l e h = rw (least, h 0 (omega arith)) (ap suc (least-is n (λ j. f (suc j)) i (omega arith) e (λ j z. h (suc j) (omega arith))))
 
 pub least-none : (n : ℕ) (f : ℕ → Bool) → ((j : ℕ) → j < n → f j ≡ false) → least n f ≡ n
 least-none zero f h = refl
-least-none (suc n) f h = rw (h 0 (omega arith)) (ap suc (least-none n (λ j. f (suc j)) (λ j z. h (suc j) (omega arith))))
+least-none (suc n) f h = rw (least, h 0 (omega arith)) (ap suc (least-none n (λ j. f (suc j)) (λ j z. h (suc j) (omega arith))))
 
 pub least-low : (n : ℕ) (f : ℕ → Bool) → least n f ≤ n
 least-low zero f = omega arith
-least-low (suc n) f = decide (f zero) (λ e. rw e zero-le) (λ e. rw e (let h = least-low n (λ j. f (suc j)) in omega arith))
+least-low (suc n) f = decide (f zero) (λ e. rw (least, e) zero-le) (λ e. rw (least, e) (let h = least-low n (λ j. f (suc j)) in omega arith))
 
 -- outcomes
 pub never : {A C : Type 0} {n v : ℕ} {x : A} → refused n v ≡ accepted x → C

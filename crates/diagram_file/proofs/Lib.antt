@@ -2,3 +2,4 @@ pub mod Basics
 pub mod KindTable
 pub mod Fields
 pub mod Loops
+pub mod Files

@@ -36,12 +36,17 @@ unfoldable pub standsOf : (kind top : ℕ) (two last : Bool) → Bool
 standsOf k top two last = cond (eqb k 18) (isAndOr top) (cond (eqb k 19) (eqb top 17 && two) (cond (eqb k 21) (eqb top 20 && two)
     (cond (eqb k 23) (eqb top 22) (cond (eqb k 25) (eqb top 24) (cond (eqb k 27) (eqb top 0 && last) true)))))
 
+unfoldable pub followsOf : (before kind : ℕ) → Bool
+followsOf before k = not (isAndOr before) || eqb k 18
+
 unfoldable pub brokenOf : (before kind top : ℕ) (two last : Bool) → Bool
-brokenOf before k top two last = not ((not (isAndOr before) || eqb k 18) && (standsOf k top two last && (not last || eqb k 27)))
+brokenOf before k top two last = not (followsOf before k && (standsOf k top two last && (not last || eqb k 27)))
+
+unfoldable pub exitFits : (next top : ℕ) (looped : Bool) → Bool
+exitFits next top looped = looped && (isAndOr top && (eqb next 18 || cond (eqb top 17) (eqb next 19) (eqb next 21)))
 
 unfoldable pub misplacedOf : (kind next top : ℕ) (looped : Bool) → Bool
-misplacedOf k next top looped =
-    eqb k 26 && not (isAndOr top && (looped && (eqb next 18 || ((eqb top 17 && eqb next 19) || (eqb top 20 && eqb next 21)))))
+misplacedOf k next top looped = eqb k 26 && not (exitFits next top looped)
 
 abbrev pub opening : Part → Bool
 opening Opens = true

@@ -2,7 +2,7 @@
 // runs inside it; they call each other, and the call stack is the stack of what is open.
 ghost use mathlib.Core.Path.{_≡_};
 ghost use Prim.Native.Nat.{_≤_, _<_};
-ghost use Rattle.diagram_file.specs.Runs.{partOf, kindIn, topIn, isAndOr, standsOf, brokenOf, misplacedOf, deepOf, faultIn, RunRead, ConstructRead, NestingRead};
+ghost use Rattle.diagram_file.specs.Runs.{partOf, kindIn, beforeIn, topIn, isAndOr, standsOf, followsOf, brokenOf, exitFits, misplacedOf, deepOf, faultIn, RunRead, ConstructRead, NestingRead};
 
 // What a row does to the constructs that are open: adds one, turns the innermost to its next branch, takes it off, or nothing.
 pub enum Part {
@@ -66,6 +66,16 @@ fn kind_in(table: &[u16], rows: usize, row: usize) -> u16
     27
 }
 
+// The kind of the row before, 0 before the first.
+fn before_in(table: &[u16], rows: usize, row: usize) -> u16
+    ensures { λ r. ⌜ r ≡ beforeIn (now (table .entry)) rows row ⌝ }
+{
+    if row == 0 {
+        return 0;
+    }
+    kind_in(table, rows, row - 1)
+}
+
 // The kind of the innermost open construct's open row, 0 where nothing is open.
 fn top_in(table: &[u16], rows: usize, around: Open) -> u16
     ensures { λ r. ⌜ r ≡ topIn (now (table .entry)) rows around ⌝ }
@@ -101,36 +111,59 @@ fn stands(kind: u16, top: u16, two: bool, last: bool) -> bool
     }
 }
 
-// 7, `before` being the kind of the row before.
+// "AND open and OR open are followed by BRANCH at once": `before` is the kind of the row before.
+fn follows(before: u16, kind: u16) -> bool
+    ensures { λ r. ⌜ r ≡ followsOf before kind ⌝ }
+{
+    if is_and_or(before) {
+        return kind == 18;
+    }
+    true
+}
+
+// 7
 fn broken(before: u16, kind: u16, top: u16, two: bool, last: bool) -> bool
     ensures { λ r. ⌜ r ≡ brokenOf before kind top two last ⌝ }
 {
-    if is_and_or(before) {
-        if kind != 18 {
-            return true;
-        }
+    if !follows(before, kind) {
+        return true;
     }
     if !stands(kind, top, two, last) {
         return true;
     }
-    last && kind != 27
+    if last {
+        return kind != 27;
+    }
+    false
 }
 
-// 8, `next` being the kind of the row after.
+// May an LE stand here? `next` is the kind of the row after.
+fn exit_fits(next: u16, top: u16, looped: bool) -> bool
+    ensures { λ r. ⌜ r ≡ exitFits next top looped ⌝ }
+{
+    if !looped {
+        return false;
+    }
+    if !is_and_or(top) {
+        return false;
+    }
+    if next == 18 {
+        return true;
+    }
+    if top == 17 {
+        return next == 19;
+    }
+    next == 21
+}
+
+// 8
 fn misplaced(kind: u16, next: u16, top: u16, looped: bool) -> bool
     ensures { λ r. ⌜ r ≡ misplacedOf kind next top looped ⌝ }
 {
     if kind != 26 {
         return false;
     }
-    if !looped {
-        return true;
-    }
-    match top {
-        17 => next != 18 && next != 19,
-        20 => next != 18 && next != 21,
-        _ => true,
-    }
+    !exit_fits(next, top, looped)
 }
 
 // 9
@@ -154,9 +187,10 @@ fn fault_in(table: &[u16], rows: usize, row: usize, around: Open) -> u16
 {
     let kind = kind_in(table, rows, row);
     let top = top_in(table, rows, around);
-    let before = if row == 0 { 0 } else { kind_in(table, rows, row - 1) };
+    let before = before_in(table, rows, row);
     let two = around.opened + 1 < around.latest;
-    if broken(before, kind, top, two, row + 1 == rows) {
+    let last = row + 1 == rows;
+    if broken(before, kind, top, two, last) {
         return 7;
     }
     if misplaced(kind, kind_in(table, rows, row + 1), top, around.looped) {

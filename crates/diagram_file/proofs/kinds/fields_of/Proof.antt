@@ -1,3 +1,4 @@
+use Rattle.diagram_file.proofs.KindTable.{fields, fields-at, fields-past}
 use borrow.Author.Needs.{needs}
 use Rattle.diagram_file.proofs.kinds.fields_of.Statement.{statement}
 use Rattle.diagram_file.proofs.kinds.fields_of.Tie as tie
@@ -14,11 +15,12 @@ array-read-result c = search needs
 
 -- src/kinds.rt:28:9
 returns : tie.Need-returns
-returns c = ?
+unfolding fields
+returns c = fields-at (c .before .args .kind) (c .if1 .taken)
 
 -- src/kinds.rt:24:1
 returns-2 : tie.Need-returns-2
-returns-2 c = ?
+returns-2 c = fields-past (c .before .args .kind) (c .if1 .left)
 
 pub fields-of-spec : {M : Type 1} → statement M
 fields-of-spec = tie.close (tie.spec mul-result array-read-result returns returns-2)

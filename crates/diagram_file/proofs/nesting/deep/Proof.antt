@@ -1,3 +1,9 @@
+use mathlib.Core.Path.{_≡_, sym, _∙_, ap}
+use lib.Dec.{leb}
+use Rattle.diagram_file.specs.declared.nesting.Part.{Part}
+use mathlib.Core.Bool.{_&&_}
+use mathlib.Core.Path.{sym, _∙_, ap}
+use Rattle.diagram_file.specs.Runs.{deepOf, partOf, opening}
 use borrow.Author.Needs.{needs}
 use Rattle.diagram_file.proofs.nesting.deep.Statement.{statement}
 use Rattle.diagram_file.proofs.nesting.deep.Tie as tie
@@ -27,19 +33,23 @@ enum-told-4 c = search needs
 
 -- src/nesting.rt:137:1
 returns : tie.Need-returns
-returns c = ?
+unfolding deepOf
+returns c = ap (λ (p : Part). opening p && leb 12 (c .before .before .before .args .depth)) (sym (c .enum-told .given .1) ∙ c .before .before .part-of .ensures)
 
 -- src/nesting.rt:137:1
 returns-2 : tie.Need-returns-2
-returns-2 c = ?
+unfolding deepOf
+returns-2 c = ap (λ (p : Part). opening p && leb 12 (c .before .before .before .args .depth)) (sym (c .enum-told2 .given .1) ∙ c .before .before .part-of .ensures)
 
 -- src/nesting.rt:137:1
 returns-3 : tie.Need-returns-3
-returns-3 c = ?
+unfolding deepOf
+returns-3 c = ap (λ (p : Part). opening p && leb 12 (c .before .before .before .args .depth)) (sym (c .enum-told3 .given .1) ∙ c .before .before .part-of .ensures)
 
 -- src/nesting.rt:137:1
 returns-4 : tie.Need-returns-4
-returns-4 c = ?
+unfolding deepOf
+returns-4 c = ap (λ (p : Part). opening p && leb 12 (c .before .before .before .args .depth)) (sym (c .enum-told4 .given .1) ∙ c .before .before .part-of .ensures)
 
 pub deep-spec : {M : Type 1} → statement M
 deep-spec =

@@ -1,3 +1,6 @@
+use Rattle.diagram_file.specs.Reading.{fillRow}
+use Rattle.effbd.specs.Records.{word}
+use mathlib.Core.Path.{_∙_}
 use borrow.Author.Needs.{needs}
 use Rattle.diagram_file.proofs.records.fill_row.Statement.{statement}
 use Rattle.diagram_file.proofs.records.fill_row.Tie as tie
@@ -40,7 +43,8 @@ same-length c = search needs
 
 -- src/records.rt:220:1
 returns : tie.Need-returns
-returns c = ?
+unfolding fillRow
+returns c = c .before .before .put-row .ensures ∙ rw (c .before .before .before .before .uses-number .ensures, c .before .before .before .before .before .uses-offset .ensures, c .before .before .before .before .before .before .second-of .ensures, c .before .before .before .before .before .before .before .first-of .ensures, c .before .before .before .before .before .before .before .before .word .ensures)
 
 pub fill-row-spec : {M : Type 1} → statement M
 fill-row-spec =

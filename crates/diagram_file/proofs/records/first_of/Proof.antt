@@ -1,3 +1,7 @@
+use Rattle.diagram_file.specs.Reading.{column}
+use Rattle.effbd.specs.Records.{word}
+use borrow.Author.Tests.{eq-eqb, ne-eqb}
+use mathlib.Core.Path.{sym, _∙_}
 use borrow.Author.Needs.{needs}
 use Rattle.diagram_file.proofs.records.first_of.Statement.{statement}
 use Rattle.diagram_file.proofs.records.first_of.Tie as tie
@@ -19,15 +23,18 @@ word-requires-3 c κs = search needs
 
 -- src/records.rt:164:1
 returns : tie.Need-returns
-returns c = ?
+unfolding column
+returns c = c .word2 .ensures ∙ simp (eq-eqb _ _ (sym (c .before .before .word .ensures) ∙ c .before .match .keys1))
 
 -- src/records.rt:164:1
 returns-2 : tie.Need-returns-2
-returns-2 c = ?
+unfolding column
+returns-2 c = c .word3 .ensures ∙ rw (sym (c .before .before .word .ensures) ∙ c .before .match .keys2)
 
 -- src/records.rt:164:1
 returns-3 : tie.Need-returns-3
-returns-3 c = ?
+unfolding column
+returns-3 c = simp (ne-eqb _ _ (λ q. c .match .rest .0 .1 (c .before .word .ensures ∙ q)), ne-eqb _ _ (λ q. c .match .rest .1 (c .before .word .ensures ∙ q)))
 
 pub first-of-spec : {M : Type 1} → statement M
 first-of-spec =

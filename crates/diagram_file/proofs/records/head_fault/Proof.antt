@@ -1,3 +1,4 @@
+use Rattle.diagram_file.proofs.Fields.{head-fault-is}
 use borrow.Author.Needs.{needs}
 use Rattle.diagram_file.proofs.records.head_fault.Statement.{statement}
 use Rattle.diagram_file.proofs.records.head_fault.Tie as tie
@@ -42,7 +43,7 @@ record-fault-requires c κs = search needs
 
 -- src/records.rt:153:1
 returns : tie.Need-returns
-returns c = ?
+returns c = head-fault-is (c .before .before .before .before .before .before .before .before .before .args .bytes .now) (c .before .before .before .before .before .before .before .word .result) (c .before .before .before .before .before .before .word2 .result) (c .before .before .before .before .before .word3 .result) (c .before .before .before .before .word4 .result) (c .before .before .before .word5 .result) (c .before .length-of .result) (c .record-fault .result) (c .before .before .head-fine .result) (c .before .before .before .before .before .before .before .word .ensures) (c .before .before .before .before .before .before .word2 .ensures) (c .before .before .before .before .before .word3 .ensures) (c .before .before .before .before .word4 .ensures) (c .before .before .before .word5 .ensures) (c .before .before .head-fine .ensures) (c .before .length-of .ensures) (c .record-fault .ensures)
 
 pub head-fault-spec : {M : Type 1} → statement M
 head-fault-spec =

@@ -1,3 +1,4 @@
+use Rattle.diagram_file.proofs.Fields.{item-fault-is}
 use borrow.Author.Needs.{needs}
 use Rattle.diagram_file.proofs.records.item_fault.Statement.{statement}
 use Rattle.diagram_file.proofs.records.item_fault.Tie as tie
@@ -25,7 +26,7 @@ record-fault-requires c κs = search needs
 
 -- src/records.rt:138:1
 returns : tie.Need-returns
-returns c = ?
+returns c = item-fault-is (c .before .before .before .before .before .args .bytes .now) (c .before .before .before .word .result) (c .before .before .word2 .result) (c .before .length-of .result) (c .record-fault .result) (c .before .before .before .word .ensures) (c .before .before .word2 .ensures) (c .before .length-of .ensures) (c .record-fault .ensures)
 
 pub item-fault-spec : {M : Type 1} → statement M
 item-fault-spec =

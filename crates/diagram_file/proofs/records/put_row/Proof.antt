@@ -1,3 +1,7 @@
+use Prim.Native.Nat.{_+_}
+use Rattle.diagram_file.specs.Reading.{putRow}
+use lib.ListN.{set}
+use mathlib.Core.Path.{ap, _∙_}
 use borrow.Author.Needs.{needs}
 use Rattle.diagram_file.proofs.records.put_row.Statement.{statement}
 use Rattle.diagram_file.proofs.records.put_row.Tie as tie
@@ -47,7 +51,10 @@ same-length c = search needs
 
 -- src/records.rt:208:1
 returns : tie.Need-returns
-returns c = ?
+unfolding putRow
+returns c =
+    let a = c .before .before .before .before .before .before .before .before .before .before .before .before .before .before .before .before .before .before .before .before .before .args in
+    c .before .before .put5 .ensures ∙ ap (λ t. set t (256 + a .row) (a .number)) (c .before .before .before .before .before .before .put4 .ensures ∙ ap (λ t. set t (192 + a .row) (a .offset)) (c .before .before .before .before .before .before .before .before .before .before .put3 .ensures ∙ ap (λ t. set t (128 + a .row) (a .second)) (c .before .before .before .before .before .before .before .before .before .before .before .before .before .before .put2 .ensures ∙ ap (λ t. set t (64 + a .row) (a .first)) (c .before .before .before .before .before .before .before .before .before .before .before .before .before .before .before .before .before .before .put .ensures))))
 
 pub put-row-spec : {M : Type 1} → statement M
 put-row-spec =

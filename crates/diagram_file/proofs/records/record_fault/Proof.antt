@@ -1,3 +1,6 @@
+use Rattle.effbd.specs.Records.{faultAt}
+use Rattle.effbd.specs.Records.{word}
+use borrow.Author.Tests.{lt-ltb, le-ltb, not-true, not-false}
 use borrow.Author.Needs.{needs}
 use Rattle.diagram_file.proofs.records.record_fault.Statement.{statement}
 use Rattle.diagram_file.proofs.records.record_fault.Tie as tie
@@ -7,15 +10,18 @@ use Rattle.words.proofs.word.Reads as word-reads
 
 -- src/records.rt:61:9
 returns : tie.Need-returns
-returns c = ?
+unfolding faultAt
+returns c = simp (lt-ltb _ _ (c .if1 .taken))
 
 -- src/records.rt:64:9
 returns-2 : tie.Need-returns-2
-returns-2 c = ?
+unfolding faultAt
+returns-2 c = let a = c .before .before .before .args in simp (le-ltb _ _ (c .before .if1 .left), not-true (a .due) (c .if2 .taken))
 
 -- src/records.rt:67:9
 returns-3 : tie.Need-returns-3
-returns-3 c = ?
+unfolding faultAt
+returns-3 c = let a = c .before .before .before .before .args in simp (le-ltb _ _ (c .before .before .if1 .left), not-false (a .due) (c .before .if2 .left), not-true (a .right) (c .if3 .taken))
 
 -- src/records.rt:69:22
 word-requires : tie.Need-word-requires
@@ -27,15 +33,18 @@ cast-if4 c = search needs
 
 -- src/records.rt:70:9
 returns-4 : tie.Need-returns-4
-returns-4 c = ?
+unfolding faultAt
+returns-4 c = let a = c .before .before .before .before .before .before .args in simp (le-ltb _ _ (c .before .before .before .before .if1 .left), not-false (a .due) (c .before .before .before .if2 .left), not-false (a .right) (c .before .before .if3 .left), lt-ltb _ _ (rw (c .before .word .ensures) at (c .if4 .taken)))
 
 -- src/records.rt:73:9
 returns-5 : tie.Need-returns-5
-returns-5 c = ?
+unfolding faultAt
+returns-5 c = let a = c .before .before .before .before .before .before .before .args in simp (le-ltb _ _ (c .before .before .before .before .before .if1 .left), not-false (a .due) (c .before .before .before .before .if2 .left), not-false (a .right) (c .before .before .before .if3 .left), le-ltb _ _ (rw (c .before .before .word .ensures) at (c .before .if4 .left)), not-true (a .fine) (c .if5 .taken))
 
 -- src/records.rt:57:1
 returns-6 : tie.Need-returns-6
-returns-6 c = ?
+unfolding faultAt
+returns-6 c = let a = c .before .before .before .before .before .before .before .args in simp (le-ltb _ _ (c .before .before .before .before .before .if1 .left), not-false (a .due) (c .before .before .before .before .if2 .left), not-false (a .right) (c .before .before .before .if3 .left), le-ltb _ _ (rw (c .before .before .word .ensures) at (c .before .if4 .left)), not-false (a .fine) (c .if5 .left))
 
 pub record-fault-spec : {M : Type 1} → statement M
 record-fault-spec =

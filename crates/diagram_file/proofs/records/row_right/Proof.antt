@@ -1,3 +1,5 @@
+use Rattle.diagram_file.proofs.Fields.{right-16, right-not}
+use Rattle.effbd.specs.Records.{word}
 use borrow.Author.Needs.{needs}
 use Rattle.diagram_file.proofs.records.row_right.Statement.{statement}
 use Rattle.diagram_file.proofs.records.row_right.Tie as tie
@@ -21,7 +23,7 @@ function-right-requires c κs = search needs
 
 -- src/records.rt:97:9
 returns : tie.Need-returns
-returns c = ?
+returns c = right-16 (c .before .before .before .before .before .args .items) (c .before .before .before .before .before .args .bytes .now) (c .before .before .before .word .result) (c .before .before .word2 .result) (c .function-right .result) (c .before .before .before .word .ensures) (c .before .before .word2 .ensures) (c .before .if1 .taken) (c .function-right .ensures)
 
 -- src/records.rt:99:15
 length-of-requires : tie.Need-length-of-requires
@@ -29,7 +31,7 @@ length-of-requires c κs = search needs
 
 -- src/records.rt:91:1
 returns-2 : tie.Need-returns-2
-returns-2 c = ?
+returns-2 c = right-not (c .before .before .before .before .before .args .items) (c .before .before .before .before .before .args .bytes .now) (c .before .before .before .word .result) (c .before .before .word2 .result) (c .length-of .result) (c .before .before .before .word .ensures) (c .before .before .word2 .ensures) (c .before .if1 .left) (c .length-of .ensures)
 
 pub row-right-spec : {M : Type 1} → statement M
 row-right-spec =

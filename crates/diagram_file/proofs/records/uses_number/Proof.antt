@@ -1,3 +1,8 @@
+use Prim.Native.Nat.{_-_, _/_}
+use Rattle.diagram_file.specs.Reading.{column}
+use Rattle.effbd.specs.Records.{word}
+use borrow.Author.Tests.{eq-eqb, ne-eqb}
+use mathlib.Core.Path.{ap, sym, _∙_}
 use borrow.Author.Needs.{needs}
 use Rattle.diagram_file.proofs.records.uses_number.Statement.{statement}
 use Rattle.diagram_file.proofs.records.uses_number.Tie as tie
@@ -20,11 +25,13 @@ use-count-requires c κs = search needs
 
 -- src/records.rt:203:9
 returns : tie.Need-returns
-returns c = ?
+unfolding column
+returns c = c .use-count .ensures ∙ (ap (λ n. (n - 8) / 6) (c .before .word2 .ensures) ∙ simp (eq-eqb _ _ (sym (c .before .before .before .word .ensures) ∙ c .before .before .if1 .taken)))
 
 -- src/records.rt:198:1
 returns-2 : tie.Need-returns-2
-returns-2 c = ?
+unfolding column
+returns-2 c = simp (ne-eqb _ _ (λ q. c .if1 .left (c .before .word .ensures ∙ q)))
 
 pub uses-number-spec : {M : Type 1} → statement M
 uses-number-spec =

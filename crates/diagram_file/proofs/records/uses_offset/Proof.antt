@@ -1,3 +1,6 @@
+use Rattle.effbd.specs.Records.{word}
+use borrow.Author.Tests.{eq-eqb, ne-eqb}
+use mathlib.Core.Path.{sym, _∙_}
 use borrow.Author.Needs.{needs}
 use Rattle.diagram_file.proofs.records.uses_offset.Statement.{statement}
 use Rattle.diagram_file.proofs.records.uses_offset.Tie as tie
@@ -19,11 +22,11 @@ cast-result c = search needs
 
 -- src/records.rt:193:9
 returns : tie.Need-returns
-returns c = ?
+returns c = simp (eq-eqb _ _ (sym (c .before .word .ensures) ∙ c .if1 .taken))
 
 -- src/records.rt:187:1
 returns-2 : tie.Need-returns-2
-returns-2 c = ?
+returns-2 c = simp (ne-eqb _ _ (λ q. c .if1 .left (c .before .word .ensures ∙ q)))
 
 pub uses-offset-spec : {M : Type 1} → statement M
 uses-offset-spec = tie.close (tie.spec word-requires add-result cast-result returns returns-2)

@@ -1,0 +1,21 @@
+use borrow.Author.Needs.{needs}
+use Rattle.diagram_file.proofs.nesting.follows.Statement.{statement}
+use Rattle.diagram_file.proofs.nesting.follows.Tie as tie
+use Rattle.diagram_file.proofs.nesting.follows.Reads as reads
+use Rattle.diagram_file.proofs.nesting.follows.Lts as lts
+use Rattle.diagram_file.proofs.nesting.is_and_or.Reads as is-and-or-reads
+
+-- src/nesting.rt:118:8
+is-and-or-requires : tie.Need-is-and-or-requires
+is-and-or-requires c κs = search needs
+
+-- src/nesting.rt:119:9
+returns : tie.Need-returns
+returns c = ?
+
+-- src/nesting.rt:115:1
+returns-2 : tie.Need-returns-2
+returns-2 c = ?
+
+pub follows-spec : {M : Type 1} → statement M
+follows-spec = tie.close (tie.spec is-and-or-requires returns returns-2)
