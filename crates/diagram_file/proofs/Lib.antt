@@ -3,3 +3,5 @@ pub mod KindTable
 pub mod Fields
 pub mod Loops
 pub mod Files
+pub mod Rules
+pub mod Walks

@@ -48,6 +48,9 @@ exitFits next top looped = looped && (isAndOr top && (eqb next 18 || cond (eqb t
 unfoldable pub misplacedOf : (kind next top : ℕ) (looped : Bool) → Bool
 misplacedOf k next top looped = eqb k 26 && not (exitFits next top looped)
 
+unfoldable pub loopsIn : (kind : ℕ) (looped : Bool) → Bool
+loopsIn k looped = eqb k 24 || looped
+
 abbrev pub opening : Part → Bool
 opening Opens = true
 opening Turns = false

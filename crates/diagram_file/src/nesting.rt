@@ -2,7 +2,7 @@
 // runs inside it; they call each other, and the call stack is the stack of what is open.
 ghost use mathlib.Core.Path.{_≡_};
 ghost use Prim.Native.Nat.{_≤_, _<_};
-ghost use Rattle.diagram_file.specs.Runs.{partOf, kindIn, beforeIn, topIn, isAndOr, standsOf, followsOf, brokenOf, exitFits, misplacedOf, deepOf, faultIn, RunRead, ConstructRead, NestingRead};
+ghost use Rattle.diagram_file.specs.Runs.{partOf, kindIn, beforeIn, topIn, isAndOr, standsOf, followsOf, brokenOf, exitFits, misplacedOf, loopsIn, deepOf, faultIn, RunRead, ConstructRead, NestingRead};
 
 // What a row does to the constructs that are open: adds one, turns the innermost to its next branch, takes it off, or nothing.
 pub enum Part {
@@ -166,6 +166,16 @@ fn misplaced(kind: u16, next: u16, top: u16, looped: bool) -> bool
     !exit_fits(next, top, looped)
 }
 
+// Is an LP open in a construct that a row of this kind opens? `looped`: one is open around it.
+fn loops(kind: u16, looped: bool) -> bool
+    ensures { λ r. ⌜ r ≡ loopsIn kind looped ⌝ }
+{
+    if kind == 24 {
+        return true;
+    }
+    looped
+}
+
 // 9
 fn deep(kind: u16, depth: usize) -> bool
     ensures { λ r. ⌜ r ≡ deepOf kind depth ⌝ }
@@ -247,7 +257,7 @@ fn read_construct(table: &[u16], rows: usize, opened: usize, around: Open) -> Co
     requires { ⌜ around .depth < 12 ⌝ }
     ensures { λ r. ⌜ ConstructRead (now (table .entry)) rows opened around r ⌝ }
 {
-    let looped = around.looped || kind_in(table, rows, opened) == 24;
+    let looped = loops(kind_in(table, rows, opened), around.looped);
     let mut latest = opened + 1;
     let mut from = opened + 1;
     loop {

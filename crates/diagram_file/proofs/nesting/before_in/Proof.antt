@@ -1,3 +1,9 @@
+use Rattle.diagram_file.specs.Runs.{beforeIn, kindIn}
+use native.Mathlib.Omega.{arith}
+use mathlib.Core.List.{List}
+use mathlib.Core.Logic.{_≢_}
+use mathlib.Core.Path.{_≡_, refl, sym, _∙_, ap}
+use Prim.Native.Nat.{ℕ, zero, suc, _-_}
 use borrow.Author.Needs.{needs}
 use Rattle.diagram_file.proofs.nesting.before_in.Statement.{statement}
 use Rattle.diagram_file.proofs.nesting.before_in.Tie as tie
@@ -5,9 +11,15 @@ use Rattle.diagram_file.proofs.nesting.before_in.Reads as reads
 use Rattle.diagram_file.proofs.nesting.before_in.Lts as lts
 use Rattle.diagram_file.proofs.nesting.kind_in.Reads as kind-in-reads
 
+-- helpers begin
+before : (table : List ℕ) (rows row : ℕ) → row ≢ 0 → kindIn table rows (row - 1) ≡ beforeIn table rows row
+before table rows zero h = absurd (h refl)
+before table rows (suc p) h = ap (kindIn table rows) (let z : suc p - 1 ≡ p = omega arith in z)
+-- helpers end
+
 -- src/nesting.rt:74:9
 returns : tie.Need-returns
-returns c = search needs
+returns c = sym (ap (beforeIn (c .before .before .args .table .now) (c .before .before .args .rows)) (c .if1 .taken))
 
 -- src/nesting.rt:76:26
 sub-kind-in : tie.Need-sub-kind-in
@@ -19,7 +31,7 @@ kind-in-requires c κs = search needs
 
 -- src/nesting.rt:70:1
 returns-2 : tie.Need-returns-2
-returns-2 c = ?
+returns-2 c = c .kind-in .ensures ∙ before (c .before .before .before .args .table .now) (c .before .before .before .args .rows) (c .before .before .before .args .row) (c .before .if1 .left)
 
 pub before-in-spec : {M : Type 1} → statement M
 before-in-spec = tie.close (tie.spec returns sub-kind-in kind-in-requires returns-2)

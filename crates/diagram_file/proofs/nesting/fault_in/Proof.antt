@@ -1,3 +1,4 @@
+use Rattle.diagram_file.specs.Runs.{faultIn}
 use borrow.Author.Needs.{needs}
 use Rattle.diagram_file.proofs.nesting.fault_in.Statement.{statement}
 use Rattle.diagram_file.proofs.nesting.fault_in.Tie as tie
@@ -36,7 +37,8 @@ broken-requires c κs = search needs
 
 -- src/nesting.rt:194:9
 returns : tie.Need-returns
-returns c = ?
+unfolding faultIn
+returns c = rw (← c .before .before .before .before .before .before .kind-in .ensures, ← c .before .before .before .before .before .top-in .ensures, ← c .before .before .before .before .before-in .ensures, ← c .before .broken .ensures, c .if1 .taken)
 
 -- src/nesting.rt:196:45
 add-kind-in : tie.Need-add-kind-in
@@ -52,7 +54,8 @@ misplaced-requires c κs = search needs
 
 -- src/nesting.rt:197:9
 returns-2 : tie.Need-returns-2
-returns-2 c = ?
+unfolding faultIn
+returns-2 c = rw (← c .before .before .before .before .before .before .before .before .before .kind-in .ensures, ← c .before .before .before .before .before .before .before .before .top-in .ensures, ← c .before .before .before .before .before .before .before .before-in .ensures, ← c .before .before .before .before .broken .ensures, c .before .before .before .if1 .left, ← c .before .before .kind-in2 .ensures, ← c .before .misplaced .ensures, c .if2 .taken)
 
 -- src/nesting.rt:199:8
 deep-requires : tie.Need-deep-requires
@@ -60,11 +63,13 @@ deep-requires c κs = search needs
 
 -- src/nesting.rt:200:9
 returns-3 : tie.Need-returns-3
-returns-3 c = ?
+unfolding faultIn
+returns-3 c = rw (← c .before .before .before .before .before .before .before .before .before .before .before .kind-in .ensures, ← c .before .before .before .before .before .before .before .before .before .before .top-in .ensures, ← c .before .before .before .before .before .before .before .before .before .before-in .ensures, ← c .before .before .before .before .before .before .broken .ensures, c .before .before .before .before .before .if1 .left, ← c .before .before .before .before .kind-in2 .ensures, ← c .before .before .before .misplaced .ensures, c .before .before .if2 .left, ← c .before .deep .ensures, c .if3 .taken)
 
 -- src/nesting.rt:183:1
 returns-4 : tie.Need-returns-4
-returns-4 c = ?
+unfolding faultIn
+returns-4 c = rw (← c .before .before .before .before .before .before .before .before .before .before .before .kind-in .ensures, ← c .before .before .before .before .before .before .before .before .before .before .top-in .ensures, ← c .before .before .before .before .before .before .before .before .before .before-in .ensures, ← c .before .before .before .before .before .before .broken .ensures, c .before .before .before .before .before .if1 .left, ← c .before .before .before .before .kind-in2 .ensures, ← c .before .before .before .misplaced .ensures, c .before .before .if2 .left, ← c .before .deep .ensures, c .if3 .left)
 
 pub fault-in-spec : {M : Type 1} → statement M
 fault-in-spec =

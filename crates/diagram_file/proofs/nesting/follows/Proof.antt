@@ -1,3 +1,5 @@
+use Rattle.diagram_file.specs.Runs.{followsOf}
+use mathlib.Core.Path.{sym, _∙_}
 use borrow.Author.Needs.{needs}
 use Rattle.diagram_file.proofs.nesting.follows.Statement.{statement}
 use Rattle.diagram_file.proofs.nesting.follows.Tie as tie
@@ -11,11 +13,13 @@ is-and-or-requires c κs = search needs
 
 -- src/nesting.rt:119:9
 returns : tie.Need-returns
-returns c = ?
+unfolding followsOf
+returns c = rw (sym (c .before .is-and-or .ensures) ∙ c .if1 .taken)
 
 -- src/nesting.rt:115:1
 returns-2 : tie.Need-returns-2
-returns-2 c = ?
+unfolding followsOf
+returns-2 c = rw (sym (c .before .is-and-or .ensures) ∙ c .if1 .left)
 
 pub follows-spec : {M : Type 1} → statement M
 follows-spec = tie.close (tie.spec is-and-or-requires returns returns-2)

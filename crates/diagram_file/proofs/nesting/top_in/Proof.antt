@@ -1,3 +1,5 @@
+use Rattle.diagram_file.specs.Runs.{topIn}
+use borrow.Author.Tests.{eq-eqb, ne-eqb}
 use borrow.Author.Needs.{needs}
 use Rattle.diagram_file.proofs.nesting.top_in.Statement.{statement}
 use Rattle.diagram_file.proofs.nesting.top_in.Tie as tie
@@ -7,7 +9,8 @@ use Rattle.diagram_file.proofs.nesting.kind_in.Reads as kind-in-reads
 
 -- src/nesting.rt:74:9
 returns : tie.Need-returns
-returns c = ?
+unfolding topIn
+returns c = rw (eq-eqb _ _ (c .if1 .taken))
 
 -- src/nesting.rt:76:5
 kind-in-requires : tie.Need-kind-in-requires
@@ -15,7 +18,8 @@ kind-in-requires c κs = search needs
 
 -- src/nesting.rt:70:1
 returns-2 : tie.Need-returns-2
-returns-2 c = ?
+unfolding topIn
+returns-2 c = rw (ne-eqb _ _ (c .before .if1 .left)) (c .kind-in .ensures)
 
 pub top-in-spec : {M : Type 1} → statement M
 top-in-spec = tie.close (tie.spec returns kind-in-requires returns-2)

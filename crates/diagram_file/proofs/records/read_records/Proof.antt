@@ -1,3 +1,10 @@
+use Prim.Native.Nat.{_≤_}
+use lib.ListN.{length}
+use Rattle.diagram_file.proofs.Files.{head-good, head-bad, items-bad, rows-bad, bytes-left, all-read}
+use Rattle.diagram_file.specs.Reading.{ItemsRead, RowsRead}
+use Rattle.effbd.specs.Records.{word}
+use native.Mathlib.Omega.{arith}
+use mathlib.Core.Path.{_≡_, sym, _∙_, subst}
 use borrow.Author.Needs.{needs}
 use Rattle.diagram_file.proofs.records.read_records.Statement.{statement}
 use Rattle.diagram_file.proofs.records.read_records.Tie as tie
@@ -14,7 +21,7 @@ head-fault-requires c κs = search needs
 
 -- src/records.rt:289:9
 returns : tie.Need-returns
-returns c = ?
+returns c = head-bad (c .before .before .before .before .args .file .now) (c .before .before .before .before .args .table .now) (c .before .head-fault .result) (c .before .head-fault .ensures) (c .if1 .taken)
 
 -- src/records.rt:291:16
 word-requires : tie.Need-word-requires
@@ -34,7 +41,12 @@ cast-read-items c = search needs
 
 -- src/records.rt:293:9
 read-items-requires : tie.Need-read-items-requires
-read-items-requires c κs = ?
+read-items-requires c κs =
+    let file = c .before .before .before .before .before .before .before .args .file .now in
+    let h = head-good file (sym (c .before .before .before .before .head-fault .ensures) ∙ c .before .before .before .if1 .left) in
+    let e = c .before .word2 .ensures in
+    let m : c .before .word2 .result ≤ 16 = omega (arith, e, h .items) in
+    ((h .long, omega arith), (m, omega (arith, c .before .before .before .before .before .before .before .pre)))
 
 -- src/records.rt:295:9
 same-length : tie.Need-same-length
@@ -42,11 +54,27 @@ same-length c = search needs
 
 -- src/records.rt:295:9
 returns-2 : tie.Need-returns-2
-returns-2 c = ?
+returns-2 c =
+    let file = c .before .before .before .before .before .before .before .before .before .before .before .before .args .file .now in
+    let e = c .before .before .before .before .before .before .word2 .ensures in
+    let t = c .before .before .before .before .read-items .last .1 .1 .1 .0 in
+    items-bad file (sym (c .before .before .before .before .before .before .before .before .before .head-fault .ensures) ∙ c .before .before .before .before .before .before .before .before .if1 .left) t (c .before .before .before .before .read-items .result)
+    (subst (λ m. ItemsRead file 10 m t (c .before .before .before .before .read-items .result)) e (c .before .before .before .before .read-items .ensures)) t (c .if2 .taken)
 
 -- src/records.rt:297:9
 read-rows-requires : tie.Need-read-rows-requires
-read-rows-requires c κs = ?
+read-rows-requires c κs =
+    let file = c .before .before .before .before .before .before .before .before .before .before .before .before .before .args .file .now in
+    let h = head-good file (sym (c .before .before .before .before .before .before .before .before .before .before .head-fault .ensures) ∙ c .before .before .before .before .before .before .before .before .before .if1 .left) in
+    let e = c .before .before .before .before .before .before .before .word2 .ensures in
+    let g = c .before .before .before .before .before .before .before .before .word .ensures in
+    let s = c .before .before .before .before .before .read-items .result in
+    let q = c .before .before .before .before .before .read-items .ensures in
+    let m : c .before .before .before .before .before .before .before .word2 .result ≤ 16 = omega (arith, e, h .items) in
+    let n : c .before .before .before .before .before .before .before .before .word .result ≤ 64 = omega (arith, g, h .rows) in
+    let a : s .at ≤ length file = omega (arith, q .stopped .reached .sum) in
+    let b : s .at ≤ 106 = omega (arith, q .near, m) in
+    ((a, b), ((n, m), omega (arith, c .before .before .before .before .before .before .before .before .before .before .before .before .before .pre, c .before .before .before .before .before .read-items .kept)))
 
 -- src/records.rt:299:9
 same-length-2 : tie.Need-same-length-2
@@ -54,7 +82,16 @@ same-length-2 c = search needs
 
 -- src/records.rt:299:9
 returns-3 : tie.Need-returns-3
-returns-3 c = ?
+returns-3 c =
+    let file = c .before .before .before .before .before .before .before .before .before .before .before .before .before .before .before .before .before .before .args .file .now in
+    let e = c .before .before .before .before .before .before .before .before .before .before .before .before .word2 .ensures in
+    let g = c .before .before .before .before .before .before .before .before .before .before .before .before .before .word .ensures in
+    let t₁ = c .before .before .before .before .before .before .before .before .before .before .read-items .last .1 .1 .1 .0 in
+    let t = c .before .before .before .before .read-rows .last .1 .1 .1 .1 .0 in
+    let s = c .before .before .before .before .before .before .before .before .before .before .read-items .result in
+    let r = c .before .before .before .before .read-rows .result in
+    rows-bad file (sym (c .before .before .before .before .before .before .before .before .before .before .before .before .before .before .before .head-fault .ensures) ∙ c .before .before .before .before .before .before .before .before .before .before .before .before .before .before .if1 .left) t₁ s (subst (λ m. ItemsRead file 10 m t₁ s) e (c .before .before .before .before .before .before .before .before .before .before .read-items .ensures))
+    (c .before .before .before .before .before .before .if2 .left) t r (subst (λ m. RowsRead file m (s .at) (word file 6) t₁ t r) e (subst (λ n. RowsRead file (c .before .before .before .before .before .before .before .before .before .before .before .before .word2 .result) (s .at) n t₁ t r) g (c .before .before .before .before .read-rows .ensures))) (c .if3 .taken)
 
 -- src/records.rt:302:9
 same-length-3 : tie.Need-same-length-3
@@ -62,7 +99,16 @@ same-length-3 c = search needs
 
 -- src/records.rt:302:9
 returns-4 : tie.Need-returns-4
-returns-4 c = ?
+returns-4 c =
+    let file = c .before .before .before .before .before .before .before .before .before .before .before .before .before .before .before .before .before .before .before .before .args .file .now in
+    let e = c .before .before .before .before .before .before .before .before .before .before .before .before .before .before .word2 .ensures in
+    let g = c .before .before .before .before .before .before .before .before .before .before .before .before .before .before .before .word .ensures in
+    let t₁ = c .before .before .before .before .before .before .before .before .before .before .before .before .read-items .last .1 .1 .1 .0 in
+    let t = c .before .before .before .before .before .before .read-rows .last .1 .1 .1 .1 .0 in
+    let s = c .before .before .before .before .before .before .before .before .before .before .before .before .read-items .result in
+    let r = c .before .before .before .before .before .before .read-rows .result in
+    bytes-left file (sym (c .before .before .before .before .before .before .before .before .before .before .before .before .before .before .before .before .before .head-fault .ensures) ∙ c .before .before .before .before .before .before .before .before .before .before .before .before .before .before .before .before .if1 .left) t₁ s (subst (λ m. ItemsRead file 10 m t₁ s) e (c .before .before .before .before .before .before .before .before .before .before .before .before .read-items .ensures))
+    (c .before .before .before .before .before .before .before .before .if2 .left) t r (subst (λ m. RowsRead file m (s .at) (word file 6) t₁ t r) e (subst (λ n. RowsRead file (c .before .before .before .before .before .before .before .before .before .before .before .before .before .before .word2 .result) (s .at) n t₁ t r) g (c .before .before .before .before .before .before .read-rows .ensures))) (c .before .before .if3 .left) (c .if4 .taken)
 
 -- src/records.rt:283:1
 same-length-4 : tie.Need-same-length-4
@@ -70,7 +116,16 @@ same-length-4 c = search needs
 
 -- src/records.rt:283:1
 returns-5 : tie.Need-returns-5
-returns-5 c = ?
+returns-5 c =
+    let file = c .before .before .before .before .before .before .before .before .before .before .before .before .before .before .before .before .before .before .before .before .args .file .now in
+    let e = c .before .before .before .before .before .before .before .before .before .before .before .before .before .before .word2 .ensures in
+    let g = c .before .before .before .before .before .before .before .before .before .before .before .before .before .before .before .word .ensures in
+    let t₁ = c .before .before .before .before .before .before .before .before .before .before .before .before .read-items .last .1 .1 .1 .0 in
+    let t = c .before .before .before .before .before .before .read-rows .last .1 .1 .1 .1 .0 in
+    let s = c .before .before .before .before .before .before .before .before .before .before .before .before .read-items .result in
+    let r = c .before .before .before .before .before .before .read-rows .result in
+    all-read file (sym (c .before .before .before .before .before .before .before .before .before .before .before .before .before .before .before .before .before .head-fault .ensures) ∙ c .before .before .before .before .before .before .before .before .before .before .before .before .before .before .before .before .if1 .left) t₁ s (subst (λ m. ItemsRead file 10 m t₁ s) e (c .before .before .before .before .before .before .before .before .before .before .before .before .read-items .ensures))
+    (c .before .before .before .before .before .before .before .before .if2 .left) t r (subst (λ m. RowsRead file m (s .at) (word file 6) t₁ t r) e (subst (λ n. RowsRead file (c .before .before .before .before .before .before .before .before .before .before .before .before .before .before .word2 .result) (s .at) n t₁ t r) g (c .before .before .before .before .before .before .read-rows .ensures))) (c .before .before .if3 .left) (c .if4 .left)
 
 pub read-records-spec : {M : Type 1} → statement M
 read-records-spec =

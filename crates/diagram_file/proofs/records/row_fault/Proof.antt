@@ -33,7 +33,7 @@ record-fault-requires c κs = search needs
 
 -- src/records.rt:129:1
 returns : tie.Need-returns
-returns c = row-fault-is (c .before .before .before .before .before .before .args .items) (c .before .before .before .before .before .before .args .bytes .now) (c .before .before .before .before .word .result) (c .record-fault .result) (c .before .before .before .is-row .result) (c .before .before .right .result) (c .before .fine .result) (c .before .before .before .before .word .ensures) (c .before .before .before .is-row .ensures) (c .before .before .right .ensures) (c .before .fine .ensures) (c .record-fault .ensures)
+returns c = row-fault-is (c .before .before .before .before .before .before .args .items) (c .before .before .before .before .before .before .args .bytes .now) (c .before .before .before .before .word .result) (c .record-fault .result) (c .before .before .before .is-row .result) (c .before .before .row-right .result) (c .before .row-fine .result) (c .before .before .before .before .word .ensures) (c .before .before .before .is-row .ensures) (c .before .before .row-right .ensures) (c .before .row-fine .ensures) (c .record-fault .ensures)
 
 pub row-fault-spec : {M : Type 1} → statement M
 row-fault-spec =
