@@ -5,31 +5,31 @@ use Rattle.diagram_file.proofs.nesting.read_nesting.Reads as reads
 use Rattle.diagram_file.proofs.nesting.read_nesting.Lts as lts
 use Rattle.diagram_file.proofs.nesting.read_run.Reads as read-run-reads
 
--- src/nesting.rt:277:9
+-- src/nesting.rt:287:9
 read-run-requires : tie.Need-read-run-requires
 read-run-requires c κs = search needs
 
--- src/nesting.rt:279:21
+-- src/nesting.rt:289:21
 enum-known-run : tie.Need-enum-known-run
 enum-known-run c = search needs
 
--- src/nesting.rt:280:21
+-- src/nesting.rt:290:21
 enum-known-run-2 : tie.Need-enum-known-run-2
 enum-known-run-2 c = search needs
 
--- src/nesting.rt:281:21
+-- src/nesting.rt:291:21
 enum-known-run-3 : tie.Need-enum-known-run-3
 enum-known-run-3 c = search needs
 
--- src/nesting.rt:272:1
+-- src/nesting.rt:282:1
 returns : tie.Need-returns
 returns c = ?
 
--- src/nesting.rt:272:1
+-- src/nesting.rt:282:1
 returns-2 : tie.Need-returns-2
 returns-2 c = ?
 
--- src/nesting.rt:272:1
+-- src/nesting.rt:282:1
 returns-3 : tie.Need-returns-3
 returns-3 c = ?
 
