@@ -45,6 +45,12 @@ pub least-low : (n : ℕ) (f : ℕ → Bool) → least n f ≤ n
 least-low zero f = omega arith
 least-low (suc n) f = decide (f zero) (λ e. rw (least, e) zero-le) (λ e. rw (least, e) (let h = least-low n (λ j. f (suc j)) in omega arith))
 
+pub least-upper : (n : ℕ) (f : ℕ → Bool) (i : ℕ) → i < n → f i ≡ true → least n f ≤ i
+least-upper zero f i l e = absurd (omega arith)
+least-upper (suc n) f zero l e = rw (least, e) zero-le
+least-upper (suc n) f (suc i) l e = decide (f zero) (λ z. rw (least, z) zero-le)
+    (λ z. rw (least, z) (let h = least-upper n (λ j. f (suc j)) i (omega arith) e in omega arith))
+
 -- outcomes
 pub never : {A C : Type 0} {n v : ℕ} {x : A} → refused n v ≡ accepted x → C
 never e = absurd (let z : _≡_ {A = ℕ} 0 1 = cc in omega arith)

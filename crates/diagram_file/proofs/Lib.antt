@@ -5,3 +5,4 @@ pub mod Loops
 pub mod Files
 pub mod Rules
 pub mod Walks
+pub mod Stacks

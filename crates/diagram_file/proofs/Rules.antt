@@ -54,6 +54,27 @@ part-opens lp-close = refl
 part-opens loop-exit = refl
 part-opens end = refl
 
+abbrev pub closing : Part → Bool
+closing Opens = false
+closing Turns = false
+closing Closes = true
+closing Stays = false
+
+pub part-closes : (k : Kind) → (sameKind k and-close || sameKind k or-close || sameKind k it-close || sameKind k lp-close) ≡ closing (partOf (numberOf k))
+unfolding partOf
+part-closes function = refl
+part-closes and-open = refl
+part-closes branch = refl
+part-closes and-close = refl
+part-closes or-open = refl
+part-closes or-close = refl
+part-closes it-open = refl
+part-closes it-close = refl
+part-closes lp-open = refl
+part-closes lp-close = refl
+part-closes loop-exit = refl
+part-closes end = refl
+
 module _ (d : Diagram) where
   pub stack-next : (q : ℕ) (part : Part) → partOf (numberOf (kind d q)) ≡ part → stack d (q + 1) ≡ passingBy part q (stack d q)
   unfolding stack

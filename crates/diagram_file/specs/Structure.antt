@@ -8,13 +8,16 @@ use Rattle.diagram_file.specs.declared.nesting.Part.{Part}
 use Rattle.diagram_file.specs.declared.nesting.Part.the-variants.{Opens, Turns, Closes, Stays}
 use Rattle.diagram_file.specs.Runs.{partOf}
 
-unfoldable pub putStructure : (rows row owner latest loopRow : ℕ) → List ℕ → List ℕ
-putStructure rows row owner latest loopRow table =
-    set (set (set (set table (320 + row) owner) (384 + row) latest) (448 + row) rows) (512 + row) loopRow
+unfoldable pub putStructure : (rows row owner latest looping : ℕ) → List ℕ → List ℕ
+putStructure rows row owner latest looping table =
+    set (set (set (set table (320 + row) owner) (384 + row) latest) (448 + row) rows) (512 + row) looping
+
+abbrev pub loopingIn : (kind row looping : ℕ) → ℕ
+loopingIn kind row looping = cond (eqb kind 24) row looping
 
 -- the structure of row q + 1, by what row q does: an open has itself, a BRANCH turns, a close has what its owner had
 abbrev pub followedAs : Part → (rows q : ℕ) → List ℕ → List ℕ
-followedAs Opens rows q t = putStructure rows (q + 1) q (q + 1) (cond (eqb (getD t q 0) 24) q (getD t (512 + q) 0)) t
+followedAs Opens rows q t = putStructure rows (q + 1) q (q + 1) (loopingIn (getD t q 0) q (getD t (512 + q) 0)) t
 followedAs Turns rows q t = putStructure rows (q + 1) (getD t (320 + q) 0) q (getD t (512 + q) 0) t
 followedAs Closes rows q t =
     putStructure rows (q + 1) (getD t (320 + getD t (320 + q) 0) 0) (getD t (384 + getD t (320 + q) 0) 0) (getD t (512 + getD t (320 + q) 0) 0)

@@ -1,7 +1,7 @@
 // The structure of an accepted diagram's rows, in one pass over the table: each row's from the row before it.
 ghost use mathlib.Core.Path.{_≡_};
 ghost use Prim.Native.Nat.{_-_, _≤_, _<_};
-ghost use Rattle.diagram_file.specs.Structure.{putStructure, followed, structured};
+ghost use Rattle.diagram_file.specs.Structure.{putStructure, loopingIn, followed, structured};
 use crate::nesting;
 use crate::nesting::Part;
 
@@ -14,6 +14,16 @@ fn put_structure(table: &mut [u16], rows: u16, row: usize, owner: u16, latest: u
     words::put(table, 384 + row, latest);
     words::put(table, 448 + row, rows);
     words::put(table, 512 + row, looping);
+}
+
+// The innermost LP in a construct that a row of this kind opens, `looping` being the one around it.
+fn looping_in(kind: u16, row: u16, looping: u16) -> u16
+    ensures { λ r. ⌜ r ≡ loopingIn kind row looping ⌝ }
+{
+    if kind == 24 {
+        return row;
+    }
+    looping
 }
 
 // The structure of the row after `row`; where `row` is a close, it is that of its owner.
@@ -29,8 +39,7 @@ fn follow(table: &mut [u16], rows: u16, row: u16)
     let part = nesting::part_of(kind);
     match part {
         Part::Opens => {
-            let innermost = if kind == 24 { row } else { looping };
-            put_structure(table, rows, at + 1, row, row + 1, innermost);
+            put_structure(table, rows, at + 1, row, row + 1, looping_in(kind, row, looping));
         }
         Part::Turns => {
             put_structure(table, rows, at + 1, owner, row, looping);
