@@ -6,3 +6,4 @@ pub mod Files
 pub mod Rules
 pub mod Walks
 pub mod Stacks
+pub mod Columns

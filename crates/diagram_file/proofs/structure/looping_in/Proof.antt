@@ -1,0 +1,15 @@
+use Rattle.diagram_file.proofs.structure.looping_in.Statement.{statement}
+use Rattle.diagram_file.proofs.structure.looping_in.Tie as tie
+use Rattle.diagram_file.proofs.structure.looping_in.Reads as reads
+use Rattle.diagram_file.proofs.structure.looping_in.Lts as lts
+
+-- src/structure.rt:24:9
+returns : tie.Need-returns
+returns c = ?
+
+-- src/structure.rt:20:1
+returns-2 : tie.Need-returns-2
+returns-2 c = ?
+
+pub looping-in-spec : {M : Type 1} → statement M
+looping-in-spec = tie.close (tie.spec returns returns-2)
