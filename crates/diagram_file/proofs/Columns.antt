@@ -228,7 +228,7 @@ module _ (d : Diagram) (rows : ℕ) (er : rows ≡ rowCount d) (acc : nested d �
       next = subst (λ (p : Part). Sound start (n + 1) (n + 1) (followedAs p rows n t)) (ap partOf (sym kind-here)) (nextAs (does d n) refl)
 
     -- THEOREM: the pass is sound
-    pub sound : (n : ℕ) → n < rows → Sound start n n (structured rows n start)
+    pub sound : (n : ℕ) → n < rows → Sound start n n (structured rows n (putStructure rows 0 0 0 0 start))
     unfolding structured
     sound zero l =
         let put = put-cells rows 0 0 0 0 start (omega arith) long in
@@ -240,7 +240,8 @@ module _ (d : Diagram) (rows : ℕ) (er : rows ≡ rowCount d) (acc : nested d �
           loops = λ q h. rw (at q h) (put .3 ∙ (unfold loop stack in refl));
           closes = λ q h. rw (at q h) (record { none = λ z c y. absurd (omega arith); first = λ z. absurd (z (put .2)) });
         }
-    sound (suc n) l = subst (λ (m : ℕ). Sound start m m (followed rows n (structured rows n start))) (add-one n) (next n (structured rows n start) (omega arith) (sound n (omega arith)))
+    sound (suc n) l = subst (λ (m : ℕ). Sound start m m (followed rows n (structured rows n (putStructure rows 0 0 0 0 start)))) (add-one n)
+        (next n (structured rows n (putStructure rows 0 0 0 0 start)) (omega arith) (sound n (omega arith)))
 
     -- THEOREM: behind the last row the closes are the definition's
     pub close-is : (n : ℕ) → suc n ≡ rows → (t : List ℕ) → Sound start n n t → (q : ℕ) → q < rows → getD t (448 + q) 0 ≡ close d q

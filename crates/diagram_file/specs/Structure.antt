@@ -27,7 +27,7 @@ followedAs Stays rows q t = putStructure rows (q + 1) (getD t (320 + q) 0) (getD
 unfoldable pub followed : (rows q : ℕ) → List ℕ → List ℕ
 followed rows q t = followedAs (partOf (getD t q 0)) rows q t
 
--- the structure of the rows up to and with row n
+-- the structure of the rows up to and with row n, where that of row 0 stands
 unfoldable pub structured : (rows n : ℕ) → List ℕ → List ℕ
-structured rows zero t = putStructure rows 0 0 0 0 t
+structured rows zero t = t
 structured rows (suc n) t = followed rows n (structured rows n t)

@@ -6,7 +6,7 @@ use lib.ListN.{length, getD, take, drop, set}
 use Rattle.effbd.specs.Answers.{Outcome, accepted, refused, andThen}
 use Rattle.effbd.specs.Records.{word}
 use Rattle.effbd.specs.Diagrams.{Diagram, numberOf, rowCount, countTotal, initialCount, row, kind, usesAt}
-use Rattle.effbd.specs.Nesting.{owner, branchEnded, close, loop, nested, readDiagram, Part}
+use Rattle.effbd.specs.Nesting.{owner, branchEnded, close, loop, nested, readDiagram, Part, usesPart}
 use Rattle.effbd.specs.Layout.{places}
 use Rattle.effbd.specs.States.{freshWords}
 use Rattle.diagram_file.specs.declared.Diagram.{Diagram as Parse}
@@ -49,10 +49,11 @@ pub record Holds (d : Diagram) (rows items : ℕ) (table : List ℕ) : Type 0 wh
   pub loopLow : (r : ℕ) → loop d r ≤ r
   pub closeLow : (r : ℕ) → close d r ≤ rows
 
--- and the uses of its rows in the file's bytes
+-- and the uses of its rows in the file's bytes: from the column of offsets on, so many as the column of numbers says
 pub record HoldsUses (file : List ℕ) (d : Diagram) (table : List ℕ) : Type 0 where
   pub uses : (r : ℕ) → r < rowCount d → usesAt (getD table (256 + r) 0) (drop (getD table (192 + r) 0) file) ≡ row d r .uses
   pub inside : (r : ℕ) → r < rowCount d → getD table (192 + r) 0 + 6 * getD table (256 + r) 0 ≤ length file
+  pub part : (r : ℕ) → r < rowCount d → usesPart file r ≡ record { start = getD table (192 + r) 0; size = 6 * getD table (256 + r) 0 }
 
 pub record HoldsFile (file : List ℕ) (rows items : ℕ) (table : List ℕ) : Type 0 where
   pub diagram : Diagram

@@ -108,7 +108,10 @@ pub fn uses<'a>(file: &'a [u8], row: u16) -> &'a [u8]
     ensures { λ r. ⌜ now r ≡ partIn (now (file .entry)) (usesPart (now (file .entry)) row) ⌝ }
 {
     let diagram = parse(file);
-    if diagram.number != 0 || diagram.rows <= row {
+    if diagram.number != 0 {
+        return &file[0..0];
+    }
+    if diagram.rows <= row {
         return &file[0..0];
     }
     let start = words::get(&diagram.table, 192 + row as usize) as usize;

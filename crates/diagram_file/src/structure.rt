@@ -61,7 +61,7 @@ fn follow(table: &mut [u16], rows: u16, row: u16)
 // The structure of all rows.
 pub(crate) fn fill_structure(table: &mut [u16], rows: u16)
     requires { ⌜ (1 ≤ rows) × (rows ≤ 64) ⌝ }
-    ensures { λ _. ⌜ now (table .exit) ≡ structured rows (rows - 1) (now (table .entry)) ⌝ }
+    ensures { λ _. ⌜ now (table .exit) ≡ structured rows (rows - 1) (putStructure rows 0 0 0 0 (now (table .entry))) ⌝ }
 {
     put_structure(table, rows, 0, 0, 0, 0);
     let mut row: u16 = 0;

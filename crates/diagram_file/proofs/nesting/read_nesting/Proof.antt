@@ -1,3 +1,4 @@
+use Rattle.diagram_file.proofs.Walks.{all-judged, never-turned, never-closed}
 use borrow.Author.Needs.{needs}
 use Rattle.diagram_file.proofs.nesting.read_nesting.Statement.{statement}
 use Rattle.diagram_file.proofs.nesting.read_nesting.Tie as tie
@@ -23,15 +24,15 @@ enum-known-run-3 c = search needs
 
 -- src/nesting.rt:282:1
 returns : tie.Need-returns
-returns c = ?
+returns c = all-judged (c .before .before .before .before .before .args .table .now) (c .before .before .before .before .before .args .rows) (c .before .before .before .read-run .result) (c .before .before .before .read-run .ensures) (c .before .run .given .0 .0) (c .before .run .given .0 .1 .0) (c .before .run .given .1)
 
 -- src/nesting.rt:282:1
 returns-2 : tie.Need-returns-2
-returns-2 c = ?
+returns-2 c = never-turned (c .before .before .before .before .before .args .table .now) (c .before .before .before .before .before .args .rows) (c .before .before .before .read-run .result) (c .before .before .before .read-run .ensures) (c .before .run2 .given .0 .0) (c .before .run2 .given .1)
 
 -- src/nesting.rt:282:1
 returns-3 : tie.Need-returns-3
-returns-3 c = ?
+returns-3 c = never-closed (c .before .before .before .before .before .args .table .now) (c .before .before .before .before .before .args .rows) (c .before .before .before .read-run .result) (c .before .before .before .read-run .ensures) (c .before .run3 .given .0 .0) (c .before .run3 .given .1)
 
 pub read-nesting-spec : {M : Type 1} → statement M
 read-nesting-spec =

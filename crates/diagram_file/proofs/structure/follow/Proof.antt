@@ -1,3 +1,8 @@
+use Rattle.diagram_file.proofs.Columns.{follow-opens, follow-turns, follow-closes, follow-stays}
+use Rattle.diagram_file.specs.Structure.{putStructure}
+use Prim.Native.Nat.{ℕ, _+_}
+use mathlib.Core.List.{List}
+use mathlib.Core.Path.{_∙_, ap}
 use borrow.Author.Needs.{needs}
 use Rattle.diagram_file.proofs.structure.follow.Statement.{statement}
 use Rattle.diagram_file.proofs.structure.follow.Tie as tie
@@ -139,7 +144,7 @@ same-length c = search needs
 
 -- src/structure.rt:30:1
 returns : tie.Need-returns
-returns c = ?
+returns c = c .before .before .put-structure .ensures ∙ follow-opens (c .before .before .before .before .before .before .before .before .before .before .before .before .before .before .before .before .before .args .table .now) (c .before .before .before .before .before .before .before .before .before .before .before .before .before .before .before .before .before .args .rows) (c .before .before .before .before .before .before .before .before .before .before .before .before .before .before .before .before .before .args .row) (c .before .before .before .before .before .before .before .before .before .before .before .before .before .before .get .result) (c .before .before .before .before .before .before .before .before .before .before .before .before .get2 .result) (c .before .before .before .before .before .before .before .before .before .before .get3 .result) (c .before .before .before .before .before .before .before .before .get4 .result) (c .before .before .before .before .before .before .before .part-of .result) (c .before .before .before .before .before .before .before .before .before .before .before .before .before .before .get .ensures) (c .before .before .before .before .before .before .before .before .before .before .before .before .get2 .ensures) (c .before .before .before .before .before .before .before .before .before .before .get3 .ensures) (c .before .before .before .before .before .before .before .before .get4 .ensures) (c .before .before .before .before .before .before .before .part-of .ensures) (c .before .before .before .looping-in .result) (c .before .before .before .looping-in .ensures) (c .before .before .before .before .before .enum-told .given .1)
 
 -- src/structure.rt:30:1
 same-length-2 : tie.Need-same-length-2
@@ -147,7 +152,7 @@ same-length-2 c = search needs
 
 -- src/structure.rt:30:1
 returns-2 : tie.Need-returns-2
-returns-2 c = ?
+returns-2 c = c .before .before .put-structure2 .ensures ∙ follow-turns (c .before .before .before .before .before .before .before .before .before .before .before .before .before .before .before .before .args .table .now) (c .before .before .before .before .before .before .before .before .before .before .before .before .before .before .before .before .args .rows) (c .before .before .before .before .before .before .before .before .before .before .before .before .before .before .before .before .args .row) (c .before .before .before .before .before .before .before .before .before .before .before .before .before .get .result) (c .before .before .before .before .before .before .before .before .before .before .before .get2 .result) (c .before .before .before .before .before .before .before .before .before .get3 .result) (c .before .before .before .before .before .before .before .get4 .result) (c .before .before .before .before .before .before .part-of .result) (c .before .before .before .before .before .before .before .before .before .before .before .before .before .get .ensures) (c .before .before .before .before .before .before .before .before .before .before .before .get2 .ensures) (c .before .before .before .before .before .before .before .before .before .get3 .ensures) (c .before .before .before .before .before .before .before .get4 .ensures) (c .before .before .before .before .before .before .part-of .ensures) (c .before .before .before .before .enum-told2 .given .1)
 
 -- src/structure.rt:30:1
 same-length-3 : tie.Need-same-length-3
@@ -155,7 +160,7 @@ same-length-3 c = search needs
 
 -- src/structure.rt:30:1
 returns-3 : tie.Need-returns-3
-returns-3 c = ?
+returns-3 c = c .before .before .put-structure3 .ensures ∙ (ap (putStructure (c .before .before .before .before .before .before .before .before .before .before .before .before .before .before .before .before .before .before .before .before .before .before .before .before .before .before .args .rows) (c .before .before .before .before .before .before .before .before .before .before .before .before .before .before .before .before .before .before .before .before .before .before .before .before .before .before .args .row + 1) (c .before .before .before .before .before .before .before .before .before .before .before .before .get5 .result) (c .before .before .before .before .before .before .before .before .before .before .get6 .result) (c .before .before .before .before .before .before .before .before .get7 .result)) (c .before .before .before .before .before .before .put .ensures) ∙ follow-closes (c .before .before .before .before .before .before .before .before .before .before .before .before .before .before .before .before .before .before .before .before .before .before .before .before .before .before .args .table .now) (c .before .before .before .before .before .before .before .before .before .before .before .before .before .before .before .before .before .before .before .before .before .before .before .before .before .before .args .rows) (c .before .before .before .before .before .before .before .before .before .before .before .before .before .before .before .before .before .before .before .before .before .before .before .before .before .before .args .row) (c .before .before .before .before .before .before .before .before .before .before .before .before .before .before .before .before .before .before .before .before .before .before .before .get .result) (c .before .before .before .before .before .before .before .before .before .before .before .before .before .before .before .before .before .before .before .before .before .get2 .result) (c .before .before .before .before .before .before .before .before .before .before .before .before .before .before .before .before .before .before .before .get3 .result) (c .before .before .before .before .before .before .before .before .before .before .before .before .before .before .before .before .before .get4 .result) (c .before .before .before .before .before .before .before .before .before .before .before .before .before .before .before .before .part-of .result) (c .before .before .before .before .before .before .before .before .before .before .before .before .before .before .before .before .before .before .before .before .before .before .before .get .ensures) (c .before .before .before .before .before .before .before .before .before .before .before .before .before .before .before .before .before .before .before .before .before .get2 .ensures) (c .before .before .before .before .before .before .before .before .before .before .before .before .before .before .before .before .before .before .before .get3 .ensures) (c .before .before .before .before .before .before .before .before .before .before .before .before .before .before .before .before .before .get4 .ensures) (c .before .before .before .before .before .before .before .before .before .before .before .before .before .before .before .before .part-of .ensures) (c .before .before .before .before .before .before .before .before .before .before .before .before .get5 .result) (c .before .before .before .before .before .before .before .before .before .before .get6 .result) (c .before .before .before .before .before .before .before .before .get7 .result) (c .before .before .before .before .before .before .before .before .before .before .before .before .get5 .ensures) (c .before .before .before .before .before .before .before .before .before .before .get6 .ensures) (c .before .before .before .before .before .before .before .before .get7 .ensures) (c .before .before .before .before .before .before .before .before .before .before .before .before .before .before .enum-told3 .given .1))
 
 -- src/structure.rt:30:1
 same-length-4 : tie.Need-same-length-4
@@ -163,7 +168,7 @@ same-length-4 c = search needs
 
 -- src/structure.rt:30:1
 returns-4 : tie.Need-returns-4
-returns-4 c = ?
+returns-4 c = c .before .before .put-structure4 .ensures ∙ follow-stays (c .before .before .before .before .before .before .before .before .before .before .before .before .before .before .before .before .args .table .now) (c .before .before .before .before .before .before .before .before .before .before .before .before .before .before .before .before .args .rows) (c .before .before .before .before .before .before .before .before .before .before .before .before .before .before .before .before .args .row) (c .before .before .before .before .before .before .before .before .before .before .before .before .before .get .result) (c .before .before .before .before .before .before .before .before .before .before .before .get2 .result) (c .before .before .before .before .before .before .before .before .before .get3 .result) (c .before .before .before .before .before .before .before .get4 .result) (c .before .before .before .before .before .before .part-of .result) (c .before .before .before .before .before .before .before .before .before .before .before .before .before .get .ensures) (c .before .before .before .before .before .before .before .before .before .before .before .get2 .ensures) (c .before .before .before .before .before .before .before .before .before .get3 .ensures) (c .before .before .before .before .before .before .before .get4 .ensures) (c .before .before .before .before .before .before .part-of .ensures) (c .before .before .before .before .enum-told4 .given .1)
 
 pub follow-spec : {M : Type 1} → statement M
 follow-spec =

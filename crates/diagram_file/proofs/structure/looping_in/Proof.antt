@@ -1,3 +1,4 @@
+use borrow.Author.Tests.{eq-eqb, ne-eqb}
 use Rattle.diagram_file.proofs.structure.looping_in.Statement.{statement}
 use Rattle.diagram_file.proofs.structure.looping_in.Tie as tie
 use Rattle.diagram_file.proofs.structure.looping_in.Reads as reads
@@ -5,11 +6,11 @@ use Rattle.diagram_file.proofs.structure.looping_in.Lts as lts
 
 -- src/structure.rt:24:9
 returns : tie.Need-returns
-returns c = ?
+returns c = rw (eq-eqb _ _ (c .if1 .taken))
 
 -- src/structure.rt:20:1
 returns-2 : tie.Need-returns-2
-returns-2 c = ?
+returns-2 c = rw (ne-eqb _ _ (c .if1 .left))
 
 pub looping-in-spec : {M : Type 1} → statement M
 looping-in-spec = tie.close (tie.spec returns returns-2)

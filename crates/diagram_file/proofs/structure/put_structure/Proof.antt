@@ -1,3 +1,8 @@
+use Rattle.diagram_file.specs.Structure.{putStructure}
+use lib.ListN.{set}
+use mathlib.Core.List.{List}
+use mathlib.Core.Path.{_∙_, ap}
+use Prim.Native.Nat.{ℕ, _+_}
 use borrow.Author.Needs.{needs}
 use Rattle.diagram_file.proofs.structure.put_structure.Statement.{statement}
 use Rattle.diagram_file.proofs.structure.put_structure.Tie as tie
@@ -43,7 +48,10 @@ same-length c = search needs
 
 -- src/structure.rt:9:1
 returns : tie.Need-returns
-returns c = ?
+unfolding putStructure
+returns c =
+    let a = c .before .before .before .before .before .before .before .before .before .before .before .before .before .before .before .before .before .args in
+    c .before .before .put4 .ensures ∙ ap (λ (t : List ℕ). set t (512 + a .row) (a .looping)) (c .before .before .before .before .before .before .put3 .ensures ∙ ap (λ (t : List ℕ). set t (448 + a .row) (a .rows)) (c .before .before .before .before .before .before .before .before .before .before .put2 .ensures ∙ ap (λ (t : List ℕ). set t (384 + a .row) (a .latest)) (c .before .before .before .before .before .before .before .before .before .before .before .before .before .before .put .ensures)))
 
 pub put-structure-spec : {M : Type 1} → statement M
 put-structure-spec =
