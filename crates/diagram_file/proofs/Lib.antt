@@ -7,3 +7,4 @@ pub mod Rules
 pub mod Walks
 pub mod Stacks
 pub mod Columns
+pub mod Promises

@@ -11,11 +11,11 @@ use borrow.Author.Tests.{ltb-true, ltb-false, eqb-true, eqb-false, eq-eqb, ne-eq
 use Rattle.effbd.specs.Answers.{accepted, refused}
 use Rattle.effbd.specs.Ranges.{least, only}
 use Rattle.effbd.specs.Diagrams.{Kind, lp-open, end, numberOf, sameKind, Diagram, rowCount, kind, isKind}
-use Rattle.effbd.specs.Nesting.{Frame, push, turnTo, pop, innermostOpen, latestBranch, stack, owner, branchEnded, isClose, innermost, loop, follows, standsAs, nestingBroken, exitMisplaced, thirteenthOpen, nestingFault, firstFaulty, nested}
+use Rattle.effbd.specs.Nesting.{Frame, push, turnTo, pop, innermostOpen, latestBranch, stack, owner, branchEnded, isClose, close, innermost, loop, follows, standsAs, nestingBroken, exitMisplaced, thirteenthOpen, nestingFault, firstFaulty, nested}
 use Rattle.diagram_file.specs.declared.nesting.Part.{Part}
 use Rattle.diagram_file.specs.declared.nesting.Part.the-variants.{Opens, Turns, Closes, Stays}
 use Rattle.diagram_file.specs.Runs.{partOf}
-use Rattle.diagram_file.proofs.Basics.{decide, clash, and-left, and-right, never, least-upper}
+use Rattle.diagram_file.proofs.Basics.{decide, clash, and-left, and-right, never, least-low, least-upper}
 use Rattle.diagram_file.proofs.Rules.{passingBy, closing, part-closes, stack-next, ending, bare-faulty}
 
 module _ (d : Diagram) where
@@ -84,6 +84,10 @@ module _ (d : Diagram) where
   pub loop-low : (q : ℕ) → loop d q ≤ q
   unfolding loop
   loop-low q = loop-of q (stack d q) (good q)
+
+  pub close-low : (o : ℕ) → close d o ≤ rowCount d
+  unfolding close
+  close-low o = least-low (rowCount d) (λ c. isClose d c && only o (owner d c))
 
   -- ---- the construct that row o opens is among those that are open
   has : ℕ → List Frame → Bool
