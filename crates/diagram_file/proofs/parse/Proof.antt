@@ -1,3 +1,4 @@
+use Rattle.diagram_file.proofs.Promises.{parsed-is}
 use borrow.Author.Needs.{needs}
 use Rattle.diagram_file.proofs.parse.Statement.{statement}
 use Rattle.diagram_file.proofs.parse.Tie as tie
@@ -32,7 +33,7 @@ word-requires-2 c κs = search needs
 
 -- src/lib.rt:81:1
 returns : tie.Need-returns
-returns c = ?
+returns c = parsed-is (c .before .before .before .before .before .before .args .file .now) (c .before .before .before .fill .last .1 .0) (c .before .before .before .fill .result) (c .before .word .result) (c .word2 .result) (c .before .before .before .fill .ensures) (c .before .word .ensures) (c .word2 .ensures)
 
 pub parse-spec : {M : Type 1} → statement M
 parse-spec =

@@ -1,3 +1,4 @@
+use Rattle.diagram_file.proofs.Promises.{length-refused, length-accepted}
 use borrow.Author.Needs.{needs}
 use Rattle.diagram_file.proofs.read.Statement.{statement}
 use Rattle.diagram_file.proofs.read.Tie as tie
@@ -11,7 +12,7 @@ parse-requires c κs = search needs
 
 -- src/lib.rt:101:9
 returns : tie.Need-returns
-returns c = ?
+returns c = length-refused (c .before .before .before .before .args .file .now) (c .before .before .parse .result) (c .before .before .parse .ensures) (c .if1 .taken)
 
 -- src/lib.rt:103:26
 cast-t4 : tie.Need-cast-t4
@@ -31,7 +32,7 @@ add-t7 c = search needs
 
 -- src/lib.rt:96:1
 returns-2 : tie.Need-returns-2
-returns-2 c = ?
+returns-2 c = length-accepted (c .before .before .before .before .before .before .args .file .now) (c .before .before .before .before .parse .result) (c .before .before .before .before .parse .ensures) (c .before .before .if1 .left)
 
 pub read-spec : {M : Type 1} → statement M
 read-spec = tie.close (tie.spec parse-requires returns cast-t4 mul-t5 cast-t6 add-t7 returns-2)

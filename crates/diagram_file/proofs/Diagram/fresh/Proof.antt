@@ -23,7 +23,7 @@ put-fresh-requires c κs = search needs
 
 -- src/lib.rt:40:5
 returns : tie.Need-returns
-returns c = ?
+returns c = let x : Unit {0} = c .before .put-fresh .ensures in ?
 
 pub fresh-spec : {M : Type 1} → statement M
 fresh-spec =
