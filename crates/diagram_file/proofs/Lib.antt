@@ -8,3 +8,4 @@ pub mod Walks
 pub mod Stacks
 pub mod Columns
 pub mod Promises
+pub mod Freshness

@@ -3,7 +3,7 @@ use Prim.Native.Nat.{ℕ, zero, suc, _+_, _-_, _*_, _≤_, _<_}
 use mathlib.Core.Path.{_≡_, refl, sym, _∙_, ap, ap₂, subst}
 use mathlib.Core.Logic.{_≢_}
 use mathlib.Core.Bool.{Bool, true, false, cond}
-use mathlib.Core.List.{List, [], _∷_, _++_}
+use mathlib.Core.List.{List, [], _++_, append-nil}
 use native.Mathlib.Omega.{arith}
 use lib.ListN.{length, getD, take, drop, List·getD-eq-default}
 use lib.Dec.{eqb}
@@ -121,10 +121,6 @@ module _ (file t : List ℕ) (w : Tabled file t) where
           }
 
 -- ---- the struct
-all-of : (l : List ℕ) → l ++ [] ≡ l
-all-of [] = refl
-all-of (x ∷ l) = ap (λ r. x ∷ r) (all-of l)
-
 pub parsed-is : (file t : List ℕ) (r : Refusal) (n m : ℕ) → Filled file t r → n ≡ word file 6 → m ≡ word file 8
     → Parsed file (record { number = r .number; value = r .value; rows = n; items = m; table = t ++ [] })
 parsed-is file t r n m f en em = record {
@@ -132,7 +128,7 @@ parsed-is file t r n m f en em = record {
   value = f .value;
   rows = en;
   items = em;
-  holds = λ z. subst (HoldsFile file n m) (sym (all-of t)) (subst (λ (x : ℕ). HoldsFile file x m t) (sym en) (subst (λ (x : ℕ). HoldsFile file (word file 6) x t) (sym em) (f .holds z)));
+  holds = λ z. subst (HoldsFile file n m) (sym (append-nil t)) (subst (λ (x : ℕ). HoldsFile file x m t) (sym en) (subst (λ (x : ℕ). HoldsFile file (word file 6) x t) (sym em) (f .holds z)));
 }
 
 -- ---- what later code takes from the promise

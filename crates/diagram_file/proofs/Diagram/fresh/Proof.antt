@@ -1,3 +1,5 @@
+use Rattle.diagram_file.proofs.Freshness.{fresh-is}
+use mathlib.Core.Path.{refl}
 use borrow.Author.Needs.{needs}
 use Rattle.diagram_file.proofs.Diagram.fresh.Statement.{statement}
 use Rattle.diagram_file.proofs.Diagram.fresh.Tie as tie
@@ -23,7 +25,7 @@ put-fresh-requires c κs = search needs
 
 -- src/lib.rt:40:5
 returns : tie.Need-returns
-returns c = let x : Unit {0} = c .before .put-fresh .ensures in ?
+returns c = let d = c .before .before .before .before .before .before .args .t1 in fresh-is (d .rows) (d .items) (d .table) _ (c .before .put-fresh .last .0) (c .before .put-fresh .ensures) refl refl
 
 pub fresh-spec : {M : Type 1} → statement M
 fresh-spec =
