@@ -64,9 +64,9 @@ module _ (rows r o b p : ℕ) (t : List ℕ) where
         let t1 = set t (320 + r) o in let t2 = set t1 (384 + r) b in let t3 = set t2 (448 + r) rows in
         let n1 = length-set t (320 + r) o in let n2 = length-set t1 (384 + r) b in let n3 = length-set t2 (448 + r) rows in (
           getD-set-other t3 (512 + r) (320 + r) p 0 (λ z. omega arith) ∙ (getD-set-other t2 (448 + r) (320 + r) rows 0 (λ z. omega arith)
-          ∙ (getD-set-other t1 (384 + r) (320 + r) b 0 (λ z. omega arith) ∙ getD-set-same t (320 + r) o 0 (omega arith))),
+              ∙ (getD-set-other t1 (384 + r) (320 + r) b 0 (λ z. omega arith) ∙ getD-set-same t (320 + r) o 0 (omega arith))),
           getD-set-other t3 (512 + r) (384 + r) p 0 (λ z. omega arith) ∙ (getD-set-other t2 (448 + r) (384 + r) rows 0 (λ z. omega arith)
-          ∙ getD-set-same t1 (384 + r) b 0 (omega arith)),
+              ∙ getD-set-same t1 (384 + r) b 0 (omega arith)),
           getD-set-other t3 (512 + r) (448 + r) p 0 (λ z. omega arith) ∙ getD-set-same t2 (448 + r) rows 0 (omega arith),
           getD-set-same t3 (512 + r) p 0 (omega arith),
         )

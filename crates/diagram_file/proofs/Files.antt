@@ -250,7 +250,7 @@ module _ (file : List ℕ) (k : headFault file ≡ 0) (t₁ : List ℕ) (s : Rea
           let each : (p : ℕ) → p < rowCount dia → row dia p ≡ rowAt (from p) = λ p g. hr .each p (omega arith) (plain end) in
           let fine : (p : ℕ) → p < rowCount dia → rowFault (word file 8) (from p) ≡ 0 = λ p g. hr .clean p (omega arith) in
           let isFunction : (p : ℕ) → p < rowCount dia → eqb (kindAt (from p)) 16 ≡ isKind dia function p =
-              λ p g. row-function (word file 8) file (from p) (fine p g) ∙ ap (λ (x : Row). sameKind (x .kind) function) (sym (each p g)) in
+          λ p g. row-function (word file 8) file (from p) (fine p g) ∙ ap (λ (x : Row). sameKind (x .kind) function) (sym (each p g)) in
           let cell : (c p : ℕ) → c < 5 → p < rowCount dia → getD t (64 * c + p) 0 ≡ column (length file) c (from p) = λ c p b g. f .cell c b p (omega arith) in
           record {
             rows = n;

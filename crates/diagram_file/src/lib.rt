@@ -66,15 +66,24 @@ fn fill(file: &[u8], table: &mut [u16]) -> Refusal
 {
     let reached = records::read_records(file, table);
     if reached.fault != 0 {
-        return Refusal { number: reached.fault, value: reached.at as u32 };
+        return Refusal {
+            number: reached.fault,
+            value: reached.at as u32,
+        };
     }
     let rows = words::word(file, 6);
     let judgement = nesting::read_nesting(table, rows as usize);
     if judgement.number != 0 {
-        return Refusal { number: judgement.number, value: judgement.row as u32 };
+        return Refusal {
+            number: judgement.number,
+            value: judgement.row as u32,
+        };
     }
     structure::fill_structure(table, rows);
-    Refusal { number: 0, value: 0 }
+    Refusal {
+        number: 0,
+        value: 0,
+    }
 }
 
 // Reads a diagram file.

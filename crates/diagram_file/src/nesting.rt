@@ -261,7 +261,12 @@ fn read_construct(table: &[u16], rows: usize, opened: usize, around: Open) -> Co
     let mut latest = opened + 1;
     let mut from = opened + 1;
     loop {
-        let inside = Open { depth: around.depth + 1, opened: opened, latest: latest, looped: looped };
+        let inside = Open {
+            depth: around.depth + 1,
+            opened: opened,
+            latest: latest,
+            looped: looped,
+        };
         let run = read_run(table, rows, from, inside);
         match run {
             Run::Judged(number, row) => {
@@ -283,11 +288,25 @@ pub(crate) fn read_nesting(table: &[u16], rows: usize) -> Judgement
     requires { ⌜ rows ≤ 64 ⌝ }
     ensures { λ r. ⌜ NestingRead (now (table .entry)) rows r ⌝ }
 {
-    let nothing = Open { depth: 0, opened: 0, latest: 0, looped: false };
+    let nothing = Open {
+        depth: 0,
+        opened: 0,
+        latest: 0,
+        looped: false,
+    };
     let run = read_run(table, rows, 0, nothing);
     match run {
-        Run::Judged(number, row) => Judgement { number: number, row: row },
-        Run::Turned(row) => Judgement { number: 7, row: row },
-        Run::Closed(row) => Judgement { number: 7, row: row },
+        Run::Judged(number, row) => Judgement {
+            number: number,
+            row: row,
+        },
+        Run::Turned(row) => Judgement {
+            number: 7,
+            row: row,
+        },
+        Run::Closed(row) => Judgement {
+            number: 7,
+            row: row,
+        },
     }
 }

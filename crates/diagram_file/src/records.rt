@@ -32,7 +32,13 @@ fn uses_fine(uses: &[u8], count: u16, items: u16) -> bool
     let mut from: u32 = 0;
     while 0 < left {
         let item = words::word(rest, 0);
-        if !use_fine(items, from, item, words::word(rest, 2), words::word(rest, 4)) {
+        if !use_fine(
+            items,
+            from,
+            item,
+            words::word(rest, 2),
+            words::word(rest, 4),
+        ) {
             return false;
         }
         from = item as u32 + 1;
@@ -111,7 +117,11 @@ fn function_fine(bytes: &[u8], items: u16) -> bool
     if words::word(bytes, 6) < words::word(bytes, 4) {
         return false;
     }
-    uses_fine(words::tail(bytes, 8), use_count(words::word(bytes, 0)), items)
+    uses_fine(
+        words::tail(bytes, 8),
+        use_count(words::word(bytes, 0)),
+        items,
+    )
 }
 
 // Are a row's fields right?
@@ -155,7 +165,11 @@ fn head_fault(bytes: &[u8]) -> u16
 {
     let kind = words::word(bytes, 2);
     let length = words::word(bytes, 0);
-    let fine = head_fine(words::word(bytes, 4), words::word(bytes, 6), words::word(bytes, 8));
+    let fine = head_fine(
+        words::word(bytes, 4),
+        words::word(bytes, 6),
+        words::word(bytes, 8),
+    );
     let right = kinds::length_of(1);
     record_fault(bytes, kind == 1, length == right, fine, 4)
 }
@@ -205,7 +219,15 @@ fn uses_number(bytes: &[u8]) -> u16
     0
 }
 
-fn put_row(table: &mut [u16], row: usize, kind: u16, first: u16, second: u16, offset: u16, number: u16)
+fn put_row(
+    table: &mut [u16],
+    row: usize,
+    kind: u16,
+    first: u16,
+    second: u16,
+    offset: u16,
+    number: u16,
+)
     requires { ⌜ row < 64 ⌝ }
     ensures { λ _. ⌜ now (table .exit) ≡ putRow row kind first second offset number (now (table .entry)) ⌝ }
 {
@@ -242,7 +264,10 @@ fn read_items(file: &[u8], from: usize, count: usize, table: &mut [u16]) -> Reac
     while item < count {
         let fault = item_fault(rest);
         if fault != 0 {
-            return Reached { fault: fault, at: at };
+            return Reached {
+                fault: fault,
+                at: at,
+            };
         }
         words::put(table, 576 + item, words::word(rest, 4));
         let length = words::word(rest, 0) as usize;
@@ -267,7 +292,10 @@ fn read_rows(file: &[u8], from: usize, count: usize, items: u16, table: &mut [u1
     while row < count {
         let fault = row_fault(rest, items);
         if fault != 0 {
-            return Reached { fault: fault, at: at };
+            return Reached {
+                fault: fault,
+                at: at,
+            };
         }
         fill_row(table, row, rest, at);
         let length = words::word(rest, 0) as usize;
@@ -286,7 +314,10 @@ pub(crate) fn read_records(file: &[u8], table: &mut [u16]) -> Reached
 {
     let fault = head_fault(file);
     if fault != 0 {
-        return Reached { fault: fault, at: 0 };
+        return Reached {
+            fault: fault,
+            at: 0,
+        };
     }
     let rows = words::word(file, 6) as usize;
     let items = words::word(file, 8);
@@ -299,7 +330,10 @@ pub(crate) fn read_records(file: &[u8], table: &mut [u16]) -> Reached
         return line;
     }
     if line.at != file.len() {
-        return Reached { fault: 6, at: line.at };
+        return Reached {
+            fault: 6,
+            at: line.at,
+        };
     }
     line
 }

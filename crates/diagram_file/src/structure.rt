@@ -39,7 +39,14 @@ fn follow(table: &mut [u16], rows: u16, row: u16)
     let part = nesting::part_of(kind);
     match part {
         Part::Opens => {
-            put_structure(table, rows, at + 1, row, row + 1, looping_in(kind, row, looping));
+            put_structure(
+                table,
+                rows,
+                at + 1,
+                row,
+                row + 1,
+                looping_in(kind, row, looping),
+            );
         }
         Part::Turns => {
             put_structure(table, rows, at + 1, owner, row, looping);

@@ -27,6 +27,7 @@ turn rows item value table start state next e v f =
 all : (rows items item : ℕ) (table start first state : List ℕ) → items ≡ item → first ≡ set start 0 1 → state ≡ countsPut rows item table first → state ≡ freshPut rows items table start
 unfolding freshPut
 all rows items item table start first state e f g = g ∙ rw (e, f)
+
 -- helpers end
 
 abbrev Inv-loop : tie.InvT-loop

@@ -15,6 +15,7 @@ use Rattle.diagram_file.proofs.nesting.kind_in.Reads as kind-in-reads
 before : (table : List ℕ) (rows row : ℕ) → row ≢ 0 → kindIn table rows (row - 1) ≡ beforeIn table rows row
 before table rows zero h = absurd (h refl)
 before table rows (suc p) h = ap (kindIn table rows) (let z : suc p - 1 ≡ p = omega arith in z)
+
 -- helpers end
 
 -- src/nesting.rt:74:9

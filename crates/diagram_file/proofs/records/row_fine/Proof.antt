@@ -1,5 +1,5 @@
 use Rattle.diagram_file.specs.Fields.{turnLimitFine}
-use Rattle.diagram_file.proofs.Fields.{fine-function, fine-count, fine-other, }
+use Rattle.diagram_file.proofs.Fields.{fine-function, fine-count, fine-other}
 use Rattle.effbd.specs.Records.{word}
 use mathlib.Core.Path.{ap, sym, _∙_}
 use borrow.Author.Needs.{needs}

@@ -24,6 +24,7 @@ none rows t = refl
 
 all : (rows row : ℕ) (start first table : List ℕ) → rows ≡ row + 1 → first ≡ putStructure rows 0 0 0 0 start → table ≡ structured rows row first → table ≡ structured rows (rows - 1) (putStructure rows 0 0 0 0 start)
 all rows row start first table e f g = g ∙ (ap (structured rows row) f ∙ ap (λ (n : ℕ). structured rows n (putStructure rows 0 0 0 0 start)) (let z : row ≡ rows - 1 = omega arith in z))
+
 -- helpers end
 
 abbrev Inv-loop : tie.InvT-loop
