@@ -1,8 +1,8 @@
 -- The structure pass finds what the stack says.
-use Prim.Native.Nat.{ℕ, zero, suc, _+_, _-_, _≤_, _<_}
+use Prim.Native.Nat.{ℕ, zero, suc, _+_, _≤_, _<_}
 use mathlib.Core.Path.{_≡_, refl, sym, _∙_, ap, subst}
 use mathlib.Core.Logic.{_≢_}
-use mathlib.Core.Bool.{Bool, true, false, not, cond, _&&_}
+use mathlib.Core.Bool.{Bool, true, false, _&&_}
 use mathlib.Core.List.{List, [], _∷_}
 use native.Mathlib.Omega.{arith}
 use native.Mathlib.Numerals.{add-one}
@@ -11,15 +11,14 @@ use lib.Seq.{getD-set-same, getD-set-other}
 use lib.Dec.{eqb}
 use borrow.Author.Tests.{eqb-true, eqb-false, eq-eqb, ne-eqb}
 use Rattle.effbd.specs.Answers.{accepted}
-use Rattle.effbd.specs.Ranges.{only, least}
-use Rattle.effbd.specs.Diagrams.{Kind, function, and-open, branch, and-close, or-open, or-close, it-open, it-close, lp-open, lp-close, loop-exit, end, numberOf, sameKind, Diagram, rowCount, kind}
+use Rattle.effbd.specs.Diagrams.{lp-open, numberOf, Diagram, rowCount, kind}
 use Rattle.effbd.specs.Nesting.{Frame, turnTo, innermostOpen, latestBranch, stack, owner, branchEnded, innermost, loop, close, isClose, nested}
 use Rattle.diagram_file.specs.declared.nesting.Part.{Part}
 use Rattle.diagram_file.specs.declared.nesting.Part.the-variants.{Opens, Turns, Closes, Stays}
 use Rattle.diagram_file.specs.Runs.{partOf}
 use Rattle.diagram_file.specs.Structure.{putStructure, loopingIn, followedAs, followed, structured}
 use Rattle.diagram_file.proofs.Basics.{decide, clash, least-is, least-none}
-use Rattle.diagram_file.proofs.Rules.{passingBy, closing, ending, stack-next}
+use Rattle.diagram_file.proofs.Rules.{closing, ending, stack-next}
 use Rattle.diagram_file.proofs.Stacks.{does, popped-is, owner-low, closesOf, close-part, not-closing, closes-once, held, last-end}
 
 -- ---- the code's turns, over its numbers
@@ -253,19 +252,5 @@ module _ (d : Diagram) (rows : ℕ) (er : rows ≡ rowCount d) (acc : nested d �
         (λ x. let z = eqb-false (getD t (448 + q) 0) rows x in let w = k .first z in let h = w .0 in
         sym (least-is (rowCount d) (closesOf d q) (getD t (448 + q) 0) (omega arith) (w .1) (w .2)))
       where
-        none : (j : Kind) → sameKind j end ≡ true → closing (partOf (numberOf j)) ≡ false
-        none function h = refl
-        none and-open h = refl
-        none branch h = refl
-        none and-close h = clash h refl
-        none or-open h = refl
-        none or-close h = clash h refl
-        none it-open h = refl
-        none it-close h = clash h refl
-        none lp-open h = refl
-        none lp-close h = clash h refl
-        none loop-exit h = refl
-        none end h = refl
-
         ended : closing (does d n) ≡ false
-        ended = none (kind d n) (last-end d acc n (e ∙ er))
+        ended = ap (λ (x : ℕ). closing (partOf x)) (eqb-true (numberOf (kind d n)) 27 (last-end d acc n (e ∙ er)))

@@ -31,17 +31,17 @@ pub uses-none : (items from : ℕ) (bytes : List ℕ) → _≡_ {A = Bool} true 
 unfolding usesFine usesAt
 uses-none items from bytes = refl
 
-other : (a b c e f g i j k m : Bool) (items : ℕ) (r : Row) → rowFineAs (cond a and-open (cond b branch (cond c and-close (cond e or-open (cond f or-close (cond false it-open (cond i it-close (cond j lp-open (cond k lp-close (cond m loop-exit end)))))))))) items r ≡ true
-other true b c e f g i j k m items r = refl
-other false true c e f g i j k m items r = refl
-other false false true e f g i j k m items r = refl
-other false false false true f g i j k m items r = refl
-other false false false false true g i j k m items r = refl
-other false false false false false g true j k m items r = refl
-other false false false false false g false true k m items r = refl
-other false false false false false g false false true m items r = refl
-other false false false false false g false false false true items r = refl
-other false false false false false g false false false false items r = refl
+other : (a b c e f i j k m : Bool) (items : ℕ) (r : Row) → rowFineAs (cond a and-open (cond b branch (cond c and-close (cond e or-open (cond f or-close (cond false it-open (cond i it-close (cond j lp-open (cond k lp-close (cond m loop-exit end)))))))))) items r ≡ true
+other true b c e f i j k m items r = refl
+other false true c e f i j k m items r = refl
+other false false true e f i j k m items r = refl
+other false false false true f i j k m items r = refl
+other false false false false true i j k m items r = refl
+other false false false false false true j k m items r = refl
+other false false false false false false true k m items r = refl
+other false false false false false false false true m items r = refl
+other false false false false false false false false true items r = refl
+other false false false false false false false false false items r = refl
 
 module _ (items : ℕ) (bytes : List ℕ) where
   pub fine-function : kindAt bytes ≡ 16 → functionFine items bytes ≡ rowFine items (rowAt bytes)
@@ -54,7 +54,7 @@ module _ (items : ℕ) (bytes : List ℕ) where
 
   pub fine-other : kindAt bytes ≢ 16 → kindAt bytes ≢ 22 → true ≡ rowFine items (rowAt bytes)
   unfolding rowFine rowAt kindOf
-  fine-other p q = rw (ne-eqb (kindAt bytes) 16 p, ne-eqb (kindAt bytes) 22 q) (sym (other (eqb (kindAt bytes) 17) (eqb (kindAt bytes) 18) (eqb (kindAt bytes) 19) (eqb (kindAt bytes) 20) (eqb (kindAt bytes) 21) false (eqb (kindAt bytes) 23) (eqb (kindAt bytes) 24) (eqb (kindAt bytes) 25) (eqb (kindAt bytes) 26) items _))
+  fine-other p q = rw (ne-eqb (kindAt bytes) 16 p, ne-eqb (kindAt bytes) 22 q) (sym (other (eqb (kindAt bytes) 17) (eqb (kindAt bytes) 18) (eqb (kindAt bytes) 19) (eqb (kindAt bytes) 20) (eqb (kindAt bytes) 21) (eqb (kindAt bytes) 23) (eqb (kindAt bytes) 24) (eqb (kindAt bytes) 25) (eqb (kindAt bytes) 26) items _))
 
   pub right-function : kindAt bytes ≡ 16 → functionRight (lengthAt bytes) items ≡ rowRight items bytes
   unfolding functionRight rowRight

@@ -1,8 +1,8 @@
 -- The whole file: what was read is what the definitions read.
 use Prim.Native.Nat.{ℕ, zero, suc, _+_, _-_, _*_, _/_, _%_, _≤_, _<_}
-use mathlib.Core.Path.{_≡_, refl, sym, _∙_, ap, ap₂, subst}
+use mathlib.Core.Path.{_≡_, refl, sym, _∙_, ap, ap₂}
 use mathlib.Core.Logic.{_≢_}
-use mathlib.Core.Bool.{Bool, true, false, cond, _&&_, _||_}
+use mathlib.Core.Bool.{Bool, true, false, cond, _&&_}
 use mathlib.Core.List.{List, [], _∷_}
 use native.Mathlib.Omega.{arith}
 use lib.ListN.{length, getD, drop, length-drop, drop-of-length-le}
@@ -12,12 +12,12 @@ use borrow.Author.Tests.{leb-true, leb-false, eqb-true, eq-eqb, ne-eqb}
 use Rattle.effbd.specs.Ranges.{allBelow}
 use Rattle.effbd.specs.Answers.{Outcome, accepted, refused, unless, andThen}
 use Rattle.effbd.specs.Records.{word, lengthAt, kindAt, kindTable, entryIn, lengthOf, Got, adding, readMany}
-use Rattle.effbd.specs.Diagrams.{function, end, numberOf, sameKind, kindOf, Row, plain, Diagram, rowCount, countTotal, row, isKind, headFault, itemFault, itemAt, usesAt, rowAt, rowRight, rowFine, rowFault}
-use Rattle.effbd.specs.Nesting.{nested, afterRows, afterItems, readDiagram, skip, fromRow, Part, usesPartOf, usesPart}
+use Rattle.effbd.specs.Diagrams.{function, end, numberOf, sameKind, kindOf, Row, plain, Diagram, rowCount, row, isKind, headFault, itemFault, itemAt, usesAt, rowAt, rowRight, rowFine, rowFault}
+use Rattle.effbd.specs.Nesting.{nested, afterRows, afterItems, readDiagram, skip, fromRow}
 use Rattle.diagram_file.specs.declared.records.Reached.{Reached}
-use Rattle.diagram_file.specs.Reading.{Reading, Stopped, ItemsRead, RowsRead, column, recordRows, recordItems, readRecords, Tabulated, Tabled, Recorded}
-use Rattle.diagram_file.proofs.Basics.{decide, and-left, and-right, all-elim, never, unless-refused, unless-accepted, andThen-twice, unless-then}
-use Rattle.diagram_file.proofs.Loops.{Whole, no-fault, row-clean}
+use Rattle.diagram_file.specs.Reading.{Stopped, ItemsRead, RowsRead, column, recordRows, recordItems, readRecords, Tabulated, Recorded}
+use Rattle.diagram_file.proofs.Basics.{decide, and-left, and-right, all-elim, unless-refused, andThen-twice, unless-then}
+use Rattle.diagram_file.proofs.Loops.{Whole, no-fault}
 
 -- n records that were read: their values, their faults, the rest
 pub record Many (A : Type 0) (fault : List ℕ → ℕ) (value : List ℕ → A) (n : ℕ) (start : List ℕ) (g : Got (List A)) : Type 0 where

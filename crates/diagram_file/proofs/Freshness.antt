@@ -1,6 +1,6 @@
 -- The words that are put are the fresh state.
 use Prim.Native.Nat.{ℕ, zero, suc, _+_, _-_, _*_, _/_, _%_, _≤_, _<_}
-use mathlib.Core.Path.{_≡_, refl, sym, _∙_, ap, ap₂, subst}
+use mathlib.Core.Path.{_≡_, refl, sym, _∙_, ap, subst}
 use mathlib.Core.Logic.{_≢_}
 use mathlib.Core.Bool.{Bool, true, false, cond, _&&_}
 use mathlib.Core.List.{List, [], _∷_, _++_, append-nil}
@@ -11,10 +11,10 @@ use lib.Dec.{ltb, eqb}
 use borrow.Author.Tests.{ltb-true, ltb-false, lt-ltb, le-ltb, eqb-true, eqb-false, eq-eqb, ne-eqb}
 use Rattle.effbd.specs.Answers.{accepted}
 use Rattle.effbd.specs.Ranges.{only, tabulate}
-use Rattle.effbd.specs.Diagrams.{Kind, function, and-open, branch, and-close, or-open, or-close, it-open, it-close, lp-open, lp-close, loop-exit, end, numberOf, sameKind, Diagram, rowCount, countTotal, initialCount, kind, isKind}
+use Rattle.effbd.specs.Diagrams.{Kind, function, and-open, branch, and-close, or-open, or-close, it-open, it-close, lp-open, lp-close, loop-exit, end, numberOf, sameKind, Diagram, rowCount, initialCount, kind, isKind}
 use Rattle.effbd.specs.Nesting.{stack, owner, nested}
-use Rattle.effbd.specs.Layout.{Place, P, Q, R, Count, byPlace, places, placeOf}
-use Rattle.effbd.specs.States.{State, stateWords, enteredAs, enteredRow, activate, enter, fresh, freshWords}
+use Rattle.effbd.specs.Layout.{byPlace, places, placeOf}
+use Rattle.effbd.specs.States.{stateWords, enteredAs, enteredRow, fresh, freshWords}
 use Rattle.diagram_file.specs.Runs.{partOf}
 use Rattle.diagram_file.specs.Tables.{Holds, countsPut, freshPut, FreshOf, Freshened}
 use Rattle.diagram_file.proofs.Basics.{decide, clash, and-left, and-right}

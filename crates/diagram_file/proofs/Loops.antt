@@ -2,7 +2,7 @@
 use Prim.Native.Nat.{ℕ, zero, suc, _+_, _-_, _*_, _/_, _%_, _≤_, _<_}
 use mathlib.Core.Path.{_≡_, refl, sym, _∙_, ap, ap₂, subst}
 use mathlib.Core.Logic.{_≢_}
-use mathlib.Core.Bool.{Bool, true, false, not, cond, _&&_, _||_}
+use mathlib.Core.Bool.{Bool, true, false, not, cond, _&&_}
 use mathlib.Core.List.{List}
 use native.Mathlib.Omega.{arith}
 use native.Mathlib.Numerals.{add-one}
@@ -13,8 +13,7 @@ use borrow.Author.Tests.{ltb-false, leb-true, eqb-true, eqb-false}
 use Rattle.effbd.specs.Records.{word, lengthAt, kindAt, kindTable, entryIn, lengthOf, faultAt}
 use Rattle.effbd.specs.Diagrams.{itemFault, itemAt, rowAt, rowRight, rowFine, rowFault}
 use Rattle.effbd.specs.Nesting.{skip}
-use Rattle.diagram_file.specs.declared.records.Reached.{Reached}
-use Rattle.diagram_file.specs.Reading.{Reading, Stopped, FilledRows, FilledItems, Kept, ItemsState, ItemsRead, RowsState, RowsRead, column, putRow, fillRow}
+use Rattle.diagram_file.specs.Reading.{Reading, Stopped, FilledRows, Kept, ItemsState, ItemsRead, RowsState, RowsRead, column, putRow, fillRow}
 use Rattle.diagram_file.proofs.Basics.{decide, and-left, and-right}
 use Rattle.diagram_file.proofs.KindTable.{short}
 

@@ -1,22 +1,21 @@
 -- From what the readers leave to what the crate promises, and what later code takes from the promise.
-use Prim.Native.Nat.{ℕ, zero, suc, _+_, _-_, _*_, _≤_, _<_}
-use mathlib.Core.Path.{_≡_, refl, sym, _∙_, ap, ap₂, subst}
+use Prim.Native.Nat.{ℕ, _+_, _-_, _*_, _≤_, _<_}
+use mathlib.Core.Path.{_≡_, sym, _∙_, ap, ap₂, subst}
 use mathlib.Core.Logic.{_≢_}
 use mathlib.Core.Bool.{Bool, true, false, cond}
 use mathlib.Core.List.{List, [], _++_, append-nil}
 use native.Mathlib.Omega.{arith}
 use lib.ListN.{length, getD, take, drop, List·getD-eq-default}
-use lib.Dec.{eqb}
 use Rattle.effbd.specs.Answers.{Outcome, accepted, refused, unless, andThen}
 use Rattle.effbd.specs.Records.{word, lengthAt}
-use Rattle.effbd.specs.Diagrams.{function, end, numberOf, sameKind, Row, plain, Diagram, rowCount, countTotal, kind, isKind}
-use Rattle.effbd.specs.Nesting.{nested, close, readDiagram, fromRow, Part, usesPartOf, usesPart}
+use Rattle.effbd.specs.Diagrams.{function, end, sameKind, Row, plain, Diagram, rowCount, kind, isKind}
+use Rattle.effbd.specs.Nesting.{nested, readDiagram, fromRow, Part, usesPartOf, usesPart}
 use Rattle.effbd.specs.Layout.{places}
 use Rattle.diagram_file.specs.declared.records.Reached.{Reached}
 use Rattle.diagram_file.specs.declared.nesting.Judgement.{Judgement}
-use Rattle.diagram_file.specs.declared.Refusal.{Refusal}
 use Rattle.diagram_file.specs.declared.Diagram.{Diagram as Parse}
-use Rattle.diagram_file.specs.Reading.{readRecords, Tabulated, Tabled, Recorded}
+use Rattle.diagram_file.specs.declared.Refusal.{Refusal}
+use Rattle.diagram_file.specs.Reading.{Tabled, Recorded}
 use Rattle.diagram_file.specs.Runs.{Kinds, NestingRead}
 use Rattle.diagram_file.specs.Structure.{putStructure, structured}
 use Rattle.diagram_file.specs.Tables.{stateLength, refusalNumber, refusalValue, Holds, HoldsUses, HoldsFile, Filled, Parsed, partIn}

@@ -1,16 +1,15 @@
 -- The nesting rules over the table's numbers are those of the diagram.
 use Prim.Native.Nat.{ℕ, zero, suc, _+_, _≤_, _<_}
 use mathlib.Core.Path.{_≡_, refl, sym, _∙_, ap}
-use mathlib.Core.Logic.{_≢_}
 use mathlib.Core.Bool.{Bool, true, false, not, cond, _&&_, _||_}
 use mathlib.Core.List.{List, [], _∷_}
 use native.Mathlib.Omega.{arith}
 use native.Mathlib.Numerals.{add-one}
-use lib.ListN.{length, getD, List·getD-eq-default}
+use lib.ListN.{List·getD-eq-default}
 use lib.Dec.{leb, ltb, eqb}
-use borrow.Author.Tests.{ltb-true, ltb-false, leb-false, eqb-true, eq-eqb, ne-eqb}
+use borrow.Author.Tests.{ltb-true, ltb-false, leb-false, eqb-true, ne-eqb}
 use Rattle.effbd.specs.Diagrams.{Kind, function, and-open, branch, and-close, or-open, or-close, it-open, it-close, lp-open, lp-close, loop-exit, end, numberOf, sameKind, Row, plain, Diagram, rowCount, kind, isKind}
-use Rattle.effbd.specs.Nesting.{Frame, push, turnTo, pop, passing, innermostOpen, latestBranch, stack, innermostIs, someOpen, noneOpen, inAndOr, twoBranches, follows, standsAs, nestingBroken, exitMisplaced, thirteenthOpen, nestingFault}
+use Rattle.effbd.specs.Nesting.{Frame, push, turnTo, pop, passing, innermostOpen, stack, innermostIs, someOpen, noneOpen, inAndOr, twoBranches, follows, standsAs, nestingBroken, exitMisplaced, thirteenthOpen, nestingFault}
 use Rattle.diagram_file.specs.declared.nesting.Part.{Part}
 use Rattle.diagram_file.specs.declared.nesting.Part.the-variants.{Opens, Turns, Closes, Stays}
 use Rattle.diagram_file.specs.declared.nesting.Open.{Open}
@@ -24,90 +23,53 @@ passingBy Turns q fs = turnTo q fs
 passingBy Closes q fs = pop fs
 passingBy Stays q fs = fs
 
-part-passing : (k : Kind) (q : ℕ) (fs : List Frame) → passing k q fs ≡ passingBy (partOf (numberOf k)) q fs
-unfolding partOf
-part-passing function q fs = refl
-part-passing and-open q fs = refl
-part-passing branch q fs = refl
-part-passing and-close q fs = refl
-part-passing or-open q fs = refl
-part-passing or-close q fs = refl
-part-passing it-open q fs = refl
-part-passing it-close q fs = refl
-part-passing lp-open q fs = refl
-part-passing lp-close q fs = refl
-part-passing loop-exit q fs = refl
-part-passing end q fs = refl
-
-part-opens : (k : Kind) → (sameKind k and-open || sameKind k or-open || sameKind k it-open || sameKind k lp-open) ≡ opening (partOf (numberOf k))
-unfolding partOf
-part-opens function = refl
-part-opens and-open = refl
-part-opens branch = refl
-part-opens and-close = refl
-part-opens or-open = refl
-part-opens or-close = refl
-part-opens it-open = refl
-part-opens it-close = refl
-part-opens lp-open = refl
-part-opens lp-close = refl
-part-opens loop-exit = refl
-part-opens end = refl
-
 abbrev pub closing : Part → Bool
 closing Opens = false
 closing Turns = false
 closing Closes = true
 closing Stays = false
 
-pub part-closes : (k : Kind) → (sameKind k and-close || sameKind k or-close || sameKind k it-close || sameKind k lp-close) ≡ closing (partOf (numberOf k))
+-- a kind, by its number
+pub record Shape (k : Kind) : Type 0 where
+  pub passes : (q : ℕ) (fs : List Frame) → passing k q fs ≡ passingBy (partOf (numberOf k)) q fs
+  pub opens : (sameKind k and-open || sameKind k or-open || sameKind k it-open || sameKind k lp-open) ≡ opening (partOf (numberOf k))
+  pub closes : (sameKind k and-close || sameKind k or-close || sameKind k it-close || sameKind k lp-close) ≡ closing (partOf (numberOf k))
+  pub nonzero : (eqb (numberOf k) 0 ≡ false) × (eqb 0 (numberOf k) ≡ false)
+
+pub shape : (k : Kind) → Shape k
 unfolding partOf
-part-closes function = refl
-part-closes and-open = refl
-part-closes branch = refl
-part-closes and-close = refl
-part-closes or-open = refl
-part-closes or-close = refl
-part-closes it-open = refl
-part-closes it-close = refl
-part-closes lp-open = refl
-part-closes lp-close = refl
-part-closes loop-exit = refl
-part-closes end = refl
+shape function = record { passes = λ q fs. refl; opens = refl; closes = refl; nonzero = (refl, refl) }
+shape and-open = record { passes = λ q fs. refl; opens = refl; closes = refl; nonzero = (refl, refl) }
+shape branch = record { passes = λ q fs. refl; opens = refl; closes = refl; nonzero = (refl, refl) }
+shape and-close = record { passes = λ q fs. refl; opens = refl; closes = refl; nonzero = (refl, refl) }
+shape or-open = record { passes = λ q fs. refl; opens = refl; closes = refl; nonzero = (refl, refl) }
+shape or-close = record { passes = λ q fs. refl; opens = refl; closes = refl; nonzero = (refl, refl) }
+shape it-open = record { passes = λ q fs. refl; opens = refl; closes = refl; nonzero = (refl, refl) }
+shape it-close = record { passes = λ q fs. refl; opens = refl; closes = refl; nonzero = (refl, refl) }
+shape lp-open = record { passes = λ q fs. refl; opens = refl; closes = refl; nonzero = (refl, refl) }
+shape lp-close = record { passes = λ q fs. refl; opens = refl; closes = refl; nonzero = (refl, refl) }
+shape loop-exit = record { passes = λ q fs. refl; opens = refl; closes = refl; nonzero = (refl, refl) }
+shape end = record { passes = λ q fs. refl; opens = refl; closes = refl; nonzero = (refl, refl) }
 
 module _ (d : Diagram) where
   pub stack-next : (q : ℕ) (part : Part) → partOf (numberOf (kind d q)) ≡ part → stack d (q + 1) ≡ passingBy part q (stack d q)
   unfolding stack
-  stack-next q part e = ap (stack d) (add-one q) ∙ (part-passing (kind d q) q (stack d q) ∙ ap (λ (p : Part). passingBy p q (stack d q)) e)
+  stack-next q part e = ap (stack d) (add-one q) ∙ (shape (kind d q) .passes q (stack d q) ∙ ap (λ (p : Part). passingBy p q (stack d q)) e)
 
   -- the kind of the innermost open row, 0 where nothing is open
   topNumber : List Frame → ℕ
   topNumber [] = 0
   topNumber (f ∷ fs) = numberOf (kind d (f .opened))
 
-  positive : (k : Kind) → (eqb (numberOf k) 0 ≡ false) × (eqb 0 (numberOf k) ≡ false)
-  positive function = (refl, refl)
-  positive and-open = (refl, refl)
-  positive branch = (refl, refl)
-  positive and-close = (refl, refl)
-  positive or-open = (refl, refl)
-  positive or-close = (refl, refl)
-  positive it-open = (refl, refl)
-  positive it-close = (refl, refl)
-  positive lp-open = (refl, refl)
-  positive lp-close = (refl, refl)
-  positive loop-exit = (refl, refl)
-  positive end = (refl, refl)
-
   top-is : (k : Kind) (fs : List Frame) → innermostIs d k fs ≡ eqb (topNumber fs) (numberOf k)
   unfolding topNumber
-  top-is k [] = sym (positive k .1)
+  top-is k [] = sym (shape k .nonzero .1)
   top-is k (f ∷ fs) = refl
 
   none-is : (fs : List Frame) → noneOpen d fs ≡ eqb (topNumber fs) 0
   unfolding topNumber
   none-is [] = refl
-  none-is (f ∷ fs) = sym (positive (kind d (f .opened)) .0)
+  none-is (f ∷ fs) = sym (shape (kind d (f .opened)) .nonzero .0)
 
   fork-is : (fs : List Frame) → inAndOr d fs ≡ isAndOr (topNumber fs)
   unfolding isAndOr
@@ -177,7 +139,7 @@ module _ (d : Diagram) where
 
       deep-is : thirteenthOpen d q ≡ deepOf (kindIn table rows q) (o .depth)
       unfolding thirteenthOpen deepOf
-      deep-is = rw (kind-is q, s .depth, part-opens (kind d q))
+      deep-is = rw (kind-is q, s .depth, shape (kind d q) .opens)
 
       -- THEOREM: the code's fault is the definition's
       pub fault-is : faultIn table rows q o ≡ nestingFault d q

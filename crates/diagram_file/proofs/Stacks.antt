@@ -6,17 +6,17 @@ use mathlib.Core.Bool.{Bool, true, false, not, cond, _&&_, _||_}
 use mathlib.Core.List.{List, [], _∷_}
 use native.Mathlib.Omega.{arith}
 use native.Mathlib.Numerals.{add-one}
-use lib.Dec.{leb, ltb, eqb}
-use borrow.Author.Tests.{ltb-true, ltb-false, eqb-true, eqb-false, eq-eqb, ne-eqb, not-false}
+use lib.Dec.{ltb, eqb}
+use borrow.Author.Tests.{ltb-false, eqb-true, eq-eqb, ne-eqb, not-false}
 use Rattle.effbd.specs.Answers.{accepted, refused}
 use Rattle.effbd.specs.Ranges.{least, only}
-use Rattle.effbd.specs.Diagrams.{Kind, lp-open, end, numberOf, sameKind, Diagram, rowCount, kind, isKind}
-use Rattle.effbd.specs.Nesting.{Frame, push, turnTo, pop, innermostOpen, latestBranch, stack, owner, branchEnded, isClose, close, innermost, loop, follows, standsAs, nestingBroken, exitMisplaced, thirteenthOpen, nestingFault, firstFaulty, nested}
+use Rattle.effbd.specs.Diagrams.{lp-open, end, numberOf, sameKind, Diagram, rowCount, kind, isKind}
+use Rattle.effbd.specs.Nesting.{Frame, pop, innermostOpen, latestBranch, stack, owner, branchEnded, isClose, close, innermost, loop, follows, standsAs, nestingBroken, exitMisplaced, thirteenthOpen, nestingFault, firstFaulty, nested}
 use Rattle.diagram_file.specs.declared.nesting.Part.{Part}
 use Rattle.diagram_file.specs.declared.nesting.Part.the-variants.{Opens, Turns, Closes, Stays}
 use Rattle.diagram_file.specs.Runs.{partOf}
-use Rattle.diagram_file.proofs.Basics.{decide, clash, and-left, and-right, never, least-low, least-upper}
-use Rattle.diagram_file.proofs.Rules.{passingBy, closing, part-closes, stack-next, ending, bare-faulty}
+use Rattle.diagram_file.proofs.Basics.{decide, clash, never, least-low, least-upper}
+use Rattle.diagram_file.proofs.Rules.{passingBy, closing, shape, stack-next, ending, bare-faulty}
 
 module _ (d : Diagram) where
   abbrev pub does : ℕ → Part
@@ -143,7 +143,7 @@ module _ (d : Diagram) where
   closesOf o c = isClose d c && only o (owner d c)
 
   pub close-part : (c : ℕ) → isClose d c ≡ closing (does c)
-  close-part c = part-closes (kind d c)
+  close-part c = shape (kind d c) .closes
 
   pub not-closing : (o c : ℕ) → closing (does c) ≡ false → closesOf o c ≡ false
   not-closing o c h = rw (close-part c, h)

@@ -1,18 +1,18 @@
 -- The two readers: what holds as they go, and each way on from there.
-use Prim.Native.Nat.{ℕ, zero, suc, _+_, _≤_, _<_}
+use Prim.Native.Nat.{ℕ, _+_, _≤_, _<_}
 use mathlib.Core.Path.{_≡_, refl, sym, _∙_, ap, subst}
 use mathlib.Core.Logic.{_≢_}
-use mathlib.Core.Bool.{Bool, true, false, not, cond, _&&_, _||_}
-use mathlib.Core.List.{List, [], _∷_}
+use mathlib.Core.Bool.{Bool, true, false, not}
+use mathlib.Core.List.{List, _∷_}
 use native.Mathlib.Omega.{arith}
 use native.Mathlib.Numerals.{add-one}
 use lib.ListN.{length}
 use lib.Dec.{ltb, eqb}
-use borrow.Author.Tests.{eqb-true, eqb-false, ltb-true, ltb-false, eq-eqb, ne-eqb, lt-ltb, le-ltb}
-use Rattle.effbd.specs.Answers.{Outcome, accepted, refused, unless}
+use borrow.Author.Tests.{eqb-true, eqb-false, ltb-true, ltb-false, lt-ltb, le-ltb}
+use Rattle.effbd.specs.Answers.{accepted, unless}
 use Rattle.effbd.specs.Ranges.{least}
-use Rattle.effbd.specs.Diagrams.{Diagram, lp-open, numberOf, rowCount, kind}
-use Rattle.effbd.specs.Nesting.{Frame, turnTo, pop, stack, someOpen, nestingFault, firstFaulty, nested}
+use Rattle.effbd.specs.Diagrams.{Diagram, numberOf, rowCount, kind}
+use Rattle.effbd.specs.Nesting.{Frame, stack, nestingFault, firstFaulty, nested}
 use Rattle.diagram_file.specs.declared.nesting.Part.{Part}
 use Rattle.diagram_file.specs.declared.nesting.Part.the-variants.{Opens, Turns, Closes, Stays}
 use Rattle.diagram_file.specs.declared.nesting.Open.{Open}
@@ -20,7 +20,6 @@ use Rattle.diagram_file.specs.declared.nesting.Run.{Run}
 use Rattle.diagram_file.specs.declared.nesting.Run.the-variants.{Judged, Turned, Closed}
 use Rattle.diagram_file.specs.declared.nesting.Construct.{Construct}
 use Rattle.diagram_file.specs.declared.nesting.Construct.the-variants.{Judged as WasJudged, Closed as WasClosed}
-use Rattle.diagram_file.specs.declared.nesting.Judgement.{Judgement}
 use Rattle.diagram_file.specs.Runs.{partOf, kindIn, loopsIn, faultIn, Kinds, Shows, Clean, AllJudged, Ends, Left, RunEnded, RunWithin, RunRead, ConstructEnded, ConstructWithin, ConstructRead, NestingRead}
 use Rattle.diagram_file.proofs.Basics.{decide, least-is, least-none, unless-refused}
 use Rattle.diagram_file.proofs.Rules.{passingBy, stack-next, kind-is, fault-is, ending, bare-faulty}

@@ -1,13 +1,13 @@
 -- The nesting rules over the table's numbers, and what the two readers of runs and constructs find. Assumes nothing.
-use Prim.Native.Nat.{ℕ, zero, suc, _+_, _-_, _≤_, _<_}
+use Prim.Native.Nat.{ℕ, zero, suc, _+_, _≤_, _<_}
 use mathlib.Core.Path.{_≡_}
 use mathlib.Core.Logic.{_≢_}
 use mathlib.Core.Bool.{Bool, true, false, not, cond, _&&_, _||_}
-use mathlib.Core.List.{List, [], _∷_}
+use mathlib.Core.List.{List}
 use lib.ListN.{length, getD}
 use lib.Dec.{leb, ltb, eqb}
-use Rattle.effbd.specs.Answers.{Outcome, accepted, unless}
-use Rattle.effbd.specs.Diagrams.{Diagram, branch, lp-open, numberOf, rowCount, kind}
+use Rattle.effbd.specs.Answers.{accepted, unless}
+use Rattle.effbd.specs.Diagrams.{Diagram, lp-open, numberOf, rowCount, kind}
 use Rattle.effbd.specs.Nesting.{Frame, innermostOpen, latestBranch, stack, someOpen, nestingFault, nested}
 use Rattle.diagram_file.specs.declared.nesting.Part.{Part}
 use Rattle.diagram_file.specs.declared.nesting.Part.the-variants.{Opens, Turns, Closes, Stays}

@@ -1,7 +1,7 @@
 -- What this crate promises: a file's refusal, or its diagram as a table. Assumes nothing.
-use Prim.Native.Nat.{ℕ, zero, suc, _+_, _-_, _*_, _≤_, _<_}
+use Prim.Native.Nat.{ℕ, zero, suc, _+_, _*_, _≤_, _<_}
 use mathlib.Core.Path.{_≡_}
-use mathlib.Core.List.{List, [], _∷_}
+use mathlib.Core.List.{List}
 use lib.ListN.{length, getD, take, drop, set}
 use Rattle.effbd.specs.Answers.{Outcome, accepted, refused, andThen}
 use Rattle.effbd.specs.Records.{word}

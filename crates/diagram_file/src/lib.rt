@@ -24,7 +24,7 @@ pub struct Diagram {
 }
 
 // A refusal's number and value, 0 and 0 for none.
-pub struct Refusal {
+pub(crate) struct Refusal {
     pub number: u16,
     pub value: u32,
 }

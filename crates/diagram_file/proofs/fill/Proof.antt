@@ -7,56 +7,39 @@ use Prim.Native.Nat.{ℕ, _-_}
 use borrow.Author.Needs.{needs}
 use Rattle.diagram_file.proofs.fill.Statement.{statement}
 use Rattle.diagram_file.proofs.fill.Tie as tie
-use Rattle.diagram_file.proofs.fill.Reads as reads
-use Rattle.diagram_file.proofs.fill.Lts as lts
-use Rattle.diagram_file.proofs.nesting.read_nesting.Reads as read-nesting-reads
-use Rattle.diagram_file.proofs.records.read_records.Reads as read-records-reads
-use Rattle.diagram_file.proofs.structure.fill_structure.Reads as fill-structure-reads
-use Rattle.words.proofs.word.Reads as word-reads
 
--- src/lib.rt:67:9
 read-records-requires : tie.Need-read-records-requires
 read-records-requires c κs = search needs
 
--- src/lib.rt:69:56
 cast-t9 : tie.Need-cast-t9
 cast-t9 c = search needs
 
--- src/lib.rt:69:9
 same-length : tie.Need-same-length
 same-length c = search needs
 
--- src/lib.rt:69:9
 returns : tie.Need-returns
 returns c = refused-records (c .before .before .before .before .before .before .before .before .before .args .file .now) (c .before .before .before .before .before .read-records .last .1 .0) (c .before .before .before .before .before .read-records .result) (c .before .before .before .before .before .read-records .ensures) (c .before .if1 .taken)
 
--- src/lib.rt:71:9
 word-requires : tie.Need-word-requires
 word-requires c κs = search needs
 
--- src/lib.rt:72:50
 cast-read-nesting : tie.Need-cast-read-nesting
 cast-read-nesting c = search needs
 
--- src/lib.rt:72:9
 read-nesting-requires : tie.Need-read-nesting-requires
 read-nesting-requires c κs = let h = few-rows (c .before .before .before .before .before .before .before .before .before .before .args .file .now) (c .before .before .before .before .before .before .read-records .last .1 .0) (c .before .before .before .before .before .before .read-records .ensures .tabled (c .before .before .if1 .left)) in omega (arith, h, c .before .word .ensures)
 
--- src/lib.rt:74:59
 cast-t13 : tie.Need-cast-t13
 cast-t13 c = search needs
 
--- src/lib.rt:74:9
 same-length-2 : tie.Need-same-length-2
 same-length-2 c = search needs
 
--- src/lib.rt:74:9
 returns-2 : tie.Need-returns-2
 returns-2 c =
     let t = c .before .before .before .before .before .before .before .before .before .before .read-records .last .1 .0 in
     refused-nesting (c .before .before .before .before .before .before .before .before .before .before .before .before .before .before .args .file .now) t (c .before .before .before .before .before .before .before .before .before .before .read-records .ensures .tabled (c .before .before .before .before .before .before .if1 .left)) (c .before .before .before .read-nesting .result) (subst (λ (n : ℕ). NestingRead t n (c .before .before .before .read-nesting .result)) (c .before .before .before .before .before .word .ensures) (c .before .before .before .read-nesting .ensures)) (c .before .if2 .taken)
 
--- src/lib.rt:76:5
 fill-structure-requires : tie.Need-fill-structure-requires
 fill-structure-requires c κs =
     let file = c .before .before .before .before .before .before .before .before .before .before .before .before .before .before .args .file .now in
@@ -65,11 +48,9 @@ fill-structure-requires c κs =
     let some = some-row file (c .before .before .before .before .before .before .before .before .before .before .read-records .last .1 .0) w in
     (omega (arith, some, c .before .before .before .before .before .word .ensures), omega (arith, few, c .before .before .before .before .before .word .ensures))
 
--- src/lib.rt:63:1
 same-length-3 : tie.Need-same-length-3
 same-length-3 c = search needs
 
--- src/lib.rt:63:1
 returns-3 : tie.Need-returns-3
 returns-3 c =
     let t = c .before .before .before .before .before .before .before .before .before .before .before .before .before .read-records .last .1 .0 in

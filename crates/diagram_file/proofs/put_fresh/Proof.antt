@@ -5,15 +5,10 @@ use native.Mathlib.Omega.{arith}
 use lib.ListN.{length, getD, set}
 use mathlib.Core.List.{List}
 use mathlib.Core.Path.{_≡_, refl, sym, _∙_, ap}
-use Prim.Native.Nat.{ℕ, suc, _+_, _-_, _*_, _≤_}
+use Prim.Native.Nat.{ℕ, _+_, _-_, _*_, _≤_}
 use Rattle.diagram_file.proofs.put_fresh.Statement.{statement}
 use Rattle.diagram_file.proofs.put_fresh.Tie as tie
-use Rattle.diagram_file.proofs.put_fresh.Reads as reads
-use Rattle.diagram_file.proofs.put_fresh.Lts as lts
-use Rattle.words.proofs.get.Reads as get-reads
-use Rattle.words.proofs.put.Reads as put-reads
 
--- helpers begin
 none : (rows : ℕ) (table state : List ℕ) → state ≡ countsPut rows 0 table state
 unfolding countsPut
 none rows table state = refl
@@ -28,59 +23,45 @@ all : (rows items item : ℕ) (table start first state : List ℕ) → items ≡
 unfolding freshPut
 all rows items item table start first state e f g = g ∙ rw (e, f)
 
--- helpers end
-
 abbrev Inv-loop : tie.InvT-loop
 Inv-loop state₀ rows items table first item₀ state item = (item ≤ items) × (state ≡ countsPut rows item table state₀) × (length state ≡ length state₀)
 
 abbrev μ-loop : tie.MeasureT-loop
 μ-loop state₀ rows items table first item₀ state item = items - item
 
--- src/lib.rt:53:5
 put-requires : tie.Need-put-requires Inv-loop μ-loop
 put-requires c κs = search needs
 
--- src/lib.rt:54:17
 mul-first : tie.Need-mul-first Inv-loop μ-loop
 mul-first c = search needs
 
--- src/lib.rt:56:5
 loop-holds : tie.Need-loop-holds Inv-loop μ-loop
 loop-holds c = (omega arith, none (c .before .before .before .before .before .before .args .rows) (c .before .before .before .before .before .before .args .table .now) (c .before .before .put .last .0), refl)
 
--- src/lib.rt:57:27
 add-put : tie.Need-add-put Inv-loop μ-loop
 add-put c = search needs
 
--- src/lib.rt:57:59
 add-get : tie.Need-add-get Inv-loop μ-loop
 add-get c = search needs
 
--- src/lib.rt:57:41
 get-requires : tie.Need-get-requires Inv-loop μ-loop
 get-requires c κs = search needs
 
--- src/lib.rt:57:9
 put-requires-2 : tie.Need-put-requires-2 Inv-loop μ-loop
 put-requires-2 c κs = search needs
 
--- src/lib.rt:58:9
 add-item : tie.Need-add-item Inv-loop μ-loop
 add-item c = search needs
 
--- src/lib.rt:56:5
 loop-less : tie.Need-loop-less Inv-loop μ-loop
 loop-less c = omega (arith, c .before .before .before .before .before .loop-test .taken)
 
--- src/lib.rt:56:5
 loop-again : tie.Need-loop-again Inv-loop μ-loop
 loop-again c = (omega (arith, c .before .before .before .before .before .loop-test .taken), turn (c .before .before .before .before .before .before .before .before .before .before .before .before .before .args .rows) (c .before .before .before .before .before .before .loop .item) (c .before .before .before .get .result) (c .before .before .before .before .before .before .before .before .before .before .before .before .before .args .table .now) (c .before .before .before .before .before .before .before .before .before .put .last .0) (c .before .before .before .before .before .before .loop .state) (c .before .before .put2 .last .0) (c .before .before .before .before .before .before .loop .inv .1) (c .before .before .before .get .ensures) (c .before .before .put2 .ensures), omega (arith, c .before .before .put2 .kept, c .before .before .before .before .before .before .loop .inv .2))
 
--- src/lib.rt:50:1
 same-length : tie.Need-same-length Inv-loop μ-loop
 same-length c = search needs
 
--- src/lib.rt:50:1
 returns : tie.Need-returns Inv-loop μ-loop
 returns c = all (c .before .before .before .before .before .before .before .before .args .rows) (c .before .before .before .before .before .before .before .before .args .items) (c .before .loop .item) (c .before .before .before .before .before .before .before .before .args .table .now) (c .before .before .before .before .before .before .before .before .args .state .now) (c .before .before .before .before .put .last .0) (c .before .loop .state) (omega (arith, c .loop-test .left, c .before .loop .inv .0)) (c .before .before .before .before .put .ensures) (c .before .loop .inv .1)
 

@@ -2,35 +2,25 @@ use Rattle.diagram_file.proofs.Promises.{length-refused, length-accepte
 use borrow.Author.Needs.{needs}
 use Rattle.diagram_file.proofs.read.Statement.{statement}
 use Rattle.diagram_file.proofs.read.Tie as tie
-use Rattle.diagram_file.proofs.read.Reads as reads
-use Rattle.diagram_file.proofs.read.Lts as lts
-use Rattle.diagram_file.proofs.parse.Reads as parse-reads
 
--- src/lib.rt:99:9
 parse-requires : tie.Need-parse-requires
 parse-requires c κs = search needs
 
--- src/lib.rt:101:9
 returns : tie.Need-returns
 returns c = length-refused (c .before .before .before .before .args .file .now) (c .before .before .parse .result) (c .before .before .parse .ensures) (c .if1 .taken)
 
--- src/lib.rt:103:26
 cast-t4 : tie.Need-cast-t4
 cast-t4 c = search needs
 
--- src/lib.rt:103:22
 mul-t5 : tie.Need-mul-t5
 mul-t5 c = search needs
 
--- src/lib.rt:103:48
 cast-t6 : tie.Need-cast-t6
 cast-t6 c = search needs
 
--- src/lib.rt:103:22
 add-t7 : tie.Need-add-t7
 add-t7 c = search needs
 
--- src/lib.rt:96:1
 returns-2 : tie.Need-returns-2
 returns-2 c = length-accepted (c .before .before .before .before .before .before .args .file .now) (c .before .before .before .before .parse .result) (c .before .before .before .before .parse .ensures) (c .before .before .if1 .left)
 

@@ -1,6 +1,6 @@
 -- The cycle of calls of the run reader and the construct reader. The falling number is the rows left and the constructs that may still open:
 -- `read_run` calls `read_construct` at a row of its run, at its own depth, and `read_construct` calls `read_run` behind its row, one deeper.
-use Prim.Native.Nat.{ℕ, _+_, _-_, _≤_, _<_}
+use Prim.Native.Nat.{ℕ, _+_, _-_, _<_}
 use mathlib.Core.Path.{refl, sym, _∙_, ap}
 use native.Mathlib.Omega.{arith}
 use borrow.Author.Needs.{needs}

@@ -7,30 +7,20 @@ use Prim.Native.Nat.{ℕ, zero, suc, _-_}
 use borrow.Author.Needs.{needs}
 use Rattle.diagram_file.proofs.nesting.before_in.Statement.{statement}
 use Rattle.diagram_file.proofs.nesting.before_in.Tie as tie
-use Rattle.diagram_file.proofs.nesting.before_in.Reads as reads
-use Rattle.diagram_file.proofs.nesting.before_in.Lts as lts
-use Rattle.diagram_file.proofs.nesting.kind_in.Reads as kind-in-reads
 
--- helpers begin
 before : (table : List ℕ) (rows row : ℕ) → row ≢ 0 → kindIn table rows (row - 1) ≡ beforeIn table rows row
 before table rows zero h = absurd (h refl)
 before table rows (suc p) h = ap (kindIn table rows) (let z : suc p - 1 ≡ p = omega arith in z)
 
--- helpers end
-
--- src/nesting.rt:74:9
 returns : tie.Need-returns
 returns c = sym (ap (beforeIn (c .before .before .args .table .now) (c .before .before .args .rows)) (c .if1 .taken))
 
--- src/nesting.rt:76:26
 sub-kind-in : tie.Need-sub-kind-in
 sub-kind-in c = search needs
 
--- src/nesting.rt:76:5
 kind-in-requires : tie.Need-kind-in-requires
 kind-in-requires c κs = search needs
 
--- src/nesting.rt:70:1
 returns-2 : tie.Need-returns-2
 returns-2 c = c .kind-in .ensures ∙ before (c .before .before .before .args .table .now) (c .before .before .before .args .rows) (c .before .before .before .args .row) (c .before .if1 .left)
 

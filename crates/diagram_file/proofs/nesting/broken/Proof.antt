@@ -4,35 +4,25 @@ use borrow.Author.Tests.{not-true, not-false}
 use borrow.Author.Needs.{needs}
 use Rattle.diagram_file.proofs.nesting.broken.Statement.{statement}
 use Rattle.diagram_file.proofs.nesting.broken.Tie as tie
-use Rattle.diagram_file.proofs.nesting.broken.Reads as reads
-use Rattle.diagram_file.proofs.nesting.broken.Lts as lts
-use Rattle.diagram_file.proofs.nesting.follows.Reads as follows-reads
-use Rattle.diagram_file.proofs.nesting.stands.Reads as stands-reads
 
--- src/nesting.rt:128:9
 follows-requires : tie.Need-follows-requires
 follows-requires c κs = search needs
 
--- src/nesting.rt:129:9
 returns : tie.Need-returns
 unfolding brokenOf
 returns c = rw (sym (c .before .follows .ensures) ∙ not-true _ (c .if1 .taken))
 
--- src/nesting.rt:131:9
 stands-requires : tie.Need-stands-requires
 stands-requires c κs = search needs
 
--- src/nesting.rt:132:9
 returns-2 : tie.Need-returns-2
 unfolding brokenOf
 returns-2 c = rw (sym (c .before .before .before .follows .ensures) ∙ not-false _ (c .before .before .if1 .left), sym (c .before .stands .ensures) ∙ not-true _ (c .if2 .taken))
 
--- src/nesting.rt:135:9
 returns-3 : tie.Need-returns-3
 unfolding brokenOf
 returns-3 c = rw (sym (c .before .before .before .before .follows .ensures) ∙ not-false _ (c .before .before .before .if1 .left), sym (c .before .before .stands .ensures) ∙ not-false _ (c .before .if2 .left), c .if3 .taken)
 
--- src/nesting.rt:125:1
 returns-4 : tie.Need-returns-4
 unfolding brokenOf
 returns-4 c = rw (sym (c .before .before .before .before .follows .ensures) ∙ not-false _ (c .before .before .before .if1 .left), sym (c .before .before .stands .ensures) ∙ not-false _ (c .before .if2 .left), c .if3 .left)

@@ -1,52 +1,40 @@
-use mathlib.Core.Path.{_≡_, sym, _∙_, ap}
+use mathlib.Core.Path.{sym, _∙_, ap}
 use lib.Dec.{leb}
 use Rattle.diagram_file.specs.declared.nesting.Part.{Part}
 use mathlib.Core.Bool.{_&&_}
 use mathlib.Core.Path.{sym, _∙_, ap}
-use Rattle.diagram_file.specs.Runs.{deepOf, partOf, opening}
+use Rattle.diagram_file.specs.Runs.{deepOf, opening}
 use borrow.Author.Needs.{needs}
 use Rattle.diagram_file.proofs.nesting.deep.Statement.{statement}
 use Rattle.diagram_file.proofs.nesting.deep.Tie as tie
-use Rattle.diagram_file.proofs.nesting.deep.Reads as reads
-use Rattle.diagram_file.proofs.nesting.deep.Lts as lts
-use Rattle.diagram_file.proofs.nesting.part_of.Reads as part-of-reads
 
--- src/nesting.rt:140:9
 part-of-requires : tie.Need-part-of-requires
 part-of-requires c κs = search needs
 
--- src/nesting.rt:142:24
 enum-told : tie.Need-enum-told
 enum-told c = search needs
 
--- src/nesting.rt:143:24
 enum-told-2 : tie.Need-enum-told-2
 enum-told-2 c = search needs
 
--- src/nesting.rt:144:25
 enum-told-3 : tie.Need-enum-told-3
 enum-told-3 c = search needs
 
--- src/nesting.rt:145:24
 enum-told-4 : tie.Need-enum-told-4
 enum-told-4 c = search needs
 
--- src/nesting.rt:137:1
 returns : tie.Need-returns
 unfolding deepOf
 returns c = ap (λ (p : Part). opening p && leb 12 (c .before .before .before .args .depth)) (sym (c .enum-told .given .1) ∙ c .before .before .part-of .ensures)
 
--- src/nesting.rt:137:1
 returns-2 : tie.Need-returns-2
 unfolding deepOf
 returns-2 c = ap (λ (p : Part). opening p && leb 12 (c .before .before .before .args .depth)) (sym (c .enum-told2 .given .1) ∙ c .before .before .part-of .ensures)
 
--- src/nesting.rt:137:1
 returns-3 : tie.Need-returns-3
 unfolding deepOf
 returns-3 c = ap (λ (p : Part). opening p && leb 12 (c .before .before .before .args .depth)) (sym (c .enum-told3 .given .1) ∙ c .before .before .part-of .ensures)
 
--- src/nesting.rt:137:1
 returns-4 : tie.Need-returns-4
 unfolding deepOf
 returns-4 c = ap (λ (p : Part). opening p && leb 12 (c .before .before .before .args .depth)) (sym (c .enum-told4 .given .1) ∙ c .before .before .part-of .ensures)

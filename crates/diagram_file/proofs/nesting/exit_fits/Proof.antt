@@ -4,35 +4,26 @@ use borrow.Author.Tests.{eq-eqb, ne-eqb, not-true, not-false}
 use borrow.Author.Needs.{needs}
 use Rattle.diagram_file.proofs.nesting.exit_fits.Statement.{statement}
 use Rattle.diagram_file.proofs.nesting.exit_fits.Tie as tie
-use Rattle.diagram_file.proofs.nesting.exit_fits.Reads as reads
-use Rattle.diagram_file.proofs.nesting.exit_fits.Lts as lts
-use Rattle.diagram_file.proofs.nesting.is_and_or.Reads as is-and-or-reads
 
--- src/nesting.rt:145:9
 returns : tie.Need-returns
 unfolding exitFits
 returns c = rw (not-true (c .before .args .looped) (c .if1 .taken))
 
--- src/nesting.rt:147:9
 is-and-or-requires : tie.Need-is-and-or-requires
 is-and-or-requires c κs = search needs
 
--- src/nesting.rt:148:9
 returns-2 : tie.Need-returns-2
 unfolding exitFits
 returns-2 c = rw (not-false (c .before .before .before .args .looped) (c .before .before .if1 .left), sym (c .before .is-and-or .ensures) ∙ not-true _ (c .if2 .taken))
 
--- src/nesting.rt:151:9
 returns-3 : tie.Need-returns-3
 unfolding exitFits
 returns-3 c = rw (not-false (c .before .before .before .before .args .looped) (c .before .before .before .if1 .left), sym (c .before .before .is-and-or .ensures) ∙ not-false _ (c .before .if2 .left), eq-eqb _ _ (c .if3 .taken))
 
--- src/nesting.rt:154:9
 returns-4 : tie.Need-returns-4
 unfolding exitFits
 returns-4 c = rw (not-false (c .before .before .before .before .before .args .looped) (c .before .before .before .before .if1 .left), sym (c .before .before .before .is-and-or .ensures) ∙ not-false _ (c .before .before .if2 .left), ne-eqb _ _ (c .before .if3 .left), eq-eqb _ _ (c .if4 .taken))
 
--- src/nesting.rt:141:1
 returns-5 : tie.Need-returns-5
 unfolding exitFits
 returns-5 c = rw (not-false (c .before .before .before .before .before .args .looped) (c .before .before .before .before .if1 .left), sym (c .before .before .before .is-and-or .ensures) ∙ not-false _ (c .before .before .if2 .left), ne-eqb _ _ (c .before .if3 .left), ne-eqb _ _ (c .if4 .left))

@@ -3,20 +3,14 @@ use mathlib.Core.Path.{sym, _∙_}
 use borrow.Author.Needs.{needs}
 use Rattle.diagram_file.proofs.nesting.follows.Statement.{statement}
 use Rattle.diagram_file.proofs.nesting.follows.Tie as tie
-use Rattle.diagram_file.proofs.nesting.follows.Reads as reads
-use Rattle.diagram_file.proofs.nesting.follows.Lts as lts
-use Rattle.diagram_file.proofs.nesting.is_and_or.Reads as is-and-or-reads
 
--- src/nesting.rt:118:8
 is-and-or-requires : tie.Need-is-and-or-requires
 is-and-or-requires c κs = search needs
 
--- src/nesting.rt:119:9
 returns : tie.Need-returns
 unfolding followsOf
 returns c = rw (sym (c .before .is-and-or .ensures) ∙ c .if1 .taken)
 
--- src/nesting.rt:115:1
 returns-2 : tie.Need-returns-2
 unfolding followsOf
 returns-2 c = rw (sym (c .before .is-and-or .ensures) ∙ c .if1 .left)

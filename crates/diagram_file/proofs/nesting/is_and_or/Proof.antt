@@ -3,20 +3,15 @@ use mathlib.Core.Path.{sym, ap}
 use borrow.Author.Tests.{ne-eqb}
 use Rattle.diagram_file.proofs.nesting.is_and_or.Statement.{statement}
 use Rattle.diagram_file.proofs.nesting.is_and_or.Tie as tie
-use Rattle.diagram_file.proofs.nesting.is_and_or.Reads as reads
-use Rattle.diagram_file.proofs.nesting.is_and_or.Lts as lts
 
--- src/nesting.rt:79:1
 returns : tie.Need-returns
 unfolding isAndOr
 returns c = sym (ap isAndOr (c .match .keys1))
 
--- src/nesting.rt:79:1
 returns-2 : tie.Need-returns-2
 unfolding isAndOr
 returns-2 c = sym (ap isAndOr (c .match .keys2))
 
--- src/nesting.rt:79:1
 returns-3 : tie.Need-returns-3
 unfolding isAndOr
 returns-3 c = simp (ne-eqb _ _ (c .match .rest .1), ne-eqb _ _ (c .match .rest .0 .1))

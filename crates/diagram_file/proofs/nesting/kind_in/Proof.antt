@@ -3,20 +3,14 @@ use borrow.Author.Tests.{lt-ltb, le-ltb}
 use borrow.Author.Needs.{needs}
 use Rattle.diagram_file.proofs.nesting.kind_in.Statement.{statement}
 use Rattle.diagram_file.proofs.nesting.kind_in.Tie as tie
-use Rattle.diagram_file.proofs.nesting.kind_in.Reads as reads
-use Rattle.diagram_file.proofs.nesting.kind_in.Lts as lts
-use Rattle.words.proofs.get.Reads as get-reads
 
--- src/nesting.rt:64:9
 get-requires : tie.Need-get-requires
 get-requires c κs = search needs
 
--- src/nesting.rt:64:9
 returns : tie.Need-returns
 unfolding kindIn
 returns c = rw (lt-ltb _ _ (c .before .if1 .taken)) (c .get .ensures)
 
--- src/nesting.rt:60:1
 returns-2 : tie.Need-returns-2
 unfolding kindIn
 returns-2 c = rw (le-ltb _ _ (c .if1 .left))

@@ -2,15 +2,11 @@ use Rattle.diagram_file.specs.Runs.{loopsIn}
 use borrow.Author.Tests.{eq-eqb, ne-eqb}
 use Rattle.diagram_file.proofs.nesting.loops.Statement.{statement}
 use Rattle.diagram_file.proofs.nesting.loops.Tie as tie
-use Rattle.diagram_file.proofs.nesting.loops.Reads as reads
-use Rattle.diagram_file.proofs.nesting.loops.Lts as lts
 
--- src/nesting.rt:174:9
 returns : tie.Need-returns
 unfolding loopsIn
 returns c = rw (eq-eqb _ _ (c .if1 .taken))
 
--- src/nesting.rt:170:1
 returns-2 : tie.Need-returns-2
 unfolding loopsIn
 returns-2 c = rw (ne-eqb _ _ (c .if1 .left))

@@ -3,55 +3,43 @@ use mathlib.Core.Path.{sym, ap}
 use borrow.Author.Tests.{ne-eqb}
 use Rattle.diagram_file.proofs.nesting.part_of.Statement.{statement}
 use Rattle.diagram_file.proofs.nesting.part_of.Tie as tie
-use Rattle.diagram_file.proofs.nesting.part_of.Reads as reads
-use Rattle.diagram_file.proofs.nesting.part_of.Lts as lts
 
--- src/nesting.rt:42:1
 returns : tie.Need-returns
 unfolding partOf
 returns c = sym (ap partOf (c .match .keys1))
 
--- src/nesting.rt:42:1
 returns-2 : tie.Need-returns-2
 unfolding partOf
 returns-2 c = sym (ap partOf (c .match .keys2))
 
--- src/nesting.rt:42:1
 returns-3 : tie.Need-returns-3
 unfolding partOf
 returns-3 c = sym (ap partOf (c .match .keys3))
 
--- src/nesting.rt:42:1
 returns-4 : tie.Need-returns-4
 unfolding partOf
 returns-4 c = sym (ap partOf (c .match .keys4))
 
--- src/nesting.rt:42:1
 returns-5 : tie.Need-returns-5
 unfolding partOf
 returns-5 c = sym (ap partOf (c .match .keys5))
 
--- src/nesting.rt:42:1
 returns-6 : tie.Need-returns-6
 unfolding partOf
 returns-6 c = sym (ap partOf (c .match .keys6))
 
--- src/nesting.rt:42:1
 returns-7 : tie.Need-returns-7
 unfolding partOf
 returns-7 c = sym (ap partOf (c .match .keys7))
 
--- src/nesting.rt:42:1
 returns-8 : tie.Need-returns-8
 unfolding partOf
 returns-8 c = sym (ap partOf (c .match .keys8))
 
--- src/nesting.rt:42:1
 returns-9 : tie.Need-returns-9
 unfolding partOf
 returns-9 c = sym (ap partOf (c .match .keys9))
 
--- src/nesting.rt:42:1
 returns-10 : tie.Need-returns-10
 unfolding partOf
 returns-10 c = rw (ne-eqb _ _ (c .match .rest .1), ne-eqb _ _ (c .match .rest .0 .1), ne-eqb _ _ (c .match .rest .0 .0 .1), ne-eqb _ _ (c .match .rest .0 .0 .0 .1), ne-eqb _ _ (c .match .rest .0 .0 .0 .0 .1), ne-eqb _ _ (c .match .rest .0 .0 .0 .0 .0 .1), ne-eqb _ _ (c .match .rest .0 .0 .0 .0 .0 .0 .1), ne-eqb _ _ (c .match .rest .0 .0 .0 .0 .0 .0 .0 .1), ne-eqb _ _ (c .match .rest .0 .0 .0 .0 .0 .0 .0 .0 .1))

@@ -2,35 +2,25 @@ use Rattle.diagram_file.proofs.Walks.{all-judged, never-turned, never-c
 use borrow.Author.Needs.{needs}
 use Rattle.diagram_file.proofs.nesting.read_nesting.Statement.{statement}
 use Rattle.diagram_file.proofs.nesting.read_nesting.Tie as tie
-use Rattle.diagram_file.proofs.nesting.read_nesting.Reads as reads
-use Rattle.diagram_file.proofs.nesting.read_nesting.Lts as lts
-use Rattle.diagram_file.proofs.nesting.read_run.Reads as read-run-reads
 
--- src/nesting.rt:287:9
 read-run-requires : tie.Need-read-run-requires
 read-run-requires c κs = search needs
 
--- src/nesting.rt:289:21
 enum-known-run : tie.Need-enum-known-run
 enum-known-run c = search needs
 
--- src/nesting.rt:290:21
 enum-known-run-2 : tie.Need-enum-known-run-2
 enum-known-run-2 c = search needs
 
--- src/nesting.rt:291:21
 enum-known-run-3 : tie.Need-enum-known-run-3
 enum-known-run-3 c = search needs
 
--- src/nesting.rt:282:1
 returns : tie.Need-returns
 returns c = all-judged (c .before .before .before .before .before .args .table .now) (c .before .before .before .before .before .args .rows) (c .before .before .before .read-run .result) (c .before .before .before .read-run .ensures) (c .before .run .given .0 .0) (c .before .run .given .0 .1 .0) (c .before .run .given .1)
 
--- src/nesting.rt:282:1
 returns-2 : tie.Need-returns-2
 returns-2 c = never-turned (c .before .before .before .before .before .args .table .now) (c .before .before .before .before .before .args .rows) (c .before .before .before .read-run .result) (c .before .before .before .read-run .ensures) (c .before .run2 .given .0 .0) (c .before .run2 .given .1)
 
--- src/nesting.rt:282:1
 returns-3 : tie.Need-returns-3
 returns-3 c = never-closed (c .before .before .before .before .before .args .table .now) (c .before .before .before .before .before .args .rows) (c .before .before .before .read-run .result) (c .before .before .before .read-run .ensures) (c .before .run3 .given .0 .0) (c .before .run3 .given .1)
 

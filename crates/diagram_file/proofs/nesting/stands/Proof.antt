@@ -1,63 +1,48 @@
 use Rattle.diagram_file.specs.Runs.{standsOf}
-use mathlib.Core.Path.{sym, _∙_}
 use borrow.Author.Tests.{eq-eqb, ne-eqb}
 use borrow.Author.Needs.{needs}
 use Rattle.diagram_file.proofs.nesting.stands.Statement.{statement}
 use Rattle.diagram_file.proofs.nesting.stands.Tie as tie
-use Rattle.diagram_file.proofs.nesting.stands.Reads as reads
-use Rattle.diagram_file.proofs.nesting.stands.Lts as lts
-use Rattle.diagram_file.proofs.nesting.is_and_or.Reads as is-and-or-reads
 
--- src/nesting.rt:94:15
 is-and-or-requires : tie.Need-is-and-or-requires
 is-and-or-requires c κs = search needs
 
--- src/nesting.rt:90:1
 returns : tie.Need-returns
 unfolding standsOf
 returns c = rw (c .before .match .keys1) (c .is-and-or .ensures)
 
--- src/nesting.rt:90:1
 returns-2 : tie.Need-returns-2
 unfolding standsOf
 returns-2 c = rw (c .before .match .keys2, eq-eqb _ _ (c .if1 .taken))
 
--- src/nesting.rt:90:1
 returns-3 : tie.Need-returns-3
 unfolding standsOf
 returns-3 c = rw (c .before .match .keys2, ne-eqb _ _ (c .if1 .left))
 
--- src/nesting.rt:90:1
 returns-4 : tie.Need-returns-4
 unfolding standsOf
 returns-4 c = rw (c .before .match .keys3, eq-eqb _ _ (c .if2 .taken))
 
--- src/nesting.rt:90:1
 returns-5 : tie.Need-returns-5
 unfolding standsOf
 returns-5 c = rw (c .before .match .keys3, ne-eqb _ _ (c .if2 .left))
 
--- src/nesting.rt:90:1
 returns-6 : tie.Need-returns-6
 unfolding standsOf
 returns-6 c = rw (c .match .keys4)
 
--- src/nesting.rt:90:1
 returns-7 : tie.Need-returns-7
 unfolding standsOf
 returns-7 c = rw (c .match .keys5)
 
--- src/nesting.rt:90:1
 returns-8 : tie.Need-returns-8
 unfolding standsOf
 returns-8 c = rw (c .before .match .keys6, eq-eqb _ _ (c .if3 .taken))
 
--- src/nesting.rt:90:1
 returns-9 : tie.Need-returns-9
 unfolding standsOf
 returns-9 c = rw (c .before .match .keys6, ne-eqb _ _ (c .if3 .left))
 
--- src/nesting.rt:90:1
 returns-10 : tie.Need-returns-10
 unfolding standsOf
 returns-10 c = rw (ne-eqb _ _ (c .match .rest .1), ne-eqb _ _ (c .match .rest .0 .1), ne-eqb _ _ (c .match .rest .0 .0 .1), ne-eqb _ _ (c .match .rest .0 .0 .0 .1), ne-eqb _ _ (c .match .rest .0 .0 .0 .0 .1), ne-eqb _ _ (c .match .rest .0 .0 .0 .0 .0 .1))

@@ -3,20 +3,14 @@ use borrow.Author.Tests.{eq-eqb, ne-eqb}
 use borrow.Author.Needs.{needs}
 use Rattle.diagram_file.proofs.nesting.top_in.Statement.{statement}
 use Rattle.diagram_file.proofs.nesting.top_in.Tie as tie
-use Rattle.diagram_file.proofs.nesting.top_in.Reads as reads
-use Rattle.diagram_file.proofs.nesting.top_in.Lts as lts
-use Rattle.diagram_file.proofs.nesting.kind_in.Reads as kind-in-reads
 
--- src/nesting.rt:74:9
 returns : tie.Need-returns
 unfolding topIn
 returns c = rw (eq-eqb _ _ (c .if1 .taken))
 
--- src/nesting.rt:76:5
 kind-in-requires : tie.Need-kind-in-requires
 kind-in-requires c κs = search needs
 
--- src/nesting.rt:70:1
 returns-2 : tie.Need-returns-2
 unfolding topIn
 returns-2 c = rw (ne-eqb _ _ (c .before .if1 .left)) (c .kind-in .ensures)

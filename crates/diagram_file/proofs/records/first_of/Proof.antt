@@ -5,33 +5,24 @@ use mathlib.Core.Path.{sym, _∙_}
 use borrow.Author.Needs.{needs}
 use Rattle.diagram_file.proofs.records.first_of.Statement.{statement}
 use Rattle.diagram_file.proofs.records.first_of.Tie as tie
-use Rattle.diagram_file.proofs.records.first_of.Reads as reads
-use Rattle.diagram_file.proofs.records.first_of.Lts as lts
-use Rattle.words.proofs.word.Reads as word-reads
 
--- src/records.rt:167:9
 word-requires : tie.Need-word-requires
 word-requires c κs = search needs
 
--- src/records.rt:169:15
 word-requires-2 : tie.Need-word-requires-2
 word-requires-2 c κs = search needs
 
--- src/records.rt:170:15
 word-requires-3 : tie.Need-word-requires-3
 word-requires-3 c κs = search needs
 
--- src/records.rt:164:1
 returns : tie.Need-returns
 unfolding column
 returns c = c .word2 .ensures ∙ simp (eq-eqb _ _ (sym (c .before .before .word .ensures) ∙ c .before .match .keys1))
 
--- src/records.rt:164:1
 returns-2 : tie.Need-returns-2
 unfolding column
 returns-2 c = c .word3 .ensures ∙ rw (sym (c .before .before .word .ensures) ∙ c .before .match .keys2)
 
--- src/records.rt:164:1
 returns-3 : tie.Need-returns-3
 unfolding column
 returns-3 c = simp (ne-eqb _ _ (λ q. c .match .rest .0 .1 (c .before .word .ensures ∙ q)), ne-eqb _ _ (λ q. c .match .rest .1 (c .before .word .ensures ∙ q)))

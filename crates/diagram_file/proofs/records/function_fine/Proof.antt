@@ -3,42 +3,28 @@ use Rattle.effbd.specs.Records.{word}
 use borrow.Author.Needs.{needs}
 use Rattle.diagram_file.proofs.records.function_fine.Statement.{statement}
 use Rattle.diagram_file.proofs.records.function_fine.Tie as tie
-use Rattle.diagram_file.proofs.records.function_fine.Reads as reads
-use Rattle.diagram_file.proofs.records.function_fine.Lts as lts
-use Rattle.diagram_file.proofs.records.use_count.Reads as use-count-reads
-use Rattle.diagram_file.proofs.records.uses_fine.Reads as uses-fine-reads
-use Rattle.words.proofs.tail.Reads as tail-reads
-use Rattle.words.proofs.word.Reads as word-reads
 
--- src/records.rt:111:8
 word-requires : tie.Need-word-requires
 word-requires c κs = search needs
 
--- src/records.rt:111:32
 word-requires-2 : tie.Need-word-requires-2
 word-requires-2 c κs = search needs
 
--- src/records.rt:112:9
 returns : tie.Need-returns
 returns c = function-bad (c .before .before .before .before .args .items) (c .before .before .before .before .args .bytes .now) (c .before .before .word .result) (c .before .word2 .result) (c .before .before .word .ensures) (c .before .word2 .ensures) (c .if1 .taken)
 
--- src/records.rt:114:15
 tail-requires : tie.Need-tail-requires
 tail-requires c κs = search needs
 
--- src/records.rt:114:48
 word-requires-3 : tie.Need-word-requires-3
 word-requires-3 c κs = search needs
 
--- src/records.rt:114:38
 use-count-requires : tie.Need-use-count-requires
 use-count-requires c κs = search needs
 
--- src/records.rt:114:5
 uses-fine-requires : tie.Need-uses-fine-requires
 uses-fine-requires c κs = search needs
 
--- src/records.rt:108:1
 returns-2 : tie.Need-returns-2
 returns-2 c = function-good (c .before .before .before .before .before .before .before .before .args .items) (c .before .before .before .before .before .before .before .before .args .bytes .now) (c .before .before .before .before .before .before .word .result) (c .before .before .before .before .before .word2 .result) (c .before .before .word3 .result) (c .before .use-count .result) (c .before .before .before .tail .result .now) (c .uses-fine .result) (c .before .before .before .before .before .before .word .ensures) (c .before .before .before .before .before .word2 .ensures) (c .before .before .before .before .if1 .left) (c .before .before .before .tail .ensures) (c .before .before .word3 .ensures) (c .before .use-count .ensures) (c .uses-fine .ensures)
 

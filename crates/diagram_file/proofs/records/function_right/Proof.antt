@@ -2,20 +2,15 @@ use Rattle.diagram_file.specs.Fields.{functionRight}
 use borrow.Author.Tests.{le-leb, lt-leb, eq-eqb, ne-eqb}
 use Rattle.diagram_file.proofs.records.function_right.Statement.{statement}
 use Rattle.diagram_file.proofs.records.function_right.Tie as tie
-use Rattle.diagram_file.proofs.records.function_right.Reads as reads
-use Rattle.diagram_file.proofs.records.function_right.Lts as lts
 
--- src/records.rt:84:1
 returns : tie.Need-returns
 unfolding functionRight
 returns c = simp (le-leb _ _ (c .before .if1 .taken), eq-eqb _ _ (c .if2 .taken))
 
--- src/records.rt:84:1
 returns-2 : tie.Need-returns-2
 unfolding functionRight
 returns-2 c = simp (le-leb _ _ (c .before .if1 .taken), ne-eqb _ _ (c .if2 .left))
 
--- src/records.rt:84:1
 returns-3 : tie.Need-returns-3
 unfolding functionRight
 returns-3 c = simp (lt-leb _ _ (c .if1 .left))

@@ -2,15 +2,11 @@ use Rattle.diagram_file.specs.Fields.{isRow}
 use borrow.Author.Tests.{le-leb, lt-leb}
 use Rattle.diagram_file.proofs.records.is_row.Statement.{statement}
 use Rattle.diagram_file.proofs.records.is_row.Tie as tie
-use Rattle.diagram_file.proofs.records.is_row.Reads as reads
-use Rattle.diagram_file.proofs.records.is_row.Lts as lts
 
--- src/records.rt:78:1
 returns : tie.Need-returns
 unfolding isRow
 returns c = simp (le-leb _ _ (c .if1 .taken))
 
--- src/records.rt:78:1
 returns-2 : tie.Need-returns-2
 unfolding isRow
 returns-2 c = simp (lt-leb _ _ (c .if1 .left))

@@ -2,29 +2,19 @@ use Rattle.diagram_file.proofs.Fields.{item-fault-is}
 use borrow.Author.Needs.{needs}
 use Rattle.diagram_file.proofs.records.item_fault.Statement.{statement}
 use Rattle.diagram_file.proofs.records.item_fault.Tie as tie
-use Rattle.diagram_file.proofs.records.item_fault.Reads as reads
-use Rattle.diagram_file.proofs.records.item_fault.Lts as lts
-use Rattle.diagram_file.proofs.kinds.length_of.Reads as length-of-reads
-use Rattle.diagram_file.proofs.records.record_fault.Reads as record-fault-reads
-use Rattle.words.proofs.word.Reads as word-reads
 
--- src/records.rt:141:9
 word-requires : tie.Need-word-requires
 word-requires c κs = search needs
 
--- src/records.rt:142:9
 word-requires-2 : tie.Need-word-requires-2
 word-requires-2 c κs = search needs
 
--- src/records.rt:143:9
 length-of-requires : tie.Need-length-of-requires
 length-of-requires c κs = search needs
 
--- src/records.rt:144:5
 record-fault-requires : tie.Need-record-fault-requires
 record-fault-requires c κs = search needs
 
--- src/records.rt:138:1
 returns : tie.Need-returns
 returns c = item-fault-is (c .before .before .before .before .before .args .bytes .now) (c .before .before .before .word .result) (c .before .before .word2 .result) (c .before .length-of .result) (c .record-fault .result) (c .before .before .before .word .ensures) (c .before .before .word2 .ensures) (c .before .length-of .ensures) (c .record-fault .ensures)
 

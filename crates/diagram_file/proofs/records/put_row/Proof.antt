@@ -5,51 +5,37 @@ use mathlib.Core.Path.{ap, _∙_}
 use borrow.Author.Needs.{needs}
 use Rattle.diagram_file.proofs.records.put_row.Statement.{statement}
 use Rattle.diagram_file.proofs.records.put_row.Tie as tie
-use Rattle.diagram_file.proofs.records.put_row.Reads as reads
-use Rattle.diagram_file.proofs.records.put_row.Lts as lts
-use Rattle.words.proofs.put.Reads as put-reads
 
--- src/records.rt:212:5
 put-requires : tie.Need-put-requires
 put-requires c κs = search needs
 
--- src/records.rt:213:23
 add-put : tie.Need-add-put
 add-put c = search needs
 
--- src/records.rt:213:5
 put-requires-2 : tie.Need-put-requires-2
 put-requires-2 c κs = search needs
 
--- src/records.rt:214:23
 add-put-2 : tie.Need-add-put-2
 add-put-2 c = search needs
 
--- src/records.rt:214:5
 put-requires-3 : tie.Need-put-requires-3
 put-requires-3 c κs = search needs
 
--- src/records.rt:215:23
 add-put-3 : tie.Need-add-put-3
 add-put-3 c = search needs
 
--- src/records.rt:215:5
 put-requires-4 : tie.Need-put-requires-4
 put-requires-4 c κs = search needs
 
--- src/records.rt:216:23
 add-put-4 : tie.Need-add-put-4
 add-put-4 c = search needs
 
--- src/records.rt:216:5
 put-requires-5 : tie.Need-put-requires-5
 put-requires-5 c κs = search needs
 
--- src/records.rt:208:1
 same-length : tie.Need-same-length
 same-length c = search needs
 
--- src/records.rt:208:1
 returns : tie.Need-returns
 unfolding putRow
 returns c =

@@ -7,12 +7,6 @@ use mathlib.Core.Path.{sym, _∙_}
 use borrow.Author.Needs.{needs}
 use Rattle.diagram_file.proofs.records.read_items.Statement.{statement}
 use Rattle.diagram_file.proofs.records.read_items.Tie as tie
-use Rattle.diagram_file.proofs.records.read_items.Reads as reads
-use Rattle.diagram_file.proofs.records.read_items.Lts as lts
-use Rattle.diagram_file.proofs.records.item_fault.Reads as item-fault-reads
-use Rattle.words.proofs.put.Reads as put-reads
-use Rattle.words.proofs.tail.Reads as tail-reads
-use Rattle.words.proofs.word.Reads as word-reads
 
 abbrev Inv-loop : tie.InvT-loop
 Inv-loop file from count table₀ rest₀ at₀ item₀ table rest at item = (item ≤ count) × ItemsState file from item rest at table
@@ -20,65 +14,50 @@ Inv-loop file from count table₀ rest₀ at₀ item₀ table rest at item = (it
 abbrev μ-loop : tie.MeasureT-loop
 μ-loop file from count table₀ rest₀ at₀ item₀ table rest at item = count - item
 
--- src/records.rt:239:9
 tail-requires : tie.Need-tail-requires Inv-loop μ-loop
 tail-requires c κs = search needs
 
--- src/records.rt:242:5
 loop-holds : tie.Need-loop-holds Inv-loop μ-loop
 loop-holds c = (omega arith, items-start (c .before .before .before .args .file .now) (c .tail .result .now) (c .before .before .before .args .from) (c .before .before .before .args .table .now) (omega (arith, c .before .before .before .pre)) (omega (arith, c .before .before .before .pre)) (c .tail .ensures))
 
--- src/records.rt:243:13
 item-fault-requires : tie.Need-item-fault-requires Inv-loop μ-loop
 item-fault-requires c κs = search needs
 
--- src/records.rt:245:13
 same-length : tie.Need-same-length Inv-loop μ-loop
 same-length c = search needs
 
--- src/records.rt:245:13
 returns : tie.Need-returns Inv-loop μ-loop
 returns c =
     let l = c .before .before .before .loop in let a = c .before .before .before .before .before .before .before .args in
     items-stop (a .file .now) (a .from) (l .item) (l .at) (l .rest .now) (l .table) (l .inv .1) (a .count) (c .before .item-fault .result) (c .before .before .loop-test .taken) (omega (arith, c .before .before .before .before .before .before .before .pre)) (c .before .item-fault .ensures) (c .if1 .taken)
 
--- src/records.rt:247:27
 add-put : tie.Need-add-put Inv-loop μ-loop
 add-put c = search needs
 
--- src/records.rt:247:39
 word-requires : tie.Need-word-requires Inv-loop μ-loop
 word-requires c κs = search needs
 
--- src/records.rt:247:9
 put-requires : tie.Need-put-requires Inv-loop μ-loop
 put-requires c κs = search needs
 
--- src/records.rt:248:22
 word-requires-2 : tie.Need-word-requires-2 Inv-loop μ-loop
 word-requires-2 c κs = search needs
 
--- src/records.rt:248:22
 cast-length : tie.Need-cast-length Inv-loop μ-loop
 cast-length c = search needs
 
--- src/records.rt:249:13
 tail-requires-2 : tie.Need-tail-requires-2 Inv-loop μ-loop
 tail-requires-2 c κs = search needs
 
--- src/records.rt:251:9
 add-at : tie.Need-add-at Inv-loop μ-loop
 add-at c = search needs
 
--- src/records.rt:252:9
 add-item : tie.Need-add-item Inv-loop μ-loop
 add-item c = search needs
 
--- src/records.rt:242:5
 loop-less : tie.Need-loop-less Inv-loop μ-loop
 loop-less c = omega (arith, c .before .before .before .before .before .before .before .before .before .loop-test .taken)
 
--- src/records.rt:242:5
 loop-again : tie.Need-loop-again Inv-loop μ-loop
 loop-again c =
     let l = c .before .before .before .before .before .before .before .before .before .before .loop in let a = c .before .before .before .before .before .before .before .before .before .before .before .before .before .before .args in (
@@ -86,11 +65,9 @@ loop-again c =
       items-turn (a .file .now) (a .from) (l .item) (l .at) (l .rest .now) (l .table) (l .inv .1) (c .before .word2 .result) (c .before .before .before .before .before .word .result) (c .tail2 .result .now) (c .before .before .before .before .put .last .0) (omega (arith, c .before .before .before .before .before .before .before .before .before .loop-test .taken, c .before .before .before .before .before .before .before .before .before .before .before .before .before .before .pre)) (sym (c .before .before .before .before .before .before .before .before .item-fault .ensures) ∙ c .before .before .before .before .before .before .before .if1 .left) (c .before .before .before .before .before .word .ensures) (c .before .word2 .ensures) (c .tail2 .ensures) (c .before .before .before .before .put .ensures),
     )
 
--- src/records.rt:233:1
 same-length-2 : tie.Need-same-length-2 Inv-loop μ-loop
 same-length-2 c = search needs
 
--- src/records.rt:233:1
 returns-2 : tie.Need-returns-2 Inv-loop μ-loop
 returns-2 c =
     let l = c .before .loop in let a = c .before .before .before .before .before .args in

@@ -4,42 +4,29 @@ use Rattle.diagram_file.proofs.Files.{head-good, head-bad, items-bad, r
 use Rattle.diagram_file.specs.Reading.{ItemsRead, RowsRead}
 use Rattle.effbd.specs.Records.{word}
 use native.Mathlib.Omega.{arith}
-use mathlib.Core.Path.{_≡_, sym, _∙_, subst}
+use mathlib.Core.Path.{sym, _∙_, subst}
 use borrow.Author.Needs.{needs}
 use Rattle.diagram_file.proofs.records.read_records.Statement.{statement}
 use Rattle.diagram_file.proofs.records.read_records.Tie as tie
-use Rattle.diagram_file.proofs.records.read_records.Reads as reads
-use Rattle.diagram_file.proofs.records.read_records.Lts as lts
-use Rattle.diagram_file.proofs.records.head_fault.Reads as head-fault-reads
-use Rattle.diagram_file.proofs.records.read_items.Reads as read-items-reads
-use Rattle.diagram_file.proofs.records.read_rows.Reads as read-rows-reads
-use Rattle.words.proofs.word.Reads as word-reads
 
--- src/records.rt:287:9
 head-fault-requires : tie.Need-head-fault-requires
 head-fault-requires c κs = search needs
 
--- src/records.rt:289:9
 returns : tie.Need-returns
 returns c = head-bad (c .before .before .before .before .args .file .now) (c .before .before .before .before .args .table .now) (c .before .head-fault .result) (c .before .head-fault .ensures) (c .if1 .taken)
 
--- src/records.rt:291:16
 word-requires : tie.Need-word-requires
 word-requires c κs = search needs
 
--- src/records.rt:291:16
 cast-rows : tie.Need-cast-rows
 cast-rows c = search needs
 
--- src/records.rt:292:9
 word-requires-2 : tie.Need-word-requires-2
 word-requires-2 c κs = search needs
 
--- src/records.rt:293:39
 cast-read-items : tie.Need-cast-read-items
 cast-read-items c = search needs
 
--- src/records.rt:293:9
 read-items-requires : tie.Need-read-items-requires
 read-items-requires c κs =
     let file = c .before .before .before .before .before .before .before .args .file .now in
@@ -48,11 +35,9 @@ read-items-requires c κs =
     let m : c .before .word2 .result ≤ 16 = omega (arith, e, h .items) in
     ((h .long, omega arith), (m, omega (arith, c .before .before .before .before .before .before .before .pre)))
 
--- src/records.rt:295:9
 same-length : tie.Need-same-length
 same-length c = search needs
 
--- src/records.rt:295:9
 returns-2 : tie.Need-returns-2
 returns-2 c =
     let file = c .before .before .before .before .before .before .before .before .before .before .before .before .args .file .now in
@@ -61,7 +46,6 @@ returns-2 c =
     items-bad file (sym (c .before .before .before .before .before .before .before .before .before .head-fault .ensures) ∙ c .before .before .before .before .before .before .before .before .if1 .left) t (c .before .before .before .before .read-items .result)
     (subst (λ m. ItemsRead file 10 m t (c .before .before .before .before .read-items .result)) e (c .before .before .before .before .read-items .ensures)) t (c .if2 .taken)
 
--- src/records.rt:297:9
 read-rows-requires : tie.Need-read-rows-requires
 read-rows-requires c κs =
     let file = c .before .before .before .before .before .before .before .before .before .before .before .before .before .args .file .now in
@@ -76,11 +60,9 @@ read-rows-requires c κs =
     let b : s .at ≤ 106 = omega (arith, q .near, m) in
     ((a, b), ((n, m), omega (arith, c .before .before .before .before .before .before .before .before .before .before .before .before .before .pre, c .before .before .before .before .before .read-items .kept)))
 
--- src/records.rt:299:9
 same-length-2 : tie.Need-same-length-2
 same-length-2 c = search needs
 
--- src/records.rt:299:9
 returns-3 : tie.Need-returns-3
 returns-3 c =
     let file = c .before .before .before .before .before .before .before .before .before .before .before .before .before .before .before .before .before .before .args .file .now in
@@ -93,11 +75,9 @@ returns-3 c =
     rows-bad file (sym (c .before .before .before .before .before .before .before .before .before .before .before .before .before .before .before .head-fault .ensures) ∙ c .before .before .before .before .before .before .before .before .before .before .before .before .before .before .if1 .left) t₁ s (subst (λ m. ItemsRead file 10 m t₁ s) e (c .before .before .before .before .before .before .before .before .before .before .read-items .ensures))
     (c .before .before .before .before .before .before .if2 .left) t r (subst (λ m. RowsRead file m (s .at) (word file 6) t₁ t r) e (subst (λ n. RowsRead file (c .before .before .before .before .before .before .before .before .before .before .before .before .word2 .result) (s .at) n t₁ t r) g (c .before .before .before .before .read-rows .ensures))) (c .if3 .taken)
 
--- src/records.rt:302:9
 same-length-3 : tie.Need-same-length-3
 same-length-3 c = search needs
 
--- src/records.rt:302:9
 returns-4 : tie.Need-returns-4
 returns-4 c =
     let file = c .before .before .before .before .before .before .before .before .before .before .before .before .before .before .before .before .before .before .before .before .args .file .now in
@@ -110,11 +90,9 @@ returns-4 c =
     bytes-left file (sym (c .before .before .before .before .before .before .before .before .before .before .before .before .before .before .before .before .before .head-fault .ensures) ∙ c .before .before .before .before .before .before .before .before .before .before .before .before .before .before .before .before .if1 .left) t₁ s (subst (λ m. ItemsRead file 10 m t₁ s) e (c .before .before .before .before .before .before .before .before .before .before .before .before .read-items .ensures))
     (c .before .before .before .before .before .before .before .before .if2 .left) t r (subst (λ m. RowsRead file m (s .at) (word file 6) t₁ t r) e (subst (λ n. RowsRead file (c .before .before .before .before .before .before .before .before .before .before .before .before .before .before .word2 .result) (s .at) n t₁ t r) g (c .before .before .before .before .before .before .read-rows .ensures))) (c .before .before .if3 .left) (c .if4 .taken)
 
--- src/records.rt:283:1
 same-length-4 : tie.Need-same-length-4
 same-length-4 c = search needs
 
--- src/records.rt:283:1
 returns-5 : tie.Need-returns-5
 returns-5 c =
     let file = c .before .before .before .before .before .before .before .before .before .before .before .before .before .before .before .before .before .before .before .before .args .file .now in

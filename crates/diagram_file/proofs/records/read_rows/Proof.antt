@@ -7,12 +7,6 @@ use mathlib.Core.Path.{sym, _∙_}
 use borrow.Author.Needs.{needs}
 use Rattle.diagram_file.proofs.records.read_rows.Statement.{statement}
 use Rattle.diagram_file.proofs.records.read_rows.Tie as tie
-use Rattle.diagram_file.proofs.records.read_rows.Reads as reads
-use Rattle.diagram_file.proofs.records.read_rows.Lts as lts
-use Rattle.diagram_file.proofs.records.fill_row.Reads as fill-row-reads
-use Rattle.diagram_file.proofs.records.row_fault.Reads as row-fault-reads
-use Rattle.words.proofs.tail.Reads as tail-reads
-use Rattle.words.proofs.word.Reads as word-reads
 
 abbrev Inv-loop : tie.InvT-loop
 Inv-loop file from count items table₀ rest₀ at₀ row₀ table rest at row = (row ≤ count) × RowsState file items from row rest at table₀ table
@@ -20,57 +14,44 @@ Inv-loop file from count items table₀ rest₀ at₀ row₀ table rest at row =
 abbrev μ-loop : tie.MeasureT-loop
 μ-loop file from count items table₀ rest₀ at₀ row₀ table rest at row = count - row
 
--- src/records.rt:264:9
 tail-requires : tie.Need-tail-requires Inv-loop μ-loop
 tail-requires c κs = search needs
 
--- src/records.rt:267:5
 loop-holds : tie.Need-loop-holds Inv-loop μ-loop
 loop-holds c = (omega arith, rows-start (c .before .before .before .args .file .now) (c .before .before .before .args .items) (c .tail .result .now) (c .before .before .before .args .from) (c .before .before .before .args .table .now) (omega (arith, c .before .before .before .pre)) (omega (arith, c .before .before .before .pre)) (c .tail .ensures))
 
--- src/records.rt:268:13
 row-fault-requires : tie.Need-row-fault-requires Inv-loop μ-loop
 row-fault-requires c κs = search needs
 
--- src/records.rt:270:13
 same-length : tie.Need-same-length Inv-loop μ-loop
 same-length c = search needs
 
--- src/records.rt:270:13
 returns : tie.Need-returns Inv-loop μ-loop
 returns c =
     let l = c .before .before .before .loop in let a = c .before .before .before .before .before .before .before .args in
     rows-stop (a .file .now) (a .items) (a .from) (l .row) (l .at) (l .rest .now) (a .table .now) (l .table) (l .inv .1) (a .count) (c .before .row-fault .result) (c .before .before .loop-test .taken) (c .before .row-fault .ensures) (c .if1 .taken)
 
--- src/records.rt:272:9
 fill-row-requires : tie.Need-fill-row-requires Inv-loop μ-loop
 fill-row-requires c κs = search needs
 
--- src/records.rt:273:22
 word-requires : tie.Need-word-requires Inv-loop μ-loop
 word-requires c κs = search needs
 
--- src/records.rt:273:22
 cast-length : tie.Need-cast-length Inv-loop μ-loop
 cast-length c = search needs
 
--- src/records.rt:274:13
 tail-requires-2 : tie.Need-tail-requires-2 Inv-loop μ-loop
 tail-requires-2 c κs = search needs
 
--- src/records.rt:276:9
 add-at : tie.Need-add-at Inv-loop μ-loop
 add-at c = search needs
 
--- src/records.rt:277:9
 add-row : tie.Need-add-row Inv-loop μ-loop
 add-row c = search needs
 
--- src/records.rt:267:5
 loop-less : tie.Need-loop-less Inv-loop μ-loop
 loop-less c = omega (arith, c .before .before .before .before .before .before .before .before .loop-test .taken)
 
--- src/records.rt:267:5
 loop-again : tie.Need-loop-again Inv-loop μ-loop
 loop-again c =
     let l = c .before .before .before .before .before .before .before .before .before .loop in let a = c .before .before .before .before .before .before .before .before .before .before .before .before .before .args in (
@@ -78,11 +59,9 @@ loop-again c =
       rows-turn (a .file .now) (a .items) (a .from) (l .row) (l .at) (l .rest .now) (a .table .now) (l .table) (l .inv .1) (c .before .word .result) (c .tail2 .result .now) (c .before .before .before .before .fill-row .last .0) (omega (arith, c .before .before .before .before .before .before .before .before .loop-test .taken, c .before .before .before .before .before .before .before .before .before .before .before .before .before .pre)) (omega (arith, c .before .before .before .before .before .before .before .before .before .before .before .before .before .pre)) (sym (c .before .before .before .before .before .before .before .row-fault .ensures) ∙ c .before .before .before .before .before .before .if1 .left) (c .before .word .ensures) (c .tail2 .ensures) (c .before .before .before .before .fill-row .ensures),
     )
 
--- src/records.rt:258:1
 same-length-2 : tie.Need-same-length-2 Inv-loop μ-loop
 same-length-2 c = search needs
 
--- src/records.rt:258:1
 returns-2 : tie.Need-returns-2 Inv-loop μ-loop
 returns-2 c =
     let l = c .before .loop in let a = c .before .before .before .before .before .args in

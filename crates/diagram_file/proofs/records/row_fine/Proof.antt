@@ -5,37 +5,25 @@ use mathlib.Core.Path.{ap, sym, _∙_}
 use borrow.Author.Needs.{needs}
 use Rattle.diagram_file.proofs.records.row_fine.Statement.{statement}
 use Rattle.diagram_file.proofs.records.row_fine.Tie as tie
-use Rattle.diagram_file.proofs.records.row_fine.Reads as reads
-use Rattle.diagram_file.proofs.records.row_fine.Lts as lts
-use Rattle.diagram_file.proofs.records.function_fine.Reads as function-fine-reads
-use Rattle.diagram_file.proofs.records.turn_limit_fine.Reads as turn-limit-fine-reads
-use Rattle.words.proofs.word.Reads as word-reads
 
--- src/records.rt:121:9
 word-requires : tie.Need-word-requires
 word-requires c κs = search needs
 
--- src/records.rt:123:15
 function-fine-requires : tie.Need-function-fine-requires
 function-fine-requires c κs = search needs
 
--- src/records.rt:124:31
 word-requires-2 : tie.Need-word-requires-2
 word-requires-2 c κs = search needs
 
--- src/records.rt:124:15
 turn-limit-fine-requires : tie.Need-turn-limit-fine-requires
 turn-limit-fine-requires c κs = search needs
 
--- src/records.rt:118:1
 returns : tie.Need-returns
 returns c = c .function-fine .ensures ∙ fine-function (c .before .before .before .before .args .items) (c .before .before .before .before .args .bytes .now) (sym (c .before .before .word .ensures) ∙ c .before .match .keys1)
 
--- src/records.rt:118:1
 returns-2 : tie.Need-returns-2
 returns-2 c = c .turn-limit-fine .ensures ∙ (ap turnLimitFine (c .before .word2 .ensures) ∙ fine-count (c .before .before .before .before .before .args .items) (c .before .before .before .before .before .args .bytes .now) (sym (c .before .before .before .word .ensures) ∙ c .before .before .match .keys2))
 
--- src/records.rt:118:1
 returns-3 : tie.Need-returns-3
 returns-3 c = fine-other (c .before .before .before .args .items) (c .before .before .before .args .bytes .now) (λ q. c .match .rest .0 .1 (c .before .word .ensures ∙ q)) (λ q. c .match .rest .1 (c .before .word .ensures ∙ q))
 

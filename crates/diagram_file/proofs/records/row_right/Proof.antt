@@ -3,33 +3,22 @@ use Rattle.effbd.specs.Records.{word}
 use borrow.Author.Needs.{needs}
 use Rattle.diagram_file.proofs.records.row_right.Statement.{statement}
 use Rattle.diagram_file.proofs.records.row_right.Tie as tie
-use Rattle.diagram_file.proofs.records.row_right.Reads as reads
-use Rattle.diagram_file.proofs.records.row_right.Lts as lts
-use Rattle.diagram_file.proofs.kinds.length_of.Reads as length-of-reads
-use Rattle.diagram_file.proofs.records.function_right.Reads as function-right-reads
-use Rattle.words.proofs.word.Reads as word-reads
 
--- src/records.rt:94:9
 word-requires : tie.Need-word-requires
 word-requires c κs = search needs
 
--- src/records.rt:95:9
 word-requires-2 : tie.Need-word-requires-2
 word-requires-2 c κs = search needs
 
--- src/records.rt:97:9
 function-right-requires : tie.Need-function-right-requires
 function-right-requires c κs = search needs
 
--- src/records.rt:97:9
 returns : tie.Need-returns
 returns c = right-16 (c .before .before .before .before .before .args .items) (c .before .before .before .before .before .args .bytes .now) (c .before .before .before .word .result) (c .before .before .word2 .result) (c .function-right .result) (c .before .before .before .word .ensures) (c .before .before .word2 .ensures) (c .before .if1 .taken) (c .function-right .ensures)
 
--- src/records.rt:99:15
 length-of-requires : tie.Need-length-of-requires
 length-of-requires c κs = search needs
 
--- src/records.rt:91:1
 returns-2 : tie.Need-returns-2
 returns-2 c = right-not (c .before .before .before .before .before .args .items) (c .before .before .before .before .before .args .bytes .now) (c .before .before .before .word .result) (c .before .before .word2 .result) (c .length-of .result) (c .before .before .before .word .ensures) (c .before .before .word2 .ensures) (c .before .if1 .left) (c .length-of .ensures)
 

@@ -5,24 +5,17 @@ use mathlib.Core.Path.{sym, _∙_}
 use borrow.Author.Needs.{needs}
 use Rattle.diagram_file.proofs.records.second_of.Statement.{statement}
 use Rattle.diagram_file.proofs.records.second_of.Tie as tie
-use Rattle.diagram_file.proofs.records.second_of.Reads as reads
-use Rattle.diagram_file.proofs.records.second_of.Lts as lts
-use Rattle.words.proofs.word.Reads as word-reads
 
--- src/records.rt:179:9
 word-requires : tie.Need-word-requires
 word-requires c κs = search needs
 
--- src/records.rt:181:9
 word-requires-2 : tie.Need-word-requires-2
 word-requires-2 c κs = search needs
 
--- src/records.rt:181:9
 returns : tie.Need-returns
 unfolding column
 returns c = c .word2 .ensures ∙ simp (eq-eqb _ _ (sym (c .before .before .word .ensures) ∙ c .before .if1 .taken))
 
--- src/records.rt:176:1
 returns-2 : tie.Need-returns-2
 unfolding column
 returns-2 c = simp (ne-eqb _ _ (λ q. c .if1 .left (c .before .word .ensures ∙ q)))

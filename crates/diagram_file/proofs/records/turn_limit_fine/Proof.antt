@@ -2,15 +2,11 @@ use Rattle.diagram_file.specs.Fields.{turnLimitFine}
 use borrow.Author.Tests.{le-leb, lt-leb}
 use Rattle.diagram_file.proofs.records.turn_limit_fine.Statement.{statement}
 use Rattle.diagram_file.proofs.records.turn_limit_fine.Tie as tie
-use Rattle.diagram_file.proofs.records.turn_limit_fine.Reads as reads
-use Rattle.diagram_file.proofs.records.turn_limit_fine.Lts as lts
 
--- src/records.rt:102:1
 returns : tie.Need-returns
 unfolding turnLimitFine
 returns c = simp (le-leb _ _ (c .if1 .taken))
 
--- src/records.rt:102:1
 returns-2 : tie.Need-returns-2
 unfolding turnLimitFine
 returns-2 c = simp (lt-leb _ _ (c .if1 .left))

@@ -3,24 +3,18 @@ use borrow.Author.Tests.{lt-ltb, le-ltb, le-leb, lt-leb}
 use borrow.Author.Needs.{needs}
 use Rattle.diagram_file.proofs.records.use_fine.Statement.{statement}
 use Rattle.diagram_file.proofs.records.use_fine.Tie as tie
-use Rattle.diagram_file.proofs.records.use_fine.Reads as reads
-use Rattle.diagram_file.proofs.records.use_fine.Lts as lts
 
--- src/records.rt:23:49
 add-result : tie.Need-add-result
 add-result c = search needs
 
--- src/records.rt:20:1
 returns : tie.Need-returns
 unfolding useFine
 returns c = simp (le-leb _ _ (c .before .if1 .taken), lt-ltb _ _ (c .if2 .taken))
 
--- src/records.rt:20:1
 returns-2 : tie.Need-returns-2
 unfolding useFine
 returns-2 c = simp (le-leb _ _ (c .before .if1 .taken), le-ltb _ _ (c .if2 .left))
 
--- src/records.rt:20:1
 returns-3 : tie.Need-returns-3
 unfolding useFine
 returns-3 c = simp (lt-leb _ _ (c .if1 .left))

@@ -6,29 +6,20 @@ use mathlib.Core.Path.{ap, sym, _∙_}
 use borrow.Author.Needs.{needs}
 use Rattle.diagram_file.proofs.records.uses_number.Statement.{statement}
 use Rattle.diagram_file.proofs.records.uses_number.Tie as tie
-use Rattle.diagram_file.proofs.records.uses_number.Reads as reads
-use Rattle.diagram_file.proofs.records.uses_number.Lts as lts
-use Rattle.diagram_file.proofs.records.use_count.Reads as use-count-reads
-use Rattle.words.proofs.word.Reads as word-reads
 
--- src/records.rt:201:9
 word-requires : tie.Need-word-requires
 word-requires c κs = search needs
 
--- src/records.rt:203:26
 word-requires-2 : tie.Need-word-requires-2
 word-requires-2 c κs = search needs
 
--- src/records.rt:203:9
 use-count-requires : tie.Need-use-count-requires
 use-count-requires c κs = search needs
 
--- src/records.rt:203:9
 returns : tie.Need-returns
 unfolding column
 returns c = c .use-count .ensures ∙ (ap (λ n. (n - 8) / 6) (c .before .word2 .ensures) ∙ simp (eq-eqb _ _ (sym (c .before .before .before .word .ensures) ∙ c .before .before .if1 .taken)))
 
--- src/records.rt:198:1
 returns-2 : tie.Need-returns-2
 unfolding column
 returns-2 c = simp (ne-eqb _ _ (λ q. c .if1 .left (c .before .word .ensures ∙ q)))

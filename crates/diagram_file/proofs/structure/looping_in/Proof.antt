@@ -1,14 +1,10 @@
 use borrow.Author.Tests.{eq-eqb, ne-eqb}
 use Rattle.diagram_file.proofs.structure.looping_in.Statement.{statement}
 use Rattle.diagram_file.proofs.structure.looping_in.Tie as tie
-use Rattle.diagram_file.proofs.structure.looping_in.Reads as reads
-use Rattle.diagram_file.proofs.structure.looping_in.Lts as lts
 
--- src/structure.rt:24:9
 returns : tie.Need-returns
 returns c = rw (eq-eqb _ _ (c .if1 .taken))
 
--- src/structure.rt:20:1
 returns-2 : tie.Need-returns-2
 returns-2 c = rw (ne-eqb _ _ (c .if1 .left))
 

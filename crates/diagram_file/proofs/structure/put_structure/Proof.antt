@@ -6,47 +6,34 @@ use Prim.Native.Nat.{ℕ, _+_}
 use borrow.Author.Needs.{needs}
 use Rattle.diagram_file.proofs.structure.put_structure.Statement.{statement}
 use Rattle.diagram_file.proofs.structure.put_structure.Tie as tie
-use Rattle.diagram_file.proofs.structure.put_structure.Reads as reads
-use Rattle.diagram_file.proofs.structure.put_structure.Lts as lts
-use Rattle.words.proofs.put.Reads as put-reads
 
--- src/structure.rt:13:23
 add-put : tie.Need-add-put
 add-put c = search needs
 
--- src/structure.rt:13:5
 put-requires : tie.Need-put-requires
 put-requires c κs = search needs
 
--- src/structure.rt:14:23
 add-put-2 : tie.Need-add-put-2
 add-put-2 c = search needs
 
--- src/structure.rt:14:5
 put-requires-2 : tie.Need-put-requires-2
 put-requires-2 c κs = search needs
 
--- src/structure.rt:15:23
 add-put-3 : tie.Need-add-put-3
 add-put-3 c = search needs
 
--- src/structure.rt:15:5
 put-requires-3 : tie.Need-put-requires-3
 put-requires-3 c κs = search needs
 
--- src/structure.rt:16:23
 add-put-4 : tie.Need-add-put-4
 add-put-4 c = search needs
 
--- src/structure.rt:16:5
 put-requires-4 : tie.Need-put-requires-4
 put-requires-4 c κs = search needs
 
--- src/structure.rt:9:1
 same-length : tie.Need-same-length
 same-length c = search needs
 
--- src/structure.rt:9:1
 returns : tie.Need-returns
 unfolding putStructure
 returns c =
