@@ -19,7 +19,7 @@ use Rattle.diagram_file.specs.Runs.{partOf}
 use Rattle.diagram_file.specs.Structure.{putStructure, loopingIn, followedAs, followed, structured}
 use Rattle.diagram_file.proofs.Basics.{decide, clash, least-is, least-none}
 use Rattle.diagram_file.proofs.Rules.{closing, ending, stack-next}
-use Rattle.diagram_file.proofs.Stacks.{does, popped-is, owner-low, closesOf, close-part, not-closing, closes-once, held, last-end}
+use Rattle.diagram_file.proofs.Stacks.{does, popped-is, owner-low, closesOf, close-part, not-closing, closes-once, held, last-stays}
 
 -- ---- the code's turns, over its numbers
 module _ (t : List ℕ) (rows q kind own latest looping : ℕ) (part : Part) (ek : kind ≡ getD t q 0) (eo : own ≡ getD t (320 + q) 0)
@@ -244,7 +244,7 @@ module _ (d : Diagram) (rows : ℕ) (er : rows ≡ rowCount d) (acc : nested d �
 
     -- THEOREM: behind the last row the closes are the definition's
     pub close-is : (n : ℕ) → suc n ≡ rows → (t : List ℕ) → Sound start n n t → (q : ℕ) → q < rows → getD t (448 + q) 0 ≡ close d q
-    unfolding close partOf
+    unfolding close
     close-is n e t s q l =
         let k = close-on n q (getD t (448 + q) 0) (s .closes q (omega arith)) (not-closing d q n ended) in
         decide (eqb (getD t (448 + q) 0) rows)
@@ -253,4 +253,4 @@ module _ (d : Diagram) (rows : ℕ) (er : rows ≡ rowCount d) (acc : nested d �
         sym (least-is (rowCount d) (closesOf d q) (getD t (448 + q) 0) (omega arith) (w .1) (w .2)))
       where
         ended : closing (does d n) ≡ false
-        ended = ap (λ (x : ℕ). closing (partOf x)) (eqb-true (numberOf (kind d n)) 27 (last-end d acc n (e ∙ er)))
+        ended = ap closing (last-stays d acc n (e ∙ er))

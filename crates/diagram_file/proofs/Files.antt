@@ -1,6 +1,6 @@
 -- The whole file: what was read is what the definitions read.
 use Prim.Native.Nat.{ℕ, zero, suc, _+_, _-_, _*_, _/_, _%_, _≤_, _<_}
-use mathlib.Core.Path.{_≡_, refl, sym, _∙_, ap, ap₂}
+use mathlib.Core.Path.{_≡_, refl, sym, _∙_, ap, ap₂, subst}
 use mathlib.Core.Logic.{_≢_}
 use mathlib.Core.Bool.{Bool, true, false, cond, _&&_}
 use mathlib.Core.List.{List, [], _∷_}
@@ -197,13 +197,24 @@ skip-tail n k file = let w = skip-drop n k file in ap (λ (x : List ℕ). drop (
 skip-short : (n k : ℕ) (file : List ℕ) → length (skip n (drop k file)) ≤ length file
 skip-short n k file = let w = skip-drop n k file in rw (w .1, length-drop (w .0) file) (omega arith)
 
-module _ (file : List ℕ) (k : headFault file ≡ 0) (t₁ : List ℕ) (s : Reached) (i : ItemsRead file 10 (word file 8) t₁ s) where
+-- the code's way through a file: the head's fault and words, the items, the rows
+module _ (file : List ℕ) (fault n m : ℕ) (ef : fault ≡ headFault file) (en : n ≡ word file 6) (em : m ≡ word file 8) (fine : fault ≡ 0)
+    (t₁ : List ℕ) (s : Reached) (itemsRead : ItemsRead file 10 m t₁ s) where
+  k : headFault file ≡ 0
+  k = sym ef ∙ fine
+
+  i : ItemsRead file 10 (word file 8) t₁ s
+  i = subst (λ (x : ℕ). ItemsRead file 10 x t₁ s) em itemsRead
+
   pub items-bad : (t : List ℕ) → s .fault ≢ 0 → Recorded file t s
   unfolding readRecords
   items-bad t ne = let h = head-good file k in refused-is file t (s .fault) (s .at) ne (omega (arith, i .near, h .items))
       (ap₂ (λ f x. unless f 0 (andThen x (recordItems file))) k (stopped-many itemFault itemAt (length file) file (drop 10 file) (word file 8) s refl (i .stopped) ne))
 
-  module _ (z : s .fault ≡ 0) (t : List ℕ) (r : Reached) (q : RowsRead file (word file 8) (s .at) (word file 6) t₁ t r) where
+  module _ (z : s .fault ≡ 0) (t : List ℕ) (r : Reached) (rowsRead : RowsRead file m (s .at) n t₁ t r) where
+    q : RowsRead file (word file 8) (s .at) (word file 6) t₁ t r
+    q = subst (λ (x : ℕ). RowsRead file x (s .at) (word file 6) t₁ t r) em (subst (λ (x : ℕ). RowsRead file m (s .at) x t₁ t r) en rowsRead)
+
     its : All itemFault itemAt (length file) file (drop 10 file) (word file 8) (s .at)
     its = all-many itemFault itemAt (length file) file (drop 10 file) (word file 8) s (i .stopped) z
 

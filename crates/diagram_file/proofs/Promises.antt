@@ -21,7 +21,8 @@ use Rattle.diagram_file.specs.Structure.{putStructure, structured}
 use Rattle.diagram_file.specs.Tables.{stateLength, refusalNumber, refusalValue, Holds, HoldsUses, HoldsFile, Filled, Parsed, partIn}
 use Rattle.diagram_file.proofs.Basics.{unless-refused}
 use Rattle.diagram_file.proofs.Files.{two-parts}
-use Rattle.diagram_file.proofs.Stacks.{owner-low, branch-low, loop-low, close-low}
+use Rattle.diagram_file.proofs.Rules.{shape, opening-is}
+use Rattle.diagram_file.proofs.Stacks.{does, owner-low, branch-low, loop-low, close-low, close-inside}
 use Rattle.diagram_file.proofs.Columns.{Sound, sound, close-is}
 
 -- ---- a file is refused
@@ -88,6 +89,7 @@ module _ (file t : List ℕ) (w : Tabled file t) where
             branchLow = branch-low dia;
             loopLow = loop-low dia;
             closeLow = λ r. rw (← b .rows) (close-low dia r);
+            closeInside = λ r l h. rw (← b .rows) (close-inside dia acc r (in-rows r l) (opening-is (does dia r) (sym (shape (kind dia r) .opens) ∙ h)));
           }
 
       part-is : (r : ℕ) → r < rowCount dia → usesPart file r ≡ record { start = getD t (192 + r) 0; size = 6 * getD t (256 + r) 0 }

@@ -7,16 +7,16 @@ use mathlib.Core.List.{List, [], _∷_}
 use native.Mathlib.Omega.{arith}
 use native.Mathlib.Numerals.{add-one}
 use lib.Dec.{ltb, eqb}
-use borrow.Author.Tests.{ltb-false, eqb-true, eq-eqb, ne-eqb, not-false}
+use borrow.Author.Tests.{ltb-true, ltb-false, eqb-true, eq-eqb, ne-eqb, not-false}
 use Rattle.effbd.specs.Answers.{accepted, refused}
 use Rattle.effbd.specs.Ranges.{least, only}
 use Rattle.effbd.specs.Diagrams.{lp-open, end, numberOf, sameKind, Diagram, rowCount, kind, isKind}
-use Rattle.effbd.specs.Nesting.{Frame, pop, innermostOpen, latestBranch, stack, owner, branchEnded, isClose, close, innermost, loop, follows, standsAs, nestingBroken, exitMisplaced, thirteenthOpen, nestingFault, firstFaulty, nested}
+use Rattle.effbd.specs.Nesting.{Frame, pop, innermostOpen, latestBranch, stack, owner, branchEnded, isClose, close, noneOpen, innermost, loop, follows, standsAs, nestingBroken, exitMisplaced, thirteenthOpen, nestingFault, firstFaulty, nested}
 use Rattle.diagram_file.specs.declared.nesting.Part.{Part}
 use Rattle.diagram_file.specs.declared.nesting.Part.the-variants.{Opens, Turns, Closes, Stays}
 use Rattle.diagram_file.specs.Runs.{partOf}
 use Rattle.diagram_file.proofs.Basics.{decide, clash, never, least-low, least-upper}
-use Rattle.diagram_file.proofs.Rules.{passingBy, closing, shape, stack-next, ending, bare-faulty}
+use Rattle.diagram_file.proofs.Rules.{passingBy, closing, shape, stack-next, ending, bare-faulty, end-bare}
 
 module _ (d : Diagram) where
   abbrev pub does : ℕ → Part
@@ -138,6 +138,20 @@ module _ (d : Diagram) where
       let y : c + 1 + (q - (c + 1)) ≡ q = omega arith in
       clash (subst (λ (x : ℕ). has x (stack d q) ≡ true) z (owner-has (stack d q) ne)) (subst (λ (m : ℕ). has o (stack d m) ≡ false) y (gone o c (q - (c + 1)) e w))
 
+  -- until its close is passed, a construct is open
+  has-kept : (part : Part) (o q : ℕ) (fs : List Frame) → (part ≡ Closes → innermostOpen fs ≢ o) → has o fs ≡ true → has o (passingBy part q fs) ≡ true
+  unfolding has
+  has-kept Opens o q fs ne h = go (eqb q o)
+    where
+      go : (b : Bool) → (b || has o fs) ≡ true
+      go true = refl
+      go false = h
+  has-kept Turns o q [] ne h = h
+  has-kept Turns o q (f ∷ fs) ne h = h
+  has-kept Closes o q [] ne h = h
+  has-kept Closes o q (f ∷ fs) ne h = subst (λ (b : Bool). (b || has o fs) ≡ true) (ne-eqb (f .opened) o (ne refl)) h
+  has-kept Stays o q fs ne h = h
+
   -- c is a close of the construct that row o opens
   abbrev pub closesOf : ℕ → ℕ → Bool
   closesOf o c = isClose d c && only o (owner d c)
@@ -147,6 +161,23 @@ module _ (d : Diagram) where
 
   pub not-closing : (o c : ℕ) → closing (does c) ≡ false → closesOf o c ≡ false
   not-closing o c h = rw (close-part c, h)
+
+  stays-open : (o n : ℕ) → does o ≡ Opens → ((c : ℕ) → c < o + 1 + n → closesOf o c ≡ false) → has o (stack d (o + 1 + n)) ≡ true
+  unfolding has owner
+  stays-open o zero e h =
+      let z : o + 1 + 0 ≡ o + 1 = omega arith in
+      ap (λ (m : ℕ). has o (stack d m)) z ∙ (ap (has o) (stack-next d o Opens e) ∙ rw (eq-eqb o o refl))
+  stays-open o (suc n) e h =
+      let q = o + 1 + n in
+      let z : o + 1 + suc n ≡ o + 1 + n + 1 = omega arith in
+      ap (λ (m : ℕ). has o (stack d m)) z ∙ (ap (has o) (stack-next d q (does q) refl)
+      ∙ has-kept (does q) o q (stack d q) (λ x y. let shut : isClose d q ≡ true = close-part q ∙ ap closing x in
+      clash (rw (shut, eq-eqb (innermostOpen (stack d q)) o y)) (h q (omega arith))) (stays-open o n e (λ c l. h c (omega arith))))
+
+  bare-has : (o : ℕ) (fs : List Frame) → noneOpen d fs ≡ true → has o fs ≡ false
+  unfolding has
+  bare-has o [] h = refl
+  bare-has o (f ∷ fs) h = clash h refl
 
   -- ---- of an accepted diagram
   module _ (acc : nested d ≡ accepted d) where
@@ -166,15 +197,37 @@ module _ (d : Diagram) where
     pub held : (q : ℕ) → q < rowCount d → ending (does q) ≡ true → stack d q ≡ [] → ⊥
     held q l h e = let a = bare-faulty d q e h in let b = fine q l in absurd (omega arith)
 
-    -- the last row is an END
-    pub last-end : (q : ℕ) → suc q ≡ rowCount d → sameKind (kind d q) end ≡ true
-    last-end q e = go (nestingBroken d q) refl (unfold nestingFault in fine q (omega arith))
+    -- the last row is an END, with nothing open
+    last-fine : (q : ℕ) → suc q ≡ rowCount d → (sameKind (kind d q) end ≡ true) × (standsAs d (kind d q) q (stack d q) ≡ true)
+    last-fine q e = go (nestingBroken d q) refl (unfold nestingFault in fine q (omega arith))
       where
-        last : (a b : Bool) → not (a && (b && (not (eqb (suc q) (rowCount d)) || isKind d end q))) ≡ false → isKind d end q ≡ true
-        last true true z = let w = not-false (not (eqb (suc q) (rowCount d)) || isKind d end q) z in rw (eq-eqb (suc q) (rowCount d) e) at w
+        last : (a b : Bool) → not (a && (b && (not (eqb (suc q) (rowCount d)) || isKind d end q))) ≡ false → (isKind d end q ≡ true) × (b ≡ true)
+        last true true z = let w = not-false (not (eqb (suc q) (rowCount d)) || isKind d end q) z in (rw (eq-eqb (suc q) (rowCount d) e) at w, refl)
         last true false z = clash refl z
         last false b z = clash refl z
 
-        go : (b : Bool) → nestingBroken d q ≡ b → _≡_ {A = ℕ} (cond b 7 (cond (exitMisplaced d q) 8 (cond (thirteenthOpen d q) 9 0))) 0 → isKind d end q ≡ true
+        go : (b : Bool) → nestingBroken d q ≡ b → _≡_ {A = ℕ} (cond b 7 (cond (exitMisplaced d q) 8 (cond (thirteenthOpen d q) 9 0))) 0
+            → (isKind d end q ≡ true) × (standsAs d (kind d q) q (stack d q) ≡ true)
         go true h z = absurd (omega arith)
         go false h z = last (follows d q) (standsAs d (kind d q) q (stack d q)) (unfold nestingBroken in h)
+
+    pub last-stays : (q : ℕ) → suc q ≡ rowCount d → does q ≡ Stays
+    last-stays q e = ap partOf (eqb-true (numberOf (kind d q)) 27 (last-fine q e .0)) ∙ (unfold partOf in refl)
+
+    -- each construct is closed
+    pub close-inside : (o : ℕ) → o < rowCount d → does o ≡ Opens → close d o < rowCount d
+    close-inside o l e = decide (ltb (close d o) (rowCount d)) (λ x. ltb-true (close d o) (rowCount d) x)
+        (λ x. let far = ltb-false (close d o) (rowCount d) x in
+        let q = rowCount d - 1 in
+        let last : suc q ≡ rowCount d = omega arith in
+        let z : o + 1 + (q - (o + 1)) ≡ q = let ne : o ≢ q = λ y. absurd (differ (sym e ∙ (ap does y ∙ last-stays q last))) in omega arith in
+        let w = last-fine q last in
+        clash (subst (λ (m : ℕ). has o (stack d m) ≡ true) z (stays-open o (q - (o + 1)) e (λ c h. none far c (omega arith))))
+        (bare-has o (stack d q) (end-bare d (kind d q) q (stack d q) (w .0) (w .1))))
+      where
+        differ : Opens ≡ Stays → ⊥
+        differ y = let n : _≡_ {A = ℕ} 0 1 = cc in omega arith
+
+        none : rowCount d ≤ close d o → (c : ℕ) → c < rowCount d → closesOf o c ≡ false
+        none far c h = decide (closesOf o c)
+            (λ y. let u = least-upper (rowCount d) (closesOf o) c h y in let v : close d o ≤ c = unfold close in u in absurd (omega arith)) (λ y. y)

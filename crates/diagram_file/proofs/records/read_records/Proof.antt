@@ -1,10 +1,8 @@
 use Prim.Native.Nat.{_≤_}
 use lib.ListN.{length}
 use Rattle.diagram_file.proofs.Files.{head-good, head-bad, items-bad, rows-bad, bytes-left, all-read}
-use Rattle.diagram_file.specs.Reading.{ItemsRead, RowsRead}
-use Rattle.effbd.specs.Records.{word}
 use native.Mathlib.Omega.{arith}
-use mathlib.Core.Path.{sym, _∙_, subst}
+use mathlib.Core.Path.{sym, _∙_}
 use borrow.Author.Needs.{needs}
 use Rattle.diagram_file.proofs.records.read_records.Statement.{statement}
 use Rattle.diagram_file.proofs.records.read_records.Tie as tie
@@ -40,11 +38,8 @@ same-length c = search needs
 
 returns-2 : tie.Need-returns-2
 returns-2 c =
-    let file = c .before .before .before .before .before .before .before .before .before .before .before .before .args .file .now in
-    let e = c .before .before .before .before .before .before .word2 .ensures in
-    let t = c .before .before .before .before .read-items .last .1 .1 .1 .0 in
-    items-bad file (sym (c .before .before .before .before .before .before .before .before .before .head-fault .ensures) ∙ c .before .before .before .before .before .before .before .before .if1 .left) t (c .before .before .before .before .read-items .result)
-    (subst (λ m. ItemsRead file 10 m t (c .before .before .before .before .read-items .result)) e (c .before .before .before .before .read-items .ensures)) t (c .if2 .taken)
+    items-bad (c .before .before .before .before .before .before .before .before .before .before .before .before .args .file .now) (c .before .before .before .before .before .before .before .before .before .head-fault .result) (c .before .before .before .before .before .before .before .word .result) (c .before .before .before .before .before .before .word2 .result) (c .before .before .before .before .before .before .before .before .before .head-fault .ensures) (c .before .before .before .before .before .before .before .word .ensures) (c .before .before .before .before .before .before .word2 .ensures) (c .before .before .before .before .before .before .before .before .if1 .left)
+    (c .before .before .before .before .read-items .last .1 .1 .1 .0) (c .before .before .before .before .read-items .result) (c .before .before .before .before .read-items .ensures) (c .before .before .before .before .read-items .last .1 .1 .1 .0) (c .if2 .taken)
 
 read-rows-requires : tie.Need-read-rows-requires
 read-rows-requires c κs =
@@ -65,45 +60,27 @@ same-length-2 c = search needs
 
 returns-3 : tie.Need-returns-3
 returns-3 c =
-    let file = c .before .before .before .before .before .before .before .before .before .before .before .before .before .before .before .before .before .before .args .file .now in
-    let e = c .before .before .before .before .before .before .before .before .before .before .before .before .word2 .ensures in
-    let g = c .before .before .before .before .before .before .before .before .before .before .before .before .before .word .ensures in
-    let t₁ = c .before .before .before .before .before .before .before .before .before .before .read-items .last .1 .1 .1 .0 in
-    let t = c .before .before .before .before .read-rows .last .1 .1 .1 .1 .0 in
-    let s = c .before .before .before .before .before .before .before .before .before .before .read-items .result in
-    let r = c .before .before .before .before .read-rows .result in
-    rows-bad file (sym (c .before .before .before .before .before .before .before .before .before .before .before .before .before .before .before .head-fault .ensures) ∙ c .before .before .before .before .before .before .before .before .before .before .before .before .before .before .if1 .left) t₁ s (subst (λ m. ItemsRead file 10 m t₁ s) e (c .before .before .before .before .before .before .before .before .before .before .read-items .ensures))
-    (c .before .before .before .before .before .before .if2 .left) t r (subst (λ m. RowsRead file m (s .at) (word file 6) t₁ t r) e (subst (λ n. RowsRead file (c .before .before .before .before .before .before .before .before .before .before .before .before .word2 .result) (s .at) n t₁ t r) g (c .before .before .before .before .read-rows .ensures))) (c .if3 .taken)
+    rows-bad (c .before .before .before .before .before .before .before .before .before .before .before .before .before .before .before .before .before .before .args .file .now) (c .before .before .before .before .before .before .before .before .before .before .before .before .before .before .before .head-fault .result) (c .before .before .before .before .before .before .before .before .before .before .before .before .before .word .result) (c .before .before .before .before .before .before .before .before .before .before .before .before .word2 .result) (c .before .before .before .before .before .before .before .before .before .before .before .before .before .before .before .head-fault .ensures) (c .before .before .before .before .before .before .before .before .before .before .before .before .before .word .ensures) (c .before .before .before .before .before .before .before .before .before .before .before .before .word2 .ensures) (c .before .before .before .before .before .before .before .before .before .before .before .before .before .before .if1 .left)
+    (c .before .before .before .before .before .before .before .before .before .before .read-items .last .1 .1 .1 .0) (c .before .before .before .before .before .before .before .before .before .before .read-items .result) (c .before .before .before .before .before .before .before .before .before .before .read-items .ensures)
+    (c .before .before .before .before .before .before .if2 .left) (c .before .before .before .before .read-rows .last .1 .1 .1 .1 .0) (c .before .before .before .before .read-rows .result) (c .before .before .before .before .read-rows .ensures) (c .if3 .taken)
 
 same-length-3 : tie.Need-same-length-3
 same-length-3 c = search needs
 
 returns-4 : tie.Need-returns-4
 returns-4 c =
-    let file = c .before .before .before .before .before .before .before .before .before .before .before .before .before .before .before .before .before .before .before .before .args .file .now in
-    let e = c .before .before .before .before .before .before .before .before .before .before .before .before .before .before .word2 .ensures in
-    let g = c .before .before .before .before .before .before .before .before .before .before .before .before .before .before .before .word .ensures in
-    let t₁ = c .before .before .before .before .before .before .before .before .before .before .before .before .read-items .last .1 .1 .1 .0 in
-    let t = c .before .before .before .before .before .before .read-rows .last .1 .1 .1 .1 .0 in
-    let s = c .before .before .before .before .before .before .before .before .before .before .before .before .read-items .result in
-    let r = c .before .before .before .before .before .before .read-rows .result in
-    bytes-left file (sym (c .before .before .before .before .before .before .before .before .before .before .before .before .before .before .before .before .before .head-fault .ensures) ∙ c .before .before .before .before .before .before .before .before .before .before .before .before .before .before .before .before .if1 .left) t₁ s (subst (λ m. ItemsRead file 10 m t₁ s) e (c .before .before .before .before .before .before .before .before .before .before .before .before .read-items .ensures))
-    (c .before .before .before .before .before .before .before .before .if2 .left) t r (subst (λ m. RowsRead file m (s .at) (word file 6) t₁ t r) e (subst (λ n. RowsRead file (c .before .before .before .before .before .before .before .before .before .before .before .before .before .before .word2 .result) (s .at) n t₁ t r) g (c .before .before .before .before .before .before .read-rows .ensures))) (c .before .before .if3 .left) (c .if4 .taken)
+    bytes-left (c .before .before .before .before .before .before .before .before .before .before .before .before .before .before .before .before .before .before .before .before .args .file .now) (c .before .before .before .before .before .before .before .before .before .before .before .before .before .before .before .before .before .head-fault .result) (c .before .before .before .before .before .before .before .before .before .before .before .before .before .before .before .word .result) (c .before .before .before .before .before .before .before .before .before .before .before .before .before .before .word2 .result) (c .before .before .before .before .before .before .before .before .before .before .before .before .before .before .before .before .before .head-fault .ensures) (c .before .before .before .before .before .before .before .before .before .before .before .before .before .before .before .word .ensures) (c .before .before .before .before .before .before .before .before .before .before .before .before .before .before .word2 .ensures) (c .before .before .before .before .before .before .before .before .before .before .before .before .before .before .before .before .if1 .left)
+    (c .before .before .before .before .before .before .before .before .before .before .before .before .read-items .last .1 .1 .1 .0) (c .before .before .before .before .before .before .before .before .before .before .before .before .read-items .result) (c .before .before .before .before .before .before .before .before .before .before .before .before .read-items .ensures)
+    (c .before .before .before .before .before .before .before .before .if2 .left) (c .before .before .before .before .before .before .read-rows .last .1 .1 .1 .1 .0) (c .before .before .before .before .before .before .read-rows .result) (c .before .before .before .before .before .before .read-rows .ensures) (c .before .before .if3 .left) (c .if4 .taken)
 
 same-length-4 : tie.Need-same-length-4
 same-length-4 c = search needs
 
 returns-5 : tie.Need-returns-5
 returns-5 c =
-    let file = c .before .before .before .before .before .before .before .before .before .before .before .before .before .before .before .before .before .before .before .before .args .file .now in
-    let e = c .before .before .before .before .before .before .before .before .before .before .before .before .before .before .word2 .ensures in
-    let g = c .before .before .before .before .before .before .before .before .before .before .before .before .before .before .before .word .ensures in
-    let t₁ = c .before .before .before .before .before .before .before .before .before .before .before .before .read-items .last .1 .1 .1 .0 in
-    let t = c .before .before .before .before .before .before .read-rows .last .1 .1 .1 .1 .0 in
-    let s = c .before .before .before .before .before .before .before .before .before .before .before .before .read-items .result in
-    let r = c .before .before .before .before .before .before .read-rows .result in
-    all-read file (sym (c .before .before .before .before .before .before .before .before .before .before .before .before .before .before .before .before .before .head-fault .ensures) ∙ c .before .before .before .before .before .before .before .before .before .before .before .before .before .before .before .before .if1 .left) t₁ s (subst (λ m. ItemsRead file 10 m t₁ s) e (c .before .before .before .before .before .before .before .before .before .before .before .before .read-items .ensures))
-    (c .before .before .before .before .before .before .before .before .if2 .left) t r (subst (λ m. RowsRead file m (s .at) (word file 6) t₁ t r) e (subst (λ n. RowsRead file (c .before .before .before .before .before .before .before .before .before .before .before .before .before .before .word2 .result) (s .at) n t₁ t r) g (c .before .before .before .before .before .before .read-rows .ensures))) (c .before .before .if3 .left) (c .if4 .left)
+    all-read (c .before .before .before .before .before .before .before .before .before .before .before .before .before .before .before .before .before .before .before .before .args .file .now) (c .before .before .before .before .before .before .before .before .before .before .before .before .before .before .before .before .before .head-fault .result) (c .before .before .before .before .before .before .before .before .before .before .before .before .before .before .before .word .result) (c .before .before .before .before .before .before .before .before .before .before .before .before .before .before .word2 .result) (c .before .before .before .before .before .before .before .before .before .before .before .before .before .before .before .before .before .head-fault .ensures) (c .before .before .before .before .before .before .before .before .before .before .before .before .before .before .before .word .ensures) (c .before .before .before .before .before .before .before .before .before .before .before .before .before .before .word2 .ensures) (c .before .before .before .before .before .before .before .before .before .before .before .before .before .before .before .before .if1 .left)
+    (c .before .before .before .before .before .before .before .before .before .before .before .before .read-items .last .1 .1 .1 .0) (c .before .before .before .before .before .before .before .before .before .before .before .before .read-items .result) (c .before .before .before .before .before .before .before .before .before .before .before .before .read-items .ensures)
+    (c .before .before .before .before .before .before .before .before .if2 .left) (c .before .before .before .before .before .before .read-rows .last .1 .1 .1 .1 .0) (c .before .before .before .before .before .before .read-rows .result) (c .before .before .before .before .before .before .read-rows .ensures) (c .before .before .if3 .left) (c .if4 .left)
 
 pub read-records-spec : {M : Type 1} → statement M
 read-records-spec =
