@@ -1,5 +1,5 @@
 // The nesting of a diagram's rows: refusals 7 to 9. `read_run` reads a run of rows by its constructs, `read_construct` a construct by the
-// runs inside it; they call each other, and the call stack is the stack of what is open.
+// runs inside it; they call each other, and the call stack is the stack of what is open. The rows left and the depth left fall together.
 ghost use mathlib.Core.Path.{_≡_};
 ghost use Prim.Native.Nat.{_≤_, _<_};
 ghost use Rattle.diagram_file.specs.Runs.{partOf, kindIn, beforeIn, topIn, isAndOr, standsOf, followsOf, brokenOf, exitFits, misplacedOf, loopsIn, deepOf, faultIn, RunRead, ConstructRead, NestingRead};
