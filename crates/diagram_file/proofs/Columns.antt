@@ -16,8 +16,10 @@ use Rattle.effbd.specs.Nesting.{Frame, turnTo, innermostOpen, latestBranch, sta
 use Rattle.diagram_file.specs.declared.nesting.Part.{Part}
 use Rattle.diagram_file.specs.declared.nesting.Part.the-variants.{Opens, Turns, Closes, Stays}
 use Rattle.diagram_file.specs.Runs.{partOf}
-use Rattle.diagram_file.specs.Structure.{putStructure, loopingIn, followedAs, followed, structured}
+use Rattle.diagram_file.specs.Cells.{cell}
+use Rattle.diagram_file.specs.Structure.{structureCells, putStructure, loopingIn, followedAs, followed, structured}
 use Rattle.diagram_file.proofs.Basics.{decide, clash, least-is, least-none}
+use Rattle.diagram_file.proofs.Cells.{put-long, put-away, put-at}
 use Rattle.diagram_file.proofs.Rules.{closing, ending, stack-next}
 use Rattle.diagram_file.proofs.Stacks.{does, popped-is, owner-low, closesOf, close-part, not-closing, closes-once, held, last-stays}
 
@@ -45,30 +47,22 @@ module _ (t : List ℕ) (rows q kind own latest looping : ℕ) (part : Part) (ek
 module _ (rows r o b p : ℕ) (t : List ℕ) where
   put-other : (j : ℕ) → j ≢ 320 + r → j ≢ 384 + r → j ≢ 448 + r → j ≢ 512 + r → getD (putStructure rows r o b p t) j 0 ≡ getD t j 0
   unfolding putStructure
-  put-other j x y z w =
-      let t1 = set t (320 + r) o in let t2 = set t1 (384 + r) b in let t3 = set t2 (448 + r) rows in
-      getD-set-other t3 (512 + r) j p 0 w ∙ (getD-set-other t2 (448 + r) j rows 0 z ∙ (getD-set-other t1 (384 + r) j b 0 y ∙ getD-set-other t (320 + r) j o 0 x))
+  put-other j x y z w = put-away (structureCells rows r o b p) t j (x, (y, (z, (w, tt))))
 
-  pub put-long : length (putStructure rows r o b p t) ≡ length t
+  put-length : length (putStructure rows r o b p t) ≡ length t
   unfolding putStructure
-  put-long =
-      let t1 = set t (320 + r) o in let t2 = set t1 (384 + r) b in let t3 = set t2 (448 + r) rows in
-      length-set t3 (512 + r) p ∙ (length-set t2 (448 + r) rows ∙ (length-set t1 (384 + r) b ∙ length-set t (320 + r) o))
+  put-length = put-long (structureCells rows r o b p) t
 
-  module _ (h : r < 64) (n : length t ≡ 592) where
-    pub put-cells : (getD (putStructure rows r o b p t) (320 + r) 0 ≡ o) × (getD (putStructure rows r o b p t) (384 + r) 0 ≡ b)
-        × (getD (putStructure rows r o b p t) (448 + r) 0 ≡ rows) × (getD (putStructure rows r o b p t) (512 + r) 0 ≡ p)
-    unfolding putStructure
-    put-cells =
-        let t1 = set t (320 + r) o in let t2 = set t1 (384 + r) b in let t3 = set t2 (448 + r) rows in
-        let n1 = length-set t (320 + r) o in let n2 = length-set t1 (384 + r) b in let n3 = length-set t2 (448 + r) rows in (
-          getD-set-other t3 (512 + r) (320 + r) p 0 (λ z. omega arith) ∙ (getD-set-other t2 (448 + r) (320 + r) rows 0 (λ z. omega arith)
-              ∙ (getD-set-other t1 (384 + r) (320 + r) b 0 (λ z. omega arith) ∙ getD-set-same t (320 + r) o 0 (omega arith))),
-          getD-set-other t3 (512 + r) (384 + r) p 0 (λ z. omega arith) ∙ (getD-set-other t2 (448 + r) (384 + r) rows 0 (λ z. omega arith)
-              ∙ getD-set-same t1 (384 + r) b 0 (omega arith)),
-          getD-set-other t3 (512 + r) (448 + r) p 0 (λ z. omega arith) ∙ getD-set-same t2 (448 + r) rows 0 (omega arith),
-          getD-set-same t3 (512 + r) p 0 (omega arith),
-        )
+  put-cells : r < 64 → length t ≡ 592 → (getD (putStructure rows r o b p t) (320 + r) 0 ≡ o) × (getD (putStructure rows r o b p t) (384 + r) 0 ≡ b)
+      × (getD (putStructure rows r o b p t) (448 + r) 0 ≡ rows) × (getD (putStructure rows r o b p t) (512 + r) 0 ≡ p)
+  unfolding putStructure
+  put-cells h n =
+      let x = cell (320 + r) o in let y = cell (384 + r) b in let z = cell (448 + r) rows in let w = cell (512 + r) p in (
+        put-at [] x (y ∷ z ∷ w ∷ []) t (omega arith) (λ e. omega arith, (λ e. omega arith, (λ e. omega arith, tt))),
+        put-at (x ∷ []) y (z ∷ w ∷ []) t (omega arith) (λ e. omega arith, (λ e. omega arith, tt)),
+        put-at (x ∷ y ∷ []) z (w ∷ []) t (omega arith) (λ e. omega arith, tt),
+        put-at (x ∷ y ∷ z ∷ []) w [] t (omega arith) tt,
+      )
 
 -- the columns below 5 and the counts stay
 pub record Same (t u : List ℕ) : Type 0 where
@@ -81,7 +75,7 @@ same-self t = record { long = refl; below = λ j l. refl; above = λ j l. refl }
 
 same-put : (t u : List ℕ) (rows r o b p : ℕ) → r < 64 → Same t u → Same t (putStructure rows r o b p u)
 same-put t u rows r o b p h s = record {
-  long = put-long rows r o b p u ∙ s .long;
+  long = put-length rows r o b p u ∙ s .long;
   below = λ j l. put-other rows r o b p u j (λ z. omega arith) (λ z. omega arith) (λ z. omega arith) (λ z. omega arith) ∙ s .below j l;
   above = λ j l. put-other rows r o b p u j (λ z. omega arith) (λ z. omega arith) (λ z. omega arith) (λ z. omega arith) ∙ s .above j l;
 }

@@ -3,7 +3,7 @@ use Prim.Native.Nat.{ℕ, zero, suc, _+_, _-_, _*_, _/_, _%_, _≤_, _<_}
 use mathlib.Core.Path.{_≡_, refl, sym, _∙_, ap, ap₂, subst}
 use mathlib.Core.Logic.{_≢_}
 use mathlib.Core.Bool.{Bool, true, false, not, cond, _&&_}
-use mathlib.Core.List.{List}
+use mathlib.Core.List.{List, [], _∷_}
 use native.Mathlib.Omega.{arith}
 use native.Mathlib.Numerals.{add-one}
 use lib.ListN.{length, getD, drop, set, length-set, length-drop}
@@ -13,8 +13,10 @@ use borrow.Author.Tests.{ltb-false, leb-true, eqb-true, eqb-false}
 use Rattle.effbd.specs.Records.{word, lengthAt, kindAt, kindTable, entryIn, lengthOf, faultAt}
 use Rattle.effbd.specs.Diagrams.{itemFault, itemAt, rowAt, rowRight, rowFine, rowFault}
 use Rattle.effbd.specs.Nesting.{skip}
+use Rattle.diagram_file.specs.Cells.{Cell, cell}
 use Rattle.diagram_file.specs.Reading.{Reading, Stopped, FilledRows, Kept, ItemsState, ItemsRead, RowsState, RowsRead, column, putRow, fillRow}
 use Rattle.diagram_file.proofs.Basics.{decide, and-left, and-right}
+use Rattle.diagram_file.proofs.Cells.{put-long, put-away, put-at}
 use Rattle.diagram_file.proofs.KindTable.{short}
 
 -- a record with nothing off
@@ -101,77 +103,46 @@ row-clean items l m e =
         let y = leb-true ((lengthAt l - 8) / 6) items (and-right (eqb ((lengthAt l - 8) % 6) 0) _ a) in omega arith
     go false h = let z = eqb-true (lengthAt l) (lengthOf (kindAt l)) h in let s = short (kindAt l) in omega arith
 
--- the table
-module _ (r a b c d e : ℕ) (t : List ℕ) where
-  put-other : (j : ℕ) → j ≢ r → j ≢ 64 + r → j ≢ 128 + r → j ≢ 192 + r → j ≢ 256 + r → getD (putRow r a b c d e t) j 0 ≡ getD t j 0
-  unfolding putRow
-  put-other j p q s u v =
-      let t1 = set t r a in let t2 = set t1 (64 + r) b in let t3 = set t2 (128 + r) c in let t4 = set t3 (192 + r) d in
-      getD-set-other t4 (256 + r) j e 0 v ∙ (getD-set-other t3 (192 + r) j d 0 u ∙ (getD-set-other t2 (128 + r) j c 0 s ∙ (getD-set-other t1 (64 + r) j b 0 q ∙ getD-set-other t r j a 0 p)))
-
-  pub put-long : length (putRow r a b c d e t) ≡ length t
-  unfolding putRow
-  put-long =
-      let t1 = set t r a in let t2 = set t1 (64 + r) b in let t3 = set t2 (128 + r) c in let t4 = set t3 (192 + r) d in
-      length-set t4 (256 + r) e ∙ (length-set t3 (192 + r) d ∙ (length-set t2 (128 + r) c ∙ (length-set t1 (64 + r) b ∙ length-set t r a)))
-
-  module _ (h : r < 64) (n : length t ≡ 592) where
-    put-0 : getD (putRow r a b c d e t) r 0 ≡ a
-    unfolding putRow
-    put-0 =
-        let t1 = set t r a in let t2 = set t1 (64 + r) b in let t3 = set t2 (128 + r) c in let t4 = set t3 (192 + r) d in
-        getD-set-other t4 (256 + r) r e 0 (λ z. omega arith) ∙ (getD-set-other t3 (192 + r) r d 0 (λ z. omega arith) ∙ (getD-set-other t2 (128 + r) r c 0 (λ z. omega arith) ∙ (getD-set-other t1 (64 + r) r b 0 (λ z. omega arith) ∙ getD-set-same t r a 0 (omega arith))))
-
-    put-1 : getD (putRow r a b c d e t) (64 + r) 0 ≡ b
-    unfolding putRow
-    put-1 =
-        let t1 = set t r a in let t2 = set t1 (64 + r) b in let t3 = set t2 (128 + r) c in let t4 = set t3 (192 + r) d in
-        getD-set-other t4 (256 + r) (64 + r) e 0 (λ z. omega arith) ∙ (getD-set-other t3 (192 + r) (64 + r) d 0 (λ z. omega arith) ∙ (getD-set-other t2 (128 + r) (64 + r) c 0 (λ z. omega arith) ∙ getD-set-same t1 (64 + r) b 0 (omega (arith, length-set t r a))))
-
-    put-2 : getD (putRow r a b c d e t) (128 + r) 0 ≡ c
-    unfolding putRow
-    put-2 =
-        let t1 = set t r a in let t2 = set t1 (64 + r) b in let t3 = set t2 (128 + r) c in let t4 = set t3 (192 + r) d in
-        getD-set-other t4 (256 + r) (128 + r) e 0 (λ z. omega arith) ∙ (getD-set-other t3 (192 + r) (128 + r) d 0 (λ z. omega arith) ∙ getD-set-same t2 (128 + r) c 0 (omega (arith, length-set t1 (64 + r) b, length-set t r a)))
-
-    put-3 : getD (putRow r a b c d e t) (192 + r) 0 ≡ d
-    unfolding putRow
-    put-3 =
-        let t1 = set t r a in let t2 = set t1 (64 + r) b in let t3 = set t2 (128 + r) c in let t4 = set t3 (192 + r) d in
-        getD-set-other t4 (256 + r) (192 + r) e 0 (λ z. omega arith) ∙ getD-set-same t3 (192 + r) d 0 (omega (arith, length-set t2 (128 + r) c, length-set t1 (64 + r) b, length-set t r a))
-
-    put-4 : getD (putRow r a b c d e t) (256 + r) 0 ≡ e
-    unfolding putRow
-    put-4 =
-        let t1 = set t r a in let t2 = set t1 (64 + r) b in let t3 = set t2 (128 + r) c in let t4 = set t3 (192 + r) d in
-        getD-set-same t4 (256 + r) e 0 (omega (arith, length-set t3 (192 + r) d, length-set t2 (128 + r) c, length-set t1 (64 + r) b, length-set t r a))
-
+-- the table: a row's cells, and the others
 module _ (r at : ℕ) (l t : List ℕ) (h : r < 64) (n : length t ≡ 592) where
+  abbrev k : Cell
+  k = cell r (kindAt l)
+
+  abbrev f : Cell
+  f = cell (64 + r) (column 0 1 l)
+
+  abbrev s : Cell
+  s = cell (128 + r) (column 0 2 l)
+
+  abbrev o : Cell
+  o = cell (192 + r) (cond (eqb (kindAt l) 16) (at + 8) 0)
+
+  abbrev u : Cell
+  u = cell (256 + r) (column 0 4 l)
+
   fill-long : length (fillRow r at l t) ≡ 592
-  unfolding fillRow
-  fill-long = put-long r (kindAt l) (column 0 1 l) (column 0 2 l) (cond (eqb (kindAt l) 16) (at + 8) 0) (column 0 4 l) t ∙ n
+  unfolding fillRow putRow
+  fill-long = put-long (k ∷ f ∷ s ∷ o ∷ u ∷ []) t ∙ n
+
+  away : (j : ℕ) → j ≢ r → j ≢ 64 + r → j ≢ 128 + r → j ≢ 192 + r → j ≢ 256 + r → getD (fillRow r at l t) j 0 ≡ getD t j 0
+  unfolding fillRow putRow
+  away j a b c d e = put-away (k ∷ f ∷ s ∷ o ∷ u ∷ []) t j (a, (b, (c, (d, (e, tt)))))
 
   fill-kept : (t₀ : List ℕ) → Kept t₀ t → Kept t₀ (fillRow r at l t)
-  unfolding fillRow
-  fill-kept t₀ k = record {
-    cell = λ j g. put-other r (kindAt l) (column 0 1 l) (column 0 2 l) (cond (eqb (kindAt l) 16) (at + 8) 0) (column 0 4 l) t j
-        (λ z. omega arith) (λ z. omega arith) (λ z. omega arith) (λ z. omega arith) (λ z. omega arith) ∙ k .cell j g;
-  }
+  fill-kept t₀ kept = record { cell = λ j g. away j (λ z. omega arith) (λ z. omega arith) (λ z. omega arith) (λ z. omega arith) (λ z. omega arith) ∙ kept .cell j g }
 
   fill-same : (total c : ℕ) → c < 5 → at ≡ total - length l → getD (fillRow r at l t) (64 * c + r) 0 ≡ column total c l
-  unfolding fillRow column
-  fill-same total zero g e = ap (λ j. getD (fillRow r at l t) j 0) (let z : 64 * 0 + r ≡ r = omega arith in z) ∙ put-0 r (kindAt l) (column 0 1 l) (column 0 2 l) (cond (eqb (kindAt l) 16) (at + 8) 0) (column 0 4 l) t h n
-  fill-same total (suc zero) g e = put-1 r (kindAt l) (column 0 1 l) (column 0 2 l) (cond (eqb (kindAt l) 16) (at + 8) 0) (column 0 4 l) t h n
-  fill-same total (suc (suc zero)) g e = put-2 r (kindAt l) (column 0 1 l) (column 0 2 l) (cond (eqb (kindAt l) 16) (at + 8) 0) (column 0 4 l) t h n
-  fill-same total (suc (suc (suc zero))) g e = put-3 r (kindAt l) (column 0 1 l) (column 0 2 l) (cond (eqb (kindAt l) 16) (at + 8) 0) (column 0 4 l) t h n
-      ∙ ap (λ x. cond (eqb (kindAt l) 16) (x + 8) 0) e
-  fill-same total (suc (suc (suc (suc zero)))) g e = put-4 r (kindAt l) (column 0 1 l) (column 0 2 l) (cond (eqb (kindAt l) 16) (at + 8) 0) (column 0 4 l) t h n
+  unfolding fillRow putRow column
+  fill-same total zero g e = ap (λ j. getD (fillRow r at l t) j 0) (let z : 64 * 0 + r ≡ r = omega arith in z)
+      ∙ put-at [] k (f ∷ s ∷ o ∷ u ∷ []) t (omega arith) (λ z. omega arith, (λ z. omega arith, (λ z. omega arith, (λ z. omega arith, tt))))
+  fill-same total (suc zero) g e = put-at (k ∷ []) f (s ∷ o ∷ u ∷ []) t (omega arith) (λ z. omega arith, (λ z. omega arith, (λ z. omega arith, tt)))
+  fill-same total (suc (suc zero)) g e = put-at (k ∷ f ∷ []) s (o ∷ u ∷ []) t (omega arith) (λ z. omega arith, (λ z. omega arith, tt))
+  fill-same total (suc (suc (suc zero))) g e = put-at (k ∷ f ∷ s ∷ []) o (u ∷ []) t (omega arith) (λ z. omega arith, tt) ∙ ap (λ x. cond (eqb (kindAt l) 16) (x + 8) 0) e
+  fill-same total (suc (suc (suc (suc zero)))) g e = put-at (k ∷ f ∷ s ∷ o ∷ []) u [] t (omega arith) tt
   fill-same total (suc (suc (suc (suc (suc c))))) g e = absurd (omega arith)
 
   fill-other : (c i : ℕ) → c < 5 → i < r → getD (fillRow r at l t) (64 * c + i) 0 ≡ getD t (64 * c + i) 0
-  unfolding fillRow
-  fill-other c i g k = put-other r (kindAt l) (column 0 1 l) (column 0 2 l) (cond (eqb (kindAt l) 16) (at + 8) 0) (column 0 4 l) t (64 * c + i)
-      (λ z. omega arith) (λ z. omega arith) (λ z. omega arith) (λ z. omega arith) (λ z. omega arith)
+  fill-other c i g b = away (64 * c + i) (λ z. omega arith) (λ z. omega arith) (λ z. omega arith) (λ z. omega arith) (λ z. omega arith)
 
   fill-filled : (total : ℕ) (start : List ℕ) → at ≡ total - length l → l ≡ skip r start → FilledRows total start r t → FilledRows total start (r + 1) (fillRow r at l t)
   fill-filled total start e el f = record {

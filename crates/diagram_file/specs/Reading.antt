@@ -3,13 +3,14 @@ use Prim.Native.Nat.{ℕ, zero, suc, _+_, _-_, _*_, _/_, _≤_, _<_}
 use mathlib.Core.Path.{_≡_}
 use mathlib.Core.Logic.{_≢_}
 use mathlib.Core.Bool.{cond, _||_}
-use mathlib.Core.List.{List}
-use lib.ListN.{length, getD, drop, set}
+use mathlib.Core.List.{List, [], _∷_}
+use lib.ListN.{length, getD, drop}
 use lib.Dec.{eqb}
 use Rattle.effbd.specs.Answers.{Outcome, accepted, refused, unless, andThen}
 use Rattle.effbd.specs.Records.{word, lengthAt, kindAt, Got, readMany}
 use Rattle.effbd.specs.Diagrams.{function, numberOf, Row, Diagram, rowCount, countTotal, initialCount, row, kind, isKind, headFault, itemFault, itemAt, rowFault, rowAt, usesAt}
 use Rattle.effbd.specs.Nesting.{skip, fromRow}
+use Rattle.diagram_file.specs.Cells.{Cell, cell, putAll}
 use Rattle.diagram_file.specs.declared.records.Reached.{Reached}
 
 -- the columns 0 to 4 of a row whose record begins `bytes`, in a file of `total` bytes
@@ -20,9 +21,11 @@ column total (suc (suc zero)) bytes = cond (eqb (kindAt bytes) 16) (word bytes 6
 column total (suc (suc (suc zero))) bytes = cond (eqb (kindAt bytes) 16) (total - length bytes + 8) 0
 column total (suc (suc (suc (suc c)))) bytes = cond (eqb (kindAt bytes) 16) ((lengthAt bytes - 8) / 6) 0
 
+abbrev pub rowCells : (row kind first second offset number : ℕ) → List Cell
+rowCells row kind first second offset number = cell row kind ∷ cell (64 + row) first ∷ cell (128 + row) second ∷ cell (192 + row) offset ∷ cell (256 + row) number ∷ []
+
 unfoldable pub putRow : (row kind first second offset number : ℕ) → List ℕ → List ℕ
-putRow row kind first second offset number table =
-    set (set (set (set (set table row kind) (64 + row) first) (128 + row) second) (192 + row) offset) (256 + row) number
+putRow row kind first second offset number table = putAll (rowCells row kind first second offset number) table
 
 -- the columns of a row from its record, which begins at byte `at`
 unfoldable pub fillRow : (row at : ℕ) → (bytes table : List ℕ) → List ℕ

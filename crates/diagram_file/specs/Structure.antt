@@ -1,16 +1,19 @@
 -- The pass over the table that finds the structure of the rows. Assumes nothing.
 use Prim.Native.Nat.{ℕ, zero, suc, _+_}
 use mathlib.Core.Bool.{cond}
-use mathlib.Core.List.{List}
+use mathlib.Core.List.{List, [], _∷_}
 use lib.ListN.{getD, set}
 use lib.Dec.{eqb}
+use Rattle.diagram_file.specs.Cells.{Cell, cell, putAll}
 use Rattle.diagram_file.specs.declared.nesting.Part.{Part}
 use Rattle.diagram_file.specs.declared.nesting.Part.the-variants.{Opens, Turns, Closes, Stays}
 use Rattle.diagram_file.specs.Runs.{partOf}
 
+abbrev pub structureCells : (rows row owner latest looping : ℕ) → List Cell
+structureCells rows row owner latest looping = cell (320 + row) owner ∷ cell (384 + row) latest ∷ cell (448 + row) rows ∷ cell (512 + row) looping ∷ []
+
 unfoldable pub putStructure : (rows row owner latest looping : ℕ) → List ℕ → List ℕ
-putStructure rows row owner latest looping table =
-    set (set (set (set table (320 + row) owner) (384 + row) latest) (448 + row) rows) (512 + row) looping
+putStructure rows row owner latest looping table = putAll (structureCells rows row owner latest looping) table
 
 abbrev pub loopingIn : (kind row looping : ℕ) → ℕ
 loopingIn kind row looping = cond (eqb kind 24) row looping

@@ -1,3 +1,4 @@
+use Rattle.diagram_file.specs.Cells.{putAll}
 use Prim.Native.Nat.{_+_}
 use Rattle.diagram_file.specs.Reading.{putRow}
 use lib.ListN.{set}
@@ -37,7 +38,7 @@ same-length : tie.Need-same-length
 same-length c = search needs
 
 returns : tie.Need-returns
-unfolding putRow
+unfolding putRow putAll
 returns c =
     let a = c .before .before .before .before .before .before .before .before .before .before .before .before .before .before .before .before .before .before .before .before .before .args in
     c .before .before .put5 .ensures ∙ ap (λ t. set t (256 + a .row) (a .number)) (c .before .before .before .before .before .before .put4 .ensures ∙ ap (λ t. set t (192 + a .row) (a .offset)) (c .before .before .before .before .before .before .before .before .before .before .put3 .ensures ∙ ap (λ t. set t (128 + a .row) (a .second)) (c .before .before .before .before .before .before .before .before .before .before .before .before .before .before .put2 .ensures ∙ ap (λ t. set t (64 + a .row) (a .first)) (c .before .before .before .before .before .before .before .before .before .before .before .before .before .before .before .before .before .before .put .ensures))))

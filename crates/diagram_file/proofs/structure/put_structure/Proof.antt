@@ -1,3 +1,4 @@
+use Rattle.diagram_file.specs.Cells.{putAll}
 use Rattle.diagram_file.specs.Structure.{putStructure}
 use lib.ListN.{set}
 use mathlib.Core.List.{List}
@@ -35,7 +36,7 @@ same-length : tie.Need-same-length
 same-length c = search needs
 
 returns : tie.Need-returns
-unfolding putStructure
+unfolding putStructure putAll
 returns c =
     let a = c .before .before .before .before .before .before .before .before .before .before .before .before .before .before .before .before .before .args in
     c .before .before .put4 .ensures ∙ ap (λ (t : List ℕ). set t (512 + a .row) (a .looping)) (c .before .before .before .before .before .before .put3 .ensures ∙ ap (λ (t : List ℕ). set t (448 + a .row) (a .rows)) (c .before .before .before .before .before .before .before .before .before .before .put2 .ensures ∙ ap (λ (t : List ℕ). set t (384 + a .row) (a .latest)) (c .before .before .before .before .before .before .before .before .before .before .before .before .before .before .put .ensures)))
