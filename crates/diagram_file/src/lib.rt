@@ -1,7 +1,6 @@
 // Diagram files: read, accepted or refused, and held as one flat table.
 ghost use mathlib.Core.Path.{_≡_};
-ghost use Prim.Native.Nat.{_≤_};
-ghost use lib.ListN.{length, take, drop};
+ghost use lib.ListN.{length};
 ghost use Rattle.effbd.specs.Answers.{said};
 ghost use Rattle.effbd.specs.Nesting.{usesPart};
 ghost use Rattle.diagram_file.specs.Tables.{stateLength, freshPut, Filled, Parsed, Freshened, partIn};
