@@ -1,0 +1,112 @@
+-- One record: its uses, its length, its fields, its fault.
+use Prim.Native.Nat.{ℕ, zero, suc, _+_, _-_, _/_, _≤_, _<_}
+use mathlib.Core.Path.{_≡_, refl, sym, _∙_, ap}
+use mathlib.Core.Logic.{_≢_}
+use mathlib.Core.Bool.{Bool, true, false, not, cond, _&&_}
+use mathlib.Core.List.{List}
+use native.Mathlib.Omega.{arith}
+use lib.ListN.{drop}
+use lib.Dec.{leb, ltb, eqb}
+use borrow.Author.Tests.{lt-ltb, le-leb, lt-leb, ne-eqb}
+use Rattle.effbd.specs.Records.{word, lengthAt, kindAt, lengthOf, faultAt}
+use Rattle.effbd.specs.Diagrams.{and-open, branch, and-close, or-open, or-close, it-open, it-close, lp-open, lp-close, loop-exit, end, Row, kindOf, headFault, itemFault, usesAt, usesFine, rowAt, rowRight, rowFineAs, rowFine, rowFault}
+use Rattle.diagram_file.specs.Fields.{useFine, isRow, functionRight, functionFine, turnLimitFine, headFine}
+
+positive : (x : ℕ) → not (eqb x 0) ≡ ltb 0 x
+positive zero = refl
+positive (suc n) = rw (ne-eqb (suc n) 0 (λ e. omega arith), lt-ltb 0 (suc n) (omega arith))
+
+group : (a b c d : Bool) → (a && (b && (c && d))) ≡ ((a && (b && c)) && d)
+group true true true d = refl
+group true true false d = refl
+group true false c d = refl
+group false b c d = refl
+
+pub uses-turn : (items from n : ℕ) (bytes : List ℕ) → usesFine items from (usesAt (suc n) bytes)
+    ≡ (useFine items from (word bytes 0) (word bytes 2) (word bytes 4) && usesFine items (suc (word bytes 0)) (usesAt n (drop 6 bytes)))
+unfolding usesFine usesAt useFine
+uses-turn items from n bytes = rw (positive (word bytes 2 + word bytes 4)) (group (leb from (word bytes 0)) (ltb (word bytes 0) items) (ltb 0 (word bytes 2 + word bytes 4)) (usesFine items (suc (word bytes 0)) (usesAt n (drop 6 bytes))))
+
+pub uses-none : (items from : ℕ) (bytes : List ℕ) → _≡_ {A = Bool} true (usesFine items from (usesAt 0 bytes))
+unfolding usesFine usesAt
+uses-none items from bytes = refl
+
+other : (a b c e f i j k m : Bool) (items : ℕ) (r : Row) → rowFineAs (cond a and-open (cond b branch (cond c and-close (cond e or-open (cond f or-close (cond false it-open (cond i it-close (cond j lp-open (cond k lp-close (cond m loop-exit end)))))))))) items r ≡ true
+other true b c e f i j k m items r = refl
+other false true c e f i j k m items r = refl
+other false false true e f i j k m items r = refl
+other false false false true f i j k m items r = refl
+other false false false false true i j k m items r = refl
+other false false false false false true j k m items r = refl
+other false false false false false false true k m items r = refl
+other false false false false false false false true m items r = refl
+other false false false false false false false false true items r = refl
+other false false false false false false false false false items r = refl
+
+module _ (items : ℕ) (bytes : List ℕ) where
+  pub fine-function : kindAt bytes ≡ 16 → functionFine items bytes ≡ rowFine items (rowAt bytes)
+  unfolding rowFine rowAt kindOf functionFine
+  fine-function e = rw e
+
+  pub fine-count : kindAt bytes ≡ 22 → turnLimitFine (word bytes 4) ≡ rowFine items (rowAt bytes)
+  unfolding rowFine rowAt kindOf turnLimitFine
+  fine-count e = rw e
+
+  pub fine-other : kindAt bytes ≢ 16 → kindAt bytes ≢ 22 → true ≡ rowFine items (rowAt bytes)
+  unfolding rowFine rowAt kindOf
+  fine-other p q = rw (ne-eqb (kindAt bytes) 16 p, ne-eqb (kindAt bytes) 22 q) (sym (other (eqb (kindAt bytes) 17) (eqb (kindAt bytes) 18) (eqb (kindAt bytes) 19) (eqb (kindAt bytes) 20) (eqb (kindAt bytes) 21) (eqb (kindAt bytes) 23) (eqb (kindAt bytes) 24) (eqb (kindAt bytes) 25) (eqb (kindAt bytes) 26) items _))
+
+  pub right-function : kindAt bytes ≡ 16 → functionRight (lengthAt bytes) items ≡ rowRight items bytes
+  unfolding functionRight rowRight
+  right-function e = rw e
+
+  pub right-other : kindAt bytes ≢ 16 → eqb (lengthAt bytes) (lengthOf (kindAt bytes)) ≡ rowRight items bytes
+  unfolding rowRight
+  right-other e = rw (ne-eqb (kindAt bytes) 16 e)
+
+module _ (items : ℕ) (bytes : List ℕ) where
+  pub uses-stop : (from left item took gave : ℕ) → 0 < left → item ≡ word bytes 0 → took ≡ word bytes 2 → gave ≡ word bytes 4 → useFine items from item took gave ≡ false
+      → false ≡ usesFine items from (usesAt left bytes)
+  uses-stop from zero item took gave p a b c e = absurd (omega arith)
+  uses-stop from (suc n) item took gave p a b c e = sym (uses-turn items from n bytes ∙ (let z : useFine items from (word bytes 0) (word bytes 2) (word bytes 4) ≡ false = rw (← a, ← b, ← c) e in rw z))
+
+  pub uses-go : (from left item took gave : ℕ) (rest : List ℕ) → 0 < left → item ≡ word bytes 0 → took ≡ word bytes 2 → gave ≡ word bytes 4 → useFine items from item took gave ≡ true → rest ≡ drop 6 bytes
+      → usesFine items (item + 1) (usesAt (left - 1) rest) ≡ usesFine items from (usesAt left bytes)
+  uses-go from zero item took gave rest p a b c e f = absurd (omega arith)
+  uses-go from (suc n) item took gave rest p a b c e f =
+      let i : item ≡ word bytes 0 = a in
+      let z : useFine items from (word bytes 0) (word bytes 2) (word bytes 4) ≡ true = rw (← a, ← b, ← c) e in
+      let m : suc n - 1 ≡ n = omega arith in
+      let j : item + 1 ≡ suc (word bytes 0) = omega (arith, i) in
+      rw (m, j, f) (sym (uses-turn items from n bytes ∙ (let y : (useFine items from (word bytes 0) (word bytes 2) (word bytes 4) && usesFine items (suc (word bytes 0)) (usesAt n (drop 6 bytes))) ≡ usesFine items (suc (word bytes 0)) (usesAt n (drop 6 bytes)) = rw z in y)))
+
+  pub function-bad : (second first : ℕ) → second ≡ word bytes 6 → first ≡ word bytes 4 → second < first → false ≡ functionFine items bytes
+  unfolding functionFine
+  function-bad second first a b h = let z : leb (word bytes 4) (word bytes 6) ≡ false = rw (← a, ← b) (lt-leb first second h) in rw z
+
+  pub function-good : (second first size n : ℕ) (t : List ℕ) (b : Bool) → second ≡ word bytes 6 → first ≡ word bytes 4 → first ≤ second → t ≡ drop 8 bytes → size ≡ word bytes 0 → n ≡ (size - 8) / 6
+      → b ≡ usesFine items 0 (usesAt n t) → b ≡ functionFine items bytes
+  unfolding functionFine
+  function-good second first size n t b eh el h et es en eb =
+      let z : leb (word bytes 4) (word bytes 6) ≡ true = rw (← eh, ← el) (le-leb first second h) in
+      rw (z, eb, et, en, es)
+
+  pub right-16 : (kind size : ℕ) (b : Bool) → kind ≡ word bytes 2 → size ≡ word bytes 0 → kind ≡ 16 → b ≡ functionRight size items → b ≡ rowRight items bytes
+  right-16 kind size b ek es e eb = eb ∙ (ap (λ x. functionRight x items) es ∙ right-function items bytes (sym ek ∙ e))
+
+  pub right-not : (kind size n : ℕ) → kind ≡ word bytes 2 → size ≡ word bytes 0 → kind ≢ 16 → n ≡ lengthOf kind → eqb size n ≡ rowRight items bytes
+  right-not kind size n ek es e en = rw (en, es, ek) (right-other items bytes (λ x. e (ek ∙ x)))
+
+  pub row-fault-is : (kind r : ℕ) (due right fine : Bool) → kind ≡ word bytes 2 → due ≡ isRow kind → right ≡ rowRight items bytes → fine ≡ rowFine items (rowAt bytes) → r ≡ faultAt bytes due right fine 5 → r ≡ rowFault items bytes
+  unfolding rowFault isRow
+  row-fault-is kind r due right fine ek ed er ef e = e ∙ rw (ed, er, ef, ek)
+
+module _ (bytes : List ℕ) where
+  pub item-fault-is : (kind size n r : ℕ) → kind ≡ word bytes 2 → size ≡ word bytes 0 → n ≡ lengthOf 2 → r ≡ faultAt bytes (eqb kind 2) (eqb size n) true 5 → r ≡ itemFault bytes
+  unfolding itemFault
+  item-fault-is kind size n r ek es en e = e ∙ rw (ek, es, en)
+
+  pub head-fault-is : (kind size a n m w r : ℕ) (b : Bool) → kind ≡ word bytes 2 → size ≡ word bytes 0 → a ≡ word bytes 4 → n ≡ word bytes 6 → m ≡ word bytes 8 → b ≡ headFine a n m → w ≡ lengthOf 1
+      → r ≡ faultAt bytes (eqb kind 1) (eqb size w) b 4 → r ≡ headFault bytes
+  unfolding headFault headFine
+  head-fault-is kind size a n m w r b ek es ea en em eb ew e = e ∙ rw (eb, ew, ea, en, em, ek, es)

@@ -1,0 +1,12 @@
+pub mod Basics
+pub mod Cells
+pub mod KindTable
+pub mod Fields
+pub mod Loops
+pub mod Files
+pub mod Rules
+pub mod Walks
+pub mod Stacks
+pub mod Columns
+pub mod Promises
+pub mod Freshness

@@ -1,0 +1,42 @@
+use Rattle.diagram_file.proofs.Fields.{function-bad, function-good}
+use Rattle.effbd.specs.Records.{word}
+use borrow.Author.Needs.{needs}
+use Rattle.diagram_file.proofs.records.function_fine.Statement.{statement}
+use Rattle.diagram_file.proofs.records.function_fine.Tie as tie
+
+word-requires : tie.Need-word-requires
+word-requires c κs = search needs
+
+word-requires-2 : tie.Need-word-requires-2
+word-requires-2 c κs = search needs
+
+returns : tie.Need-returns
+returns c = function-bad (c .before .before .before .before .args .items) (c .before .before .before .before .args .bytes .now) (c .before .before .word .result) (c .before .word2 .result) (c .before .before .word .ensures) (c .before .word2 .ensures) (c .if1 .taken)
+
+tail-requires : tie.Need-tail-requires
+tail-requires c κs = search needs
+
+word-requires-3 : tie.Need-word-requires-3
+word-requires-3 c κs = search needs
+
+use-count-requires : tie.Need-use-count-requires
+use-count-requires c κs = search needs
+
+uses-fine-requires : tie.Need-uses-fine-requires
+uses-fine-requires c κs = search needs
+
+returns-2 : tie.Need-returns-2
+returns-2 c = function-good (c .before .before .before .before .before .before .before .before .args .items) (c .before .before .before .before .before .before .before .before .args .bytes .now) (c .before .before .before .before .before .before .word .result) (c .before .before .before .before .before .word2 .result) (c .before .before .word3 .result) (c .before .use-count .result) (c .before .before .before .tail .result .now) (c .uses-fine .result) (c .before .before .before .before .before .before .word .ensures) (c .before .before .before .before .before .word2 .ensures) (c .before .before .before .before .if1 .left) (c .before .before .before .tail .ensures) (c .before .before .word3 .ensures) (c .before .use-count .ensures) (c .uses-fine .ensures)
+
+pub function-fine-spec : {M : Type 1} → statement M
+function-fine-spec =
+    tie.close
+    (tie.spec
+    word-requires
+    word-requires-2
+    returns
+    tail-requires
+    word-requires-3
+    use-count-requires
+    uses-fine-requires
+    returns-2)

@@ -1,0 +1,168 @@
+use Rattle.diagram_file.proofs.Columns.{follow-opens, follow-turns, follow-closes, follow-stays}
+use Rattle.diagram_file.specs.Structure.{putStructure}
+use Prim.Native.Nat.{_+_}
+use mathlib.Core.Path.{_∙_, ap}
+use borrow.Author.Needs.{needs}
+use Rattle.diagram_file.proofs.structure.follow.Statement.{statement}
+use Rattle.diagram_file.proofs.structure.follow.Tie as tie
+
+get-requires : tie.Need-get-requires
+get-requires c κs = search needs
+
+add-get : tie.Need-add-get
+add-get c = search needs
+
+get-requires-2 : tie.Need-get-requires-2
+get-requires-2 c κs = search needs
+
+add-get-2 : tie.Need-add-get-2
+add-get-2 c = search needs
+
+get-requires-3 : tie.Need-get-requires-3
+get-requires-3 c κs = search needs
+
+add-get-3 : tie.Need-add-get-3
+add-get-3 c = search needs
+
+get-requires-4 : tie.Need-get-requires-4
+get-requires-4 c κs = search needs
+
+part-of-requires : tie.Need-part-of-requires
+part-of-requires c κs = search needs
+
+enum-told : tie.Need-enum-told
+enum-told c = search needs
+
+add-put-structure : tie.Need-add-put-structure
+add-put-structure c = search needs
+
+add-put-structure-2 : tie.Need-add-put-structure-2
+add-put-structure-2 c = search needs
+
+looping-in-requires : tie.Need-looping-in-requires
+looping-in-requires c κs = search needs
+
+put-structure-requires : tie.Need-put-structure-requires
+put-structure-requires c κs = search needs
+
+enum-told-2 : tie.Need-enum-told-2
+enum-told-2 c = search needs
+
+add-put-structure-3 : tie.Need-add-put-structure-3
+add-put-structure-3 c = search needs
+
+put-structure-requires-2 : tie.Need-put-structure-requires-2
+put-structure-requires-2 c κs = search needs
+
+enum-told-3 : tie.Need-enum-told-3
+enum-told-3 c = search needs
+
+cast-own : tie.Need-cast-own
+cast-own c = search needs
+
+add-get-4 : tie.Need-add-get-4
+add-get-4 c = search needs
+
+get-requires-5 : tie.Need-get-requires-5
+get-requires-5 c κs = search needs
+
+add-get-5 : tie.Need-add-get-5
+add-get-5 c = search needs
+
+get-requires-6 : tie.Need-get-requires-6
+get-requires-6 c κs = search needs
+
+add-get-6 : tie.Need-add-get-6
+add-get-6 c = search needs
+
+get-requires-7 : tie.Need-get-requires-7
+get-requires-7 c κs = search needs
+
+add-put : tie.Need-add-put
+add-put c = search needs
+
+put-requires : tie.Need-put-requires
+put-requires c κs = search needs
+
+add-put-structure-4 : tie.Need-add-put-structure-4
+add-put-structure-4 c = search needs
+
+put-structure-requires-3 : tie.Need-put-structure-requires-3
+put-structure-requires-3 c κs = search needs
+
+enum-told-4 : tie.Need-enum-told-4
+enum-told-4 c = search needs
+
+add-put-structure-5 : tie.Need-add-put-structure-5
+add-put-structure-5 c = search needs
+
+put-structure-requires-4 : tie.Need-put-structure-requires-4
+put-structure-requires-4 c κs = search needs
+
+same-length : tie.Need-same-length
+same-length c = search needs
+
+returns : tie.Need-returns
+returns c = c .before .before .put-structure .ensures ∙ follow-opens (c .before .before .before .before .before .before .before .before .before .before .before .before .before .before .before .before .before .args .table .now) (c .before .before .before .before .before .before .before .before .before .before .before .before .before .before .before .before .before .args .rows) (c .before .before .before .before .before .before .before .before .before .before .before .before .before .before .before .before .before .args .row) (c .before .before .before .before .before .before .before .before .before .before .before .before .before .before .get .result) (c .before .before .before .before .before .before .before .before .before .before .before .before .get2 .result) (c .before .before .before .before .before .before .before .before .before .before .get3 .result) (c .before .before .before .before .before .before .before .before .get4 .result) (c .before .before .before .before .before .before .before .part-of .result) (c .before .before .before .before .before .before .before .before .before .before .before .before .before .before .get .ensures) (c .before .before .before .before .before .before .before .before .before .before .before .before .get2 .ensures) (c .before .before .before .before .before .before .before .before .before .before .get3 .ensures) (c .before .before .before .before .before .before .before .before .get4 .ensures) (c .before .before .before .before .before .before .before .part-of .ensures) (c .before .before .before .looping-in .result) (c .before .before .before .looping-in .ensures) (c .before .before .before .before .before .enum-told .given .1)
+
+same-length-2 : tie.Need-same-length-2
+same-length-2 c = search needs
+
+returns-2 : tie.Need-returns-2
+returns-2 c = c .before .before .put-structure2 .ensures ∙ follow-turns (c .before .before .before .before .before .before .before .before .before .before .before .before .before .before .before .before .args .table .now) (c .before .before .before .before .before .before .before .before .before .before .before .before .before .before .before .before .args .rows) (c .before .before .before .before .before .before .before .before .before .before .before .before .before .before .before .before .args .row) (c .before .before .before .before .before .before .before .before .before .before .before .before .before .get .result) (c .before .before .before .before .before .before .before .before .before .before .before .get2 .result) (c .before .before .before .before .before .before .before .before .before .get3 .result) (c .before .before .before .before .before .before .before .get4 .result) (c .before .before .before .before .before .before .part-of .result) (c .before .before .before .before .before .before .before .before .before .before .before .before .before .get .ensures) (c .before .before .before .before .before .before .before .before .before .before .before .get2 .ensures) (c .before .before .before .before .before .before .before .before .before .get3 .ensures) (c .before .before .before .before .before .before .before .get4 .ensures) (c .before .before .before .before .before .before .part-of .ensures) (c .before .before .before .before .enum-told2 .given .1)
+
+same-length-3 : tie.Need-same-length-3
+same-length-3 c = search needs
+
+returns-3 : tie.Need-returns-3
+returns-3 c = c .before .before .put-structure3 .ensures ∙ (ap (putStructure (c .before .before .before .before .before .before .before .before .before .before .before .before .before .before .before .before .before .before .before .before .before .before .before .before .before .before .args .rows) (c .before .before .before .before .before .before .before .before .before .before .before .before .before .before .before .before .before .before .before .before .before .before .before .before .before .before .args .row + 1) (c .before .before .before .before .before .before .before .before .before .before .before .before .get5 .result) (c .before .before .before .before .before .before .before .before .before .before .get6 .result) (c .before .before .before .before .before .before .before .before .get7 .result)) (c .before .before .before .before .before .before .put .ensures) ∙ follow-closes (c .before .before .before .before .before .before .before .before .before .before .before .before .before .before .before .before .before .before .before .before .before .before .before .before .before .before .args .table .now) (c .before .before .before .before .before .before .before .before .before .before .before .before .before .before .before .before .before .before .before .before .before .before .before .before .before .before .args .rows) (c .before .before .before .before .before .before .before .before .before .before .before .before .before .before .before .before .before .before .before .before .before .before .before .before .before .before .args .row) (c .before .before .before .before .before .before .before .before .before .before .before .before .before .before .before .before .before .before .before .before .before .before .before .get .result) (c .before .before .before .before .before .before .before .before .before .before .before .before .before .before .before .before .before .before .before .before .before .get2 .result) (c .before .before .before .before .before .before .before .before .before .before .before .before .before .before .before .before .before .before .before .get3 .result) (c .before .before .before .before .before .before .before .before .before .before .before .before .before .before .before .before .before .get4 .result) (c .before .before .before .before .before .before .before .before .before .before .before .before .before .before .before .before .part-of .result) (c .before .before .before .before .before .before .before .before .before .before .before .before .before .before .before .before .before .before .before .before .before .before .before .get .ensures) (c .before .before .before .before .before .before .before .before .before .before .before .before .before .before .before .before .before .before .before .before .before .get2 .ensures) (c .before .before .before .before .before .before .before .before .before .before .before .before .before .before .before .before .before .before .before .get3 .ensures) (c .before .before .before .before .before .before .before .before .before .before .before .before .before .before .before .before .before .get4 .ensures) (c .before .before .before .before .before .before .before .before .before .before .before .before .before .before .before .before .part-of .ensures) (c .before .before .before .before .before .before .before .before .before .before .before .before .get5 .result) (c .before .before .before .before .before .before .before .before .before .before .get6 .result) (c .before .before .before .before .before .before .before .before .get7 .result) (c .before .before .before .before .before .before .before .before .before .before .before .before .get5 .ensures) (c .before .before .before .before .before .before .before .before .before .before .get6 .ensures) (c .before .before .before .before .before .before .before .before .get7 .ensures) (c .before .before .before .before .before .before .before .before .before .before .before .before .before .before .enum-told3 .given .1))
+
+same-length-4 : tie.Need-same-length-4
+same-length-4 c = search needs
+
+returns-4 : tie.Need-returns-4
+returns-4 c = c .before .before .put-structure4 .ensures ∙ follow-stays (c .before .before .before .before .before .before .before .before .before .before .before .before .before .before .before .before .args .table .now) (c .before .before .before .before .before .before .before .before .before .before .before .before .before .before .before .before .args .rows) (c .before .before .before .before .before .before .before .before .before .before .before .before .before .before .before .before .args .row) (c .before .before .before .before .before .before .before .before .before .before .before .before .before .get .result) (c .before .before .before .before .before .before .before .before .before .before .before .get2 .result) (c .before .before .before .before .before .before .before .before .before .get3 .result) (c .before .before .before .before .before .before .before .get4 .result) (c .before .before .before .before .before .before .part-of .result) (c .before .before .before .before .before .before .before .before .before .before .before .before .before .get .ensures) (c .before .before .before .before .before .before .before .before .before .before .before .get2 .ensures) (c .before .before .before .before .before .before .before .before .before .get3 .ensures) (c .before .before .before .before .before .before .before .get4 .ensures) (c .before .before .before .before .before .before .part-of .ensures) (c .before .before .before .before .enum-told4 .given .1)
+
+pub follow-spec : {M : Type 1} → statement M
+follow-spec =
+    tie.close
+    (tie.spec
+    get-requires
+    add-get
+    get-requires-2
+    add-get-2
+    get-requires-3
+    add-get-3
+    get-requires-4
+    part-of-requires
+    enum-told
+    add-put-structure
+    add-put-structure-2
+    looping-in-requires
+    put-structure-requires
+    enum-told-2
+    add-put-structure-3
+    put-structure-requires-2
+    enum-told-3
+    cast-own
+    add-get-4
+    get-requires-5
+    add-get-5
+    get-requires-6
+    add-get-6
+    get-requires-7
+    add-put
+    put-requires
+    add-put-structure-4
+    put-structure-requires-3
+    enum-told-4
+    add-put-structure-5
+    put-structure-requires-4
+    same-length
+    returns
+    same-length-2
+    returns-2
+    same-length-3
+    returns-3
+    same-length-4
+    returns-4)

@@ -1,0 +1,36 @@
+-- The pass over the table that finds the structure of the rows. Assumes nothing.
+use Prim.Native.Nat.{ℕ, zero, suc, _+_}
+use mathlib.Core.Bool.{cond}
+use mathlib.Core.List.{List, [], _∷_}
+use lib.ListN.{getD, set}
+use lib.Dec.{eqb}
+use Rattle.diagram_file.specs.Cells.{Cell, cell, putAll}
+use Rattle.diagram_file.specs.declared.nesting.Part.{Part}
+use Rattle.diagram_file.specs.declared.nesting.Part.the-variants.{Opens, Turns, Closes, Stays}
+use Rattle.diagram_file.specs.Runs.{partOf}
+
+abbrev pub structureCells : (rows row owner latest looping : ℕ) → List Cell
+structureCells rows row owner latest looping = cell (320 + row) owner ∷ cell (384 + row) latest ∷ cell (448 + row) rows ∷ cell (512 + row) looping ∷ []
+
+unfoldable pub putStructure : (rows row owner latest looping : ℕ) → List ℕ → List ℕ
+putStructure rows row owner latest looping table = putAll (structureCells rows row owner latest looping) table
+
+abbrev pub loopingIn : (kind row looping : ℕ) → ℕ
+loopingIn kind row looping = cond (eqb kind 24) row looping
+
+-- the structure of row q + 1, by what row q does: an open has itself, a BRANCH turns, a close has what its owner had
+abbrev pub followedAs : Part → (rows q : ℕ) → List ℕ → List ℕ
+followedAs Opens rows q t = putStructure rows (q + 1) q (q + 1) (loopingIn (getD t q 0) q (getD t (512 + q) 0)) t
+followedAs Turns rows q t = putStructure rows (q + 1) (getD t (320 + q) 0) q (getD t (512 + q) 0) t
+followedAs Closes rows q t =
+    putStructure rows (q + 1) (getD t (320 + getD t (320 + q) 0) 0) (getD t (384 + getD t (320 + q) 0) 0) (getD t (512 + getD t (320 + q) 0) 0)
+    (set t (448 + getD t (320 + q) 0) q)
+followedAs Stays rows q t = putStructure rows (q + 1) (getD t (320 + q) 0) (getD t (384 + q) 0) (getD t (512 + q) 0) t
+
+unfoldable pub followed : (rows q : ℕ) → List ℕ → List ℕ
+followed rows q t = followedAs (partOf (getD t q 0)) rows q t
+
+-- the structure of the rows up to and with row n, where that of row 0 stands
+unfoldable pub structured : (rows n : ℕ) → List ℕ → List ℕ
+structured rows zero t = t
+structured rows (suc n) t = followed rows n (structured rows n t)

@@ -1,0 +1,339 @@
+// Reads a diagram file's records by its tails, into one flat table: refusals 1 to 6.
+ghost use mathlib.Core.Path.{_≡_};
+ghost use mathlib.Core.Bool.{cond};
+ghost use Prim.Native.Nat.{_+_, _-_, _/_, _≤_, _<_};
+ghost use lib.ListN.{length};
+ghost use lib.Dec.{eqb};
+ghost use Rattle.effbd.specs.Records.{kindAt, faultAt};
+ghost use Rattle.effbd.specs.Diagrams.{usesAt, usesFine, rowAt, rowRight, rowFine, headFault, itemFault, rowFault};
+ghost use Rattle.diagram_file.specs.Fields.{useFine, functionRight, functionFine, turnLimitFine, headFine, isRow};
+ghost use Rattle.diagram_file.specs.Reading.{column, putRow, fillRow, ItemsRead, RowsRead, Recorded};
+use crate::Diagram;
+use crate::kinds;
+
+// Where reading stopped, and the fault of the record there, 0 for none.
+pub struct Reached {
+    pub fault: u16,
+    pub at: usize,
+}
+
+fn use_fine(items: u16, from: u32, item: u16, take: u16, give: u16) -> bool
+    ensures { λ r. ⌜ r ≡ useFine items from item take give ⌝ }
+{
+    from <= item as u32 && (item < items && 0 < take as u32 + give as u32)
+}
+
+// The uses at the start of `uses`: items rising and below `items`, none that neither takes nor gives.
+fn uses_fine(uses: &[u8], count: u16, items: u16) -> bool
+    ensures { λ r. ⌜ r ≡ usesFine items 0 (usesAt count (now (uses .entry))) ⌝ }
+{
+    let mut rest = uses;
+    let mut left = count;
+    let mut from: u32 = 0;
+    while 0 < left {
+        let item = words::word(rest, 0);
+        if !use_fine(
+            items,
+            from,
+            item,
+            words::word(rest, 2),
+            words::word(rest, 4),
+        ) {
+            return false;
+        }
+        from = item as u32 + 1;
+        left -= 1;
+        let more = words::tail(rest, 6);
+        rest = more;
+    }
+    true
+}
+
+// The number of uses that a FUNCTION's length leaves room for.
+fn use_count(length: u16) -> u16
+    ensures { λ r. ⌜ r ≡ (length - 8) / 6 ⌝ }
+{
+    if length < 8 {
+        return 0;
+    }
+    (length - 8) / 6
+}
+
+// "At a record: 1 (4 bytes), 2, 3, 1, fields."
+fn record_fault(bytes: &[u8], due: bool, right: bool, fine: bool, number: u16) -> u16
+    ensures { λ r. ⌜ r ≡ faultAt (now (bytes .entry)) due right fine number ⌝ }
+{
+    if bytes.len() < 4 {
+        return 1;
+    }
+    if !due {
+        return 2;
+    }
+    if !right {
+        return 3;
+    }
+    if bytes.len() < words::word(bytes, 0) as usize {
+        return 1;
+    }
+    if !fine {
+        return number;
+    }
+    0
+}
+
+fn is_row(kind: u16) -> bool
+    ensures { λ r. ⌜ r ≡ isRow kind ⌝ }
+{
+    16 <= kind && kind <= 27
+}
+
+fn function_right(length: u16, items: u16) -> bool
+    ensures { λ r. ⌜ r ≡ functionRight length items ⌝ }
+{
+    8 <= length && ((length - 8) % 6 == 0 && (length - 8) / 6 <= items)
+}
+
+// Is the length right for the kind?
+fn row_right(bytes: &[u8], items: u16) -> bool
+    ensures { λ r. ⌜ r ≡ rowRight items (now (bytes .entry)) ⌝ }
+{
+    let kind = words::word(bytes, 2);
+    let length = words::word(bytes, 0);
+    if kind == 16 {
+        return function_right(length, items);
+    }
+    length == kinds::length_of(kind)
+}
+
+fn turn_limit_fine(count: u16) -> bool
+    ensures { λ r. ⌜ r ≡ turnLimitFine count ⌝ }
+{
+    2 <= count && count <= 255
+}
+
+fn function_fine(bytes: &[u8], items: u16) -> bool
+    ensures { λ r. ⌜ r ≡ functionFine items (now (bytes .entry)) ⌝ }
+{
+    if words::word(bytes, 6) < words::word(bytes, 4) {
+        return false;
+    }
+    uses_fine(
+        words::tail(bytes, 8),
+        use_count(words::word(bytes, 0)),
+        items,
+    )
+}
+
+// Are a row's fields right?
+fn row_fine(bytes: &[u8], items: u16) -> bool
+    ensures { λ r. ⌜ r ≡ rowFine items (rowAt (now (bytes .entry))) ⌝ }
+{
+    let kind = words::word(bytes, 2);
+    match kind {
+        16 => function_fine(bytes, items),
+        22 => turn_limit_fine(words::word(bytes, 4)),
+        _ => true,
+    }
+}
+
+fn row_fault(bytes: &[u8], items: u16) -> u16
+    ensures { λ r. ⌜ r ≡ rowFault items (now (bytes .entry)) ⌝ }
+{
+    let due = is_row(words::word(bytes, 2));
+    let right = row_right(bytes, items);
+    let fine = row_fine(bytes, items);
+    record_fault(bytes, due, right, fine, 5)
+}
+
+fn item_fault(bytes: &[u8]) -> u16
+    ensures { λ r. ⌜ r ≡ itemFault (now (bytes .entry)) ⌝ }
+{
+    let kind = words::word(bytes, 2);
+    let length = words::word(bytes, 0);
+    let right = kinds::length_of(2);
+    record_fault(bytes, kind == 2, length == right, true, 5)
+}
+
+fn head_fine(edition: u16, rows: u16, items: u16) -> bool
+    ensures { λ r. ⌜ r ≡ headFine edition rows items ⌝ }
+{
+    edition == Diagram::EDITION && (1 <= rows && (rows <= Diagram::ROWS && items <= Diagram::ITEMS))
+}
+
+fn head_fault(bytes: &[u8]) -> u16
+    ensures { λ r. ⌜ r ≡ headFault (now (bytes .entry)) ⌝ }
+{
+    let kind = words::word(bytes, 2);
+    let length = words::word(bytes, 0);
+    let fine = head_fine(
+        words::word(bytes, 4),
+        words::word(bytes, 6),
+        words::word(bytes, 8),
+    );
+    let right = kinds::length_of(1);
+    record_fault(bytes, kind == 1, length == right, fine, 4)
+}
+
+// α of a FUNCTION, the count of an IT open.
+fn first_of(bytes: &[u8]) -> u16
+    ensures { λ r. ⌜ r ≡ column 0 1 (now (bytes .entry)) ⌝ }
+{
+    let kind = words::word(bytes, 2);
+    match kind {
+        16 => words::word(bytes, 4),
+        22 => words::word(bytes, 4),
+        _ => 0,
+    }
+}
+
+// β of a FUNCTION.
+fn second_of(bytes: &[u8]) -> u16
+    ensures { λ r. ⌜ r ≡ column 0 2 (now (bytes .entry)) ⌝ }
+{
+    let kind = words::word(bytes, 2);
+    if kind == 16 {
+        return words::word(bytes, 6);
+    }
+    0
+}
+
+// Where a FUNCTION's uses begin, its record beginning at byte `at`.
+fn uses_offset(bytes: &[u8], at: usize) -> u16
+    requires { ⌜ at < 60000 ⌝ }
+    ensures { λ r. ⌜ r ≡ cond (eqb (kindAt (now (bytes .entry))) 16) (at + 8) 0 ⌝ }
+{
+    let kind = words::word(bytes, 2);
+    if kind == 16 {
+        return (at + 8) as u16;
+    }
+    0
+}
+
+fn uses_number(bytes: &[u8]) -> u16
+    ensures { λ r. ⌜ r ≡ column 0 4 (now (bytes .entry)) ⌝ }
+{
+    let kind = words::word(bytes, 2);
+    if kind == 16 {
+        return use_count(words::word(bytes, 0));
+    }
+    0
+}
+
+fn put_row(
+    table: &mut [u16],
+    row: usize,
+    kind: u16,
+    first: u16,
+    second: u16,
+    offset: u16,
+    number: u16,
+)
+    requires { ⌜ row < 64 ⌝ }
+    ensures { λ _. ⌜ now (table .exit) ≡ putRow row kind first second offset number (now (table .entry)) ⌝ }
+{
+    words::put(table, row, kind);
+    words::put(table, 64 + row, first);
+    words::put(table, 128 + row, second);
+    words::put(table, 192 + row, offset);
+    words::put(table, 256 + row, number);
+}
+
+// The columns of a row whose record begins `bytes`, at byte `at` of the file.
+fn fill_row(table: &mut [u16], row: usize, bytes: &[u8], at: usize)
+    requires { ⌜ (row < 64) × (at < 60000) ⌝ }
+    ensures { λ _. ⌜ now (table .exit) ≡ fillRow row at (now (bytes .entry)) (now (table .entry)) ⌝ }
+{
+    let kind = words::word(bytes, 2);
+    let first = first_of(bytes);
+    let second = second_of(bytes);
+    let offset = uses_offset(bytes, at);
+    let number = uses_number(bytes);
+    put_row(table, row, kind, first, second, offset, number);
+}
+
+// Reads `count` item records from byte `from` on, their initial counts into the table.
+fn read_items(file: &[u8], from: usize, count: usize, table: &mut [u16]) -> Reached
+    requires { ⌜ (from ≤ length (now file)) × (from ≤ 106) ⌝ }
+    requires { ⌜ count ≤ 16 ⌝ }
+    requires { ⌜ length (now table) ≡ 592 ⌝ }
+    ensures { λ r. ⌜ ItemsRead (now (file .entry)) from count (now (table .exit)) r ⌝ }
+{
+    let mut rest = words::tail(file, from);
+    let mut at = from;
+    let mut item: usize = 0;
+    while item < count {
+        let fault = item_fault(rest);
+        if fault != 0 {
+            return Reached {
+                fault: fault,
+                at: at,
+            };
+        }
+        words::put(table, 576 + item, words::word(rest, 4));
+        let length = words::word(rest, 0) as usize;
+        let more = words::tail(rest, length);
+        rest = more;
+        at += length;
+        item += 1;
+    }
+    Reached { fault: 0, at: at }
+}
+
+// Reads `count` row records from byte `from` on, their columns into the table.
+fn read_rows(file: &[u8], from: usize, count: usize, items: u16, table: &mut [u16]) -> Reached
+    requires { ⌜ (from ≤ length (now file)) × (from ≤ 106) ⌝ }
+    requires { ⌜ (count ≤ 64) × (items ≤ 16) ⌝ }
+    requires { ⌜ length (now table) ≡ 592 ⌝ }
+    ensures { λ r. ⌜ RowsRead (now (file .entry)) items from count (now (table .entry)) (now (table .exit)) r ⌝ }
+{
+    let mut rest = words::tail(file, from);
+    let mut at = from;
+    let mut row: usize = 0;
+    while row < count {
+        let fault = row_fault(rest, items);
+        if fault != 0 {
+            return Reached {
+                fault: fault,
+                at: at,
+            };
+        }
+        fill_row(table, row, rest, at);
+        let length = words::word(rest, 0) as usize;
+        let more = words::tail(rest, length);
+        rest = more;
+        at += length;
+        row += 1;
+    }
+    Reached { fault: 0, at: at }
+}
+
+// Reads a diagram file's head, items and rows.
+pub(crate) fn read_records(file: &[u8], table: &mut [u16]) -> Reached
+    requires { ⌜ length (now table) ≡ 592 ⌝ }
+    ensures { λ r. ⌜ Recorded (now (file .entry)) (now (table .exit)) r ⌝ }
+{
+    let fault = head_fault(file);
+    if fault != 0 {
+        return Reached {
+            fault: fault,
+            at: 0,
+        };
+    }
+    let rows = words::word(file, 6) as usize;
+    let items = words::word(file, 8);
+    let counts = read_items(file, 10, items as usize, table);
+    if counts.fault != 0 {
+        return counts;
+    }
+    let line = read_rows(file, counts.at, rows, items, table);
+    if line.fault != 0 {
+        return line;
+    }
+    if line.at != file.len() {
+        return Reached {
+            fault: 6,
+            at: line.at,
+        };
+    }
+    line
+}
