@@ -6,7 +6,6 @@ ghost use Rattle.effbd.specs.Nesting.{usesPart};
 ghost use Rattle.diagram_file.specs.Tables.{stateLength, freshPut, Filled, Parsed, Freshened, partIn};
 use effbd::Answer;
 
-mod kinds;
 mod nesting;
 mod records;
 mod structure;

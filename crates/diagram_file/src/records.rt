@@ -9,7 +9,7 @@ ghost use Rattle.effbd.specs.Diagrams.{usesAt, usesFine, rowAt, rowRight, rowFi
 ghost use Rattle.diagram_file.specs.Fields.{useFine, functionRight, functionFine, turnLimitFine, headFine, isRow};
 ghost use Rattle.diagram_file.specs.Reading.{column, putRow, fillRow, ItemsRead, RowsRead, Recorded};
 use crate::Diagram;
-use crate::kinds;
+
 
 // Where reading stopped, and the fault of the record there, 0 for none.
 pub struct Reached {
@@ -102,7 +102,7 @@ fn row_right(bytes: &[u8], items: u16) -> bool
     if kind == 16 {
         return function_right(length, items);
     }
-    length == kinds::length_of(kind)
+    length == words::kinds::length_of(kind)
 }
 
 fn turn_limit_fine(count: u16) -> bool
@@ -150,7 +150,7 @@ fn item_fault(bytes: &[u8]) -> u16
 {
     let kind = words::word(bytes, 2);
     let length = words::word(bytes, 0);
-    let right = kinds::length_of(2);
+    let right = words::kinds::length_of(2);
     record_fault(bytes, kind == 2, length == right, true, 5)
 }
 
@@ -170,7 +170,7 @@ fn head_fault(bytes: &[u8]) -> u16
         words::word(bytes, 6),
         words::word(bytes, 8),
     );
-    let right = kinds::length_of(1);
+    let right = words::kinds::length_of(1);
     record_fault(bytes, kind == 1, length == right, fine, 4)
 }
 

@@ -6,7 +6,7 @@ ghost use mathlib.Core.Path.{_≡_};
 ghost use Prim.Native.Nat.{_+_, _*_, _<_};
 ghost use lib.ListN.{length, drop, getD, set};
 ghost use Rattle.effbd.specs.Records.{word as wordIn};
-ghost use Rattle.words.specs.Stores.{longIn, wordPut, longPut};
+ghost use Rattle.words.specs.Stores.{longIn, wordPut, longPut, copied};
 
 // The byte at `at`.
 pub fn byte(bytes: &[u8], at: usize) -> u16
@@ -93,5 +93,19 @@ pub fn put(state: &mut [u16], at: usize, value: u16)
 {
     if at < state.len() {
         state[at] = value;
+    }
+}
+
+// Copies the words of a state to the front of another list, where it has room for all of them.
+pub fn copy(to: &mut [u16], from: &[u16])
+    ensures { λ _. ⌜ now (to .exit) ≡ copied (now (from .entry)) (now (to .entry)) ⌝ }
+{
+    if to.len() < from.len() {
+        return;
+    }
+    let mut i: usize = 0;
+    while i < from.len() {
+        to[i] = from[i];
+        i += 1;
     }
 }

@@ -1,0 +1,77 @@
+// The check of a state: refusal 20.
+ghost use mathlib.Core.Path.{_≡_};
+ghost use Rattle.diagram_moves.specs.Decisions.{activityAllowed, turnsAllowed, clockAllowed, rowAllowed, stateAllowed};
+use crate::cells;
+use crate::kinds;
+
+// The activities that the kind of a row has.
+fn activity_allowed(table: &[u16], row: u32, activity: u16) -> bool
+    ensures { λ r. ⌜ r ≡ activityAllowed (now (table .entry)) row activity ⌝ }
+{
+    let kind = cells::kind(table, row);
+    if kind == kinds::FUNCTION {
+        return activity <= 2;
+    }
+    if kind == kinds::BRANCH {
+        if activity == 0 {
+            return true;
+        }
+        let owner = cells::cell(table, cells::OWNER, row);
+        if cells::kind(table, owner as u32) == kinds::AND_OPEN {
+            return activity == 3;
+        }
+        return false;
+    }
+    if kind == kinds::AND_CLOSE {
+        return activity == 0;
+    }
+    activity <= 1
+}
+
+// The turns of an IT open are at most its count; no other row has turns.
+fn turns_allowed(table: &[u16], row: u32, turns: u16) -> bool
+    ensures { λ r. ⌜ r ≡ turnsAllowed (now (table .entry)) row turns ⌝ }
+{
+    if cells::kind(table, row) == kinds::IT_OPEN {
+        return turns <= cells::cell(table, cells::FIRST, row);
+    }
+    turns == 0
+}
+
+// The clock of a running row is at most its β; no other row has a clock.
+fn clock_allowed(table: &[u16], row: u32, activity: u16, clock: u16) -> bool
+    ensures { λ r. ⌜ r ≡ clockAllowed (now (table .entry)) row activity clock ⌝ }
+{
+    if activity == 2 {
+        return clock <= cells::cell(table, cells::SECOND, row);
+    }
+    clock == 0
+}
+
+fn row_allowed(table: &[u16], state: &[u16], row: u32) -> bool
+    ensures { λ r. ⌜ r ≡ rowAllowed (now (table .entry)) (now (state .entry)) row ⌝ }
+{
+    let activity = cells::activity(state, row);
+    if !activity_allowed(table, row, activity) {
+        return false;
+    }
+    if !turns_allowed(table, row, cells::turns(state, row)) {
+        return false;
+    }
+    clock_allowed(table, row, activity, cells::clock(state, row))
+}
+
+// A state has three words for each row and one for each item, and every row passes.
+pub fn state_allowed(table: &[u16], rows: u32, items: u32, state: &[u16]) -> bool
+    ensures { λ r. ⌜ r ≡ stateAllowed (now (table .entry)) rows items (now (state .entry)) ⌝ }
+{
+    if state.len() != 3 * rows as usize + items as usize {
+        return false;
+    }
+    for row in 0..rows {
+        if !row_allowed(table, state, row) {
+            return false;
+        }
+    }
+    true
+}

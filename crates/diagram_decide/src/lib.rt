@@ -1,0 +1,57 @@
+// What a diagram's move is told before anything is written.
+// A diagram is its table (crate diagram_file). Every function is total: what the table does not hold is read as 0.
+ghost use mathlib.Core.Path.{_≡_};
+ghost use Rattle.effbd.specs.Answers.{said};
+ghost use Rattle.diagram_moves.specs.Decisions.{codeVerdict, moveVerdict};
+use effbd::Answer;
+
+pub mod cells;
+mod check;
+pub mod kinds;
+mod steps;
+pub mod uses;
+mod waits;
+
+// The code of a move, then its row or its ticks: 21 to 26.
+fn decide_code(
+    table: &[u16],
+    rows: u32,
+    items: u32,
+    file: &[u8],
+    state: &[u16],
+    code: u16,
+    argument: u16,
+) -> Answer
+    ensures { λ r. ⌜ said r ≡ codeVerdict (now (table .entry)) rows items (now (file .entry)) (now (state .entry)) code argument ⌝ }
+{
+    if code == 1 {
+        let row = argument as u32;
+        if row < rows {
+            return steps::row_step(table, rows, items, file, state, row);
+        }
+        return Answer::Refused(22, row);
+    }
+    if code == 2 {
+        return waits::wait(table, rows, items, file, state, argument);
+    }
+    Answer::Refused(21, 0)
+}
+
+// What a move of a state is told, with nothing written: 20 to 26, or accepted. Of the table that crate diagram_file makes of an accepted
+// file, this is document 01's outcome (theorem `move-is` of crate diagram_moves).
+pub fn decide(
+    table: &[u16],
+    rows: u32,
+    items: u32,
+    file: &[u8],
+    state: &[u16],
+    code: u16,
+    argument: u16,
+) -> Answer
+    ensures { λ r. ⌜ said r ≡ moveVerdict (now (table .entry)) rows items (now (file .entry)) (now (state .entry)) code argument ⌝ }
+{
+    if check::state_allowed(table, rows, items, state) {
+        return decide_code(table, rows, items, file, state, code, argument);
+    }
+    Answer::Refused(20, 0)
+}

@@ -1,0 +1,122 @@
+// What a step is told: 22 to 25.
+ghost use mathlib.Core.Path.{_≡_};
+ghost use Rattle.effbd.specs.Answers.{said};
+ghost use Rattle.diagram_moves.specs.Decisions.{doneAt, allDoneTo, readyVerdict, startVerdict, endVerdict, functionVerdict, branchVerdict, closeVerdict, rowVerdict};
+use crate::cells;
+use crate::kinds;
+use crate::uses;
+use effbd::Answer;
+
+fn done_at(table: &[u16], state: &[u16], owner: u32, row: u32) -> bool
+    ensures { λ r. ⌜ r ≡ doneAt (now (table .entry)) (now (state .entry)) owner row ⌝ }
+{
+    if cells::is_branch(table, owner, row) {
+        return cells::activity(state, row) == 3;
+    }
+    true
+}
+
+// The BRANCH rows of the construct that row `owner` opens are done, all that stand before row `end`.
+pub fn all_done(table: &[u16], state: &[u16], owner: u32, end: u32) -> bool
+    ensures { λ r. ⌜ r ≡ allDoneTo (now (table .entry)) (now (state .entry)) owner end ⌝ }
+{
+    for row in owner..end {
+        if !done_at(table, state, owner, row) {
+            return false;
+        }
+    }
+    true
+}
+
+// The step of row `row` stands if row `at` is ready.
+fn ready(state: &[u16], at: u32, row: u32) -> Answer
+    ensures { λ r. ⌜ said r ≡ readyVerdict (now (state .entry)) at row ⌝ }
+{
+    if cells::activity(state, at) == 1 {
+        return Answer::Accepted(0);
+    }
+    Answer::Refused(22, row)
+}
+
+// A FUNCTION that is ready: 23 with the lowest item that is short.
+fn start(table: &[u16], rows: u32, items: u32, file: &[u8], state: &[u16], row: u32) -> Answer
+    ensures { λ r. ⌜ said r ≡ startVerdict (now (table .entry)) rows items (now (file .entry)) (now (state .entry)) row ⌝ }
+{
+    let item = uses::blocked_item(table, rows, items, file, state, row, false);
+    if item < items {
+        return Answer::Refused(23, item);
+    }
+    Answer::Accepted(0)
+}
+
+// A FUNCTION that runs: 24 with the ticks lacking, then 25 with the lowest item whose sum is above 65,535.
+fn finish(table: &[u16], rows: u32, items: u32, file: &[u8], state: &[u16], row: u32) -> Answer
+    ensures { λ r. ⌜ said r ≡ endVerdict (now (table .entry)) rows items (now (file .entry)) (now (state .entry)) row ⌝ }
+{
+    let alpha = cells::cell(table, cells::FIRST, row);
+    let clock = cells::clock(state, row);
+    if clock < alpha {
+        return Answer::Refused(24, (alpha - clock) as u32);
+    }
+    let item = uses::blocked_item(table, rows, items, file, state, row, true);
+    if item < items {
+        return Answer::Refused(25, item);
+    }
+    Answer::Accepted(0)
+}
+
+fn function(table: &[u16], rows: u32, items: u32, file: &[u8], state: &[u16], row: u32) -> Answer
+    ensures { λ r. ⌜ said r ≡ functionVerdict (now (table .entry)) rows items (now (file .entry)) (now (state .entry)) row ⌝ }
+{
+    let activity = cells::activity(state, row);
+    if activity == 1 {
+        return start(table, rows, items, file, state, row);
+    }
+    if activity == 2 {
+        return finish(table, rows, items, file, state, row);
+    }
+    Answer::Refused(22, row)
+}
+
+// A BRANCH of an OR steps if its open is ready; a BRANCH of an AND never steps.
+fn branch(table: &[u16], rows: u32, items: u32, file: &[u8], state: &[u16], row: u32) -> Answer
+    ensures { λ r. ⌜ said r ≡ branchVerdict (now (table .entry)) rows items (now (file .entry)) (now (state .entry)) row ⌝ }
+{
+    let owner = cells::cell(table, cells::OWNER, row) as u32;
+    if cells::kind(table, owner) == kinds::OR_OPEN {
+        return ready(state, owner, row);
+    }
+    Answer::Refused(22, row)
+}
+
+fn and_close(table: &[u16], rows: u32, items: u32, file: &[u8], state: &[u16], row: u32) -> Answer
+    ensures { λ r. ⌜ said r ≡ closeVerdict (now (table .entry)) rows items (now (file .entry)) (now (state .entry)) row ⌝ }
+{
+    let owner = cells::cell(table, cells::OWNER, row) as u32;
+    if all_done(table, state, owner, row) {
+        return Answer::Accepted(0);
+    }
+    Answer::Refused(22, row)
+}
+
+// The step of a row, by its kind.
+pub fn row_step(
+    table: &[u16],
+    rows: u32,
+    items: u32,
+    file: &[u8],
+    state: &[u16],
+    row: u32,
+) -> Answer
+    ensures { λ r. ⌜ said r ≡ rowVerdict (now (table .entry)) rows items (now (file .entry)) (now (state .entry)) row ⌝ }
+{
+    let kind = cells::kind(table, row);
+    match kind {
+        kinds::FUNCTION => function(table, rows, items, file, state, row),
+        kinds::BRANCH => branch(table, rows, items, file, state, row),
+        kinds::AND_CLOSE => and_close(table, rows, items, file, state, row),
+        kinds::OR_OPEN => Answer::Refused(22, row),
+        kinds::END => Answer::Refused(22, row),
+        _ => ready(state, row, row),
+    }
+}

@@ -1,0 +1,100 @@
+-- What a move that stands writes: over the table and the state's words, in the order of the program's stores. Assumes nothing.
+use Prim.Native.Nat.{ℕ, zero, suc, _+_}
+use mathlib.Core.Bool.{Bool, true, false, cond}
+use mathlib.Core.List.{List, [], _∷_}
+use lib.ListN.{getD, set}
+use lib.Dec.{leb, ltb, eqb}
+use Rattle.effbd.specs.Answers.{Outcome, accepted, refused}
+use Rattle.effbd.specs.Diagrams.{Use}
+use Rattle.effbd.specs.States.{activityAt, turnsAt, clockAt}
+use Rattle.diagram_moves.specs.Cells.{kindIn, firstIn, ownerIn, branchIn, closeIn, loopIn, usesIn}
+use Rattle.diagram_moves.specs.Decisions.{countPlace, amountOf, added, changed, isBranch, moveVerdict}
+
+-- a loop of stores: n turns from 0 up; the same with nothing done before row `start`
+abbrev pub fold : ℕ → (ℕ → List ℕ → List ℕ) → List ℕ → List ℕ
+fold zero f words = words
+fold (suc n) f words = f n (fold n f words)
+
+unfoldable pub startingAt : ℕ → (ℕ → List ℕ → List ℕ) → ℕ → List ℕ → List ℕ
+startingAt start f r words = cond (leb start r) (f r words) words
+
+-- activity a and clock 0 of row r
+unfoldable pub rowSet : (r a : ℕ) → List ℕ → List ℕ
+rowSet r a words = set (set words (activityAt r) a) (clockAt r) 0
+
+-- the counts after the takes or the gives of some uses
+unfoldable pub countsChanged : (giving : Bool) (rows : ℕ) → List Use → List ℕ → List ℕ
+countsChanged giving rows [] words = words
+countsChanged giving rows (u ∷ us) words = countsChanged giving rows us
+    (set words (countPlace rows (u .item)) (changed giving (getD words (countPlace rows (u .item)) 0) (amountOf giving u)))
+
+unfoldable pub clearTurn : ℕ → List ℕ → List ℕ
+clearTurn r words = set (rowSet r 0 words) (turnsAt r) 0
+
+unfoldable pub rowsCleared : (first last : ℕ) → List ℕ → List ℕ
+rowsCleared first last words = fold (last + 1) (startingAt first clearTurn) words
+
+unfoldable pub tickTurn : (n r : ℕ) → List ℕ → List ℕ
+tickTurn n r words = cond (eqb (getD words (activityAt r) 0) 2) (set words (clockAt r) (added (getD words (clockAt r) 0) n)) words
+
+module _ (table : List ℕ) where
+  -- the row that entering row r changes, and entering it
+  unfoldable pub enteredIn : ℕ → ℕ
+  enteredIn r = cond (eqb (kindIn table r) 18)
+      (cond (eqb (kindIn table (ownerIn table r)) 17) (branchIn table r) (closeIn table (ownerIn table r)))
+      (cond (eqb (kindIn table r) 19) (branchIn table r) r)
+
+  unfoldable pub entered : ℕ → List ℕ → List ℕ
+  entered r words = rowSet (enteredIn r) (cond (eqb (kindIn table (enteredIn r)) 18) 3 1) words
+
+  -- row `from` goes idle, row `to` is entered
+  unfoldable pub tokenPassed : (from to : ℕ) → List ℕ → List ℕ
+  tokenPassed from to words = entered to (rowSet from 0 words)
+
+  -- each BRANCH row of o, from o to below row e, has its branch entered or goes idle
+  unfoldable pub branchTurn : (entering : Bool) (o b : ℕ) → List ℕ → List ℕ
+  branchTurn entering o b words = cond (isBranch table o b) (cond entering (entered (b + 1) words) (rowSet b 0 words)) words
+
+  unfoldable pub branchesTurned : (entering : Bool) (o e : ℕ) → List ℕ → List ℕ
+  branchesTurned entering o e words = fold e (startingAt o (branchTurn entering o)) words
+
+  unfoldable pub itOpenChange : ℕ → List ℕ → List ℕ
+  itOpenChange r words = cond (ltb (getD words (turnsAt r) 0) (firstIn table r))
+      (tokenPassed r (r + 1) (set words (turnsAt r) (getD words (turnsAt r) 0 + 1)))
+      (tokenPassed r (closeIn table r + 1) (set words (turnsAt r) 0))
+
+  unfoldable pub exitChange : ℕ → List ℕ → List ℕ
+  exitChange r words = entered (closeIn table (loopIn table r) + 1) (rowsCleared (loopIn table r) (closeIn table (loopIn table r)) words)
+
+  module _ (rows : ℕ) (file : List ℕ) where
+    unfoldable pub functionChange : ℕ → List ℕ → List ℕ
+    functionChange r words = cond (eqb (getD words (activityAt r) 0) 1)
+        (rowSet r 2 (countsChanged false rows (usesIn table file r) words))
+        (tokenPassed r (r + 1) (countsChanged true rows (usesIn table file r) words))
+
+    unfoldable pub rowChange : ℕ → List ℕ → List ℕ
+    rowChange r words = cond (eqb (kindIn table r) 16) (functionChange r words)
+        (cond (eqb (kindIn table r) 17) (branchesTurned true r (closeIn table r) (rowSet r 0 words))
+        (cond (eqb (kindIn table r) 18) (tokenPassed (ownerIn table r) (r + 1) words)
+        (cond (eqb (kindIn table r) 19) (entered (r + 1) (branchesTurned false (ownerIn table r) r words))
+        (cond (eqb (kindIn table r) 22) (itOpenChange r words)
+        (cond (eqb (kindIn table r) 23) (tokenPassed r (ownerIn table r) words)
+        (cond (eqb (kindIn table r) 25) (tokenPassed r (ownerIn table r) words)
+        (cond (eqb (kindIn table r) 26) (exitChange r words)
+        (tokenPassed r (r + 1) words))))))))
+
+    unfoldable pub moveChange : (code argument : ℕ) → List ℕ → List ℕ
+    moveChange code argument words = cond (eqb code 1) (rowChange argument words) (fold rows (tickTurn argument) words)
+
+-- copying words over a state
+unfoldable pub copyTurn : (source : List ℕ) → ℕ → List ℕ → List ℕ
+copyTurn source i words = set words i (getD source i 0)
+
+-- the outcome of a move that was told `verdict`, and has `words` written where it stands
+abbrev pub outcomeOf : (verdict : Outcome ℕ) (words : List ℕ) → Outcome (List ℕ)
+outcomeOf (accepted value) words = accepted words
+outcomeOf (refused number value) words = refused number value
+
+unfoldable pub tableOutcome : (table : List ℕ) (rows items : ℕ) (file words : List ℕ) (code argument : ℕ) → Outcome (List ℕ)
+tableOutcome table rows items file words code argument =
+    outcomeOf (moveVerdict table rows items file words code argument) (moveChange table rows file code argument words)

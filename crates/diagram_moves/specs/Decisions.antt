@@ -1,0 +1,127 @@
+-- What a move is told before anything is written: over the table and the state's words, in the program's order. Assumes nothing.
+use Prim.Native.Nat.{ℕ, _+_, _-_, _*_}
+use mathlib.Core.Bool.{Bool, true, false, not, cond, _&&_, _||_}
+use mathlib.Core.List.{List, [], _∷_}
+use lib.ListN.{length, getD}
+use lib.Dec.{leb, ltb, eqb}
+use Rattle.effbd.specs.Ranges.{allBelow}
+use Rattle.effbd.specs.Answers.{Outcome, accepted, refused}
+use Rattle.effbd.specs.Diagrams.{Use}
+use Rattle.effbd.specs.States.{activityAt, turnsAt, clockAt}
+use Rattle.diagram_moves.specs.Cells.{kindIn, firstIn, secondIn, ownerIn, usesIn}
+
+-- where count k stands in a state of so many rows
+abbrev pub countPlace : ℕ → ℕ → ℕ
+countPlace rows k = 3 * rows + k
+
+-- a take or a give: its amount in a use, whether a count stops it, what it makes of a count (a sum stops at 65,535)
+abbrev pub amountOf : (giving : Bool) → Use → ℕ
+amountOf giving u = cond giving (u .give) (u .take)
+
+unfoldable pub exceeds : (giving : Bool) (count amount : ℕ) → Bool
+exceeds giving count amount = cond giving (ltb (65535 - amount) count) (ltb count amount)
+
+unfoldable pub added : ℕ → ℕ → ℕ
+added x n = cond (ltb (65535 - n) x) 65535 (x + n)
+
+unfoldable pub changed : (giving : Bool) (count amount : ℕ) → ℕ
+changed giving count amount = cond giving (added count amount) (count - amount)
+
+-- the first use whose count stops it: its item, or the number of items
+unfoldable pub blockedItem : (giving : Bool) (rows items : ℕ) (words : List ℕ) → List Use → ℕ
+blockedItem giving rows items words [] = items
+blockedItem giving rows items words (u ∷ us) =
+    cond (exceeds giving (getD words (countPlace rows (u .item)) 0) (amountOf giving u)) (u .item) (blockedItem giving rows items words us)
+
+module _ (table : List ℕ) where
+  -- 20: the check of a row
+  unfoldable pub activityAllowed : ℕ → ℕ → Bool
+  activityAllowed r a = cond (eqb (kindIn table r) 16) (leb a 2)
+      (cond (eqb (kindIn table r) 18) (cond (eqb a 0) true (cond (eqb (kindIn table (ownerIn table r)) 17) (eqb a 3) false))
+      (cond (eqb (kindIn table r) 19) (eqb a 0) (leb a 1)))
+
+  unfoldable pub turnsAllowed : ℕ → ℕ → Bool
+  turnsAllowed r n = cond (eqb (kindIn table r) 22) (leb n (firstIn table r)) (eqb n 0)
+
+  unfoldable pub clockAllowed : ℕ → ℕ → ℕ → Bool
+  clockAllowed r a n = cond (eqb a 2) (leb n (secondIn table r)) (eqb n 0)
+
+  unfoldable pub rowAllowed : List ℕ → ℕ → Bool
+  rowAllowed words r = activityAllowed r (getD words (activityAt r) 0)
+      && (turnsAllowed r (getD words (turnsAt r) 0) && clockAllowed r (getD words (activityAt r) 0) (getD words (clockAt r) 0))
+
+  unfoldable pub stateAllowed : (rows items : ℕ) → List ℕ → Bool
+  stateAllowed rows items words = eqb (length words) (3 * rows + items) && allBelow rows (rowAllowed words)
+
+  -- row b is a BRANCH of the construct that row o opens; the BRANCH rows of o are done, all that stand from o to below row e
+  unfoldable pub isBranch : ℕ → ℕ → Bool
+  isBranch o b = eqb (kindIn table b) 18 && eqb (ownerIn table b) o
+
+  unfoldable pub doneAt : List ℕ → ℕ → ℕ → Bool
+  doneAt words o b = not (isBranch o b) || eqb (getD words (activityAt b) 0) 3
+
+  unfoldable pub doneFrom : List ℕ → ℕ → ℕ → Bool
+  doneFrom words o b = ltb b o || doneAt words o b
+
+  unfoldable pub allDoneTo : List ℕ → ℕ → ℕ → Bool
+  allDoneTo words o e = allBelow e (doneFrom words o)
+
+-- the step of row r stands if row o is ready
+unfoldable pub readyVerdict : List ℕ → ℕ → ℕ → Outcome ℕ
+readyVerdict words o r = cond (eqb (getD words (activityAt o) 0) 1) (accepted 0) (refused 22 r)
+
+module _ (table : List ℕ) (rows items : ℕ) (file words : List ℕ) where
+  unfoldable pub startVerdict : ℕ → Outcome ℕ
+  startVerdict r = cond (ltb (blockedItem false rows items words (usesIn table file r)) items)
+      (refused 23 (blockedItem false rows items words (usesIn table file r)))
+      (accepted 0)
+
+  unfoldable pub endVerdict : ℕ → Outcome ℕ
+  endVerdict r = cond (ltb (getD words (clockAt r) 0) (firstIn table r))
+      (refused 24 (firstIn table r - getD words (clockAt r) 0))
+      (cond (ltb (blockedItem true rows items words (usesIn table file r)) items)
+      (refused 25 (blockedItem true rows items words (usesIn table file r)))
+      (accepted 0))
+
+  unfoldable pub functionVerdict : ℕ → Outcome ℕ
+  functionVerdict r = cond (eqb (getD words (activityAt r) 0) 1) (startVerdict r)
+      (cond (eqb (getD words (activityAt r) 0) 2) (endVerdict r) (refused 22 r))
+
+  unfoldable pub branchVerdict : ℕ → Outcome ℕ
+  branchVerdict r = cond (eqb (kindIn table (ownerIn table r)) 20) (readyVerdict words (ownerIn table r) r) (refused 22 r)
+
+  unfoldable pub closeVerdict : ℕ → Outcome ℕ
+  closeVerdict r = cond (allDoneTo table words (ownerIn table r) r) (accepted 0) (refused 22 r)
+
+  unfoldable pub rowVerdict : ℕ → Outcome ℕ
+  rowVerdict r = cond (eqb (kindIn table r) 16) (functionVerdict r)
+      (cond (eqb (kindIn table r) 18) (branchVerdict r)
+      (cond (eqb (kindIn table r) 19) (closeVerdict r)
+      (cond (eqb (kindIn table r) 20) (refused 22 r)
+      (cond (eqb (kindIn table r) 27) (refused 22 r)
+      (readyVerdict words r r)))))
+
+  -- what holds a wait of n ticks at row r
+  unfoldable pub functionHolds : (n r : ℕ) → Bool
+  functionHolds n r = cond (eqb (getD words (activityAt r) 0) 1) (leb items (blockedItem false rows items words (usesIn table file r)))
+      (cond (eqb (getD words (activityAt r) 0) 2) (ltb (secondIn table r) (getD words (clockAt r) 0 + n)) false)
+
+  unfoldable pub rowHolds : (n r : ℕ) → Bool
+  rowHolds n r = cond (eqb (kindIn table r) 16) (functionHolds n r)
+      (cond (eqb (kindIn table r) 27) false
+      (cond (eqb (getD words (activityAt r) 0) 1) true
+      (cond (eqb (kindIn table r) 19) (allDoneTo table words (ownerIn table r) r) false)))
+
+  unfoldable pub rowFree : (n r : ℕ) → Bool
+  rowFree n r = not (rowHolds n r)
+
+  unfoldable pub waitVerdict : (n : ℕ) → Outcome ℕ
+  waitVerdict n = cond (eqb n 0) (refused 21 0) (cond (allBelow rows (rowFree n)) (accepted 0) (refused 26 0))
+
+  -- the state's check, then the code, then the row or the wait
+  unfoldable pub codeVerdict : (code argument : ℕ) → Outcome ℕ
+  codeVerdict code argument = cond (eqb code 1) (cond (ltb argument rows) (rowVerdict argument) (refused 22 argument))
+      (cond (eqb code 2) (waitVerdict argument) (refused 21 0))
+
+  unfoldable pub moveVerdict : (code argument : ℕ) → Outcome ℕ
+  moveVerdict code argument = cond (stateAllowed table rows items words) (codeVerdict code argument) (refused 20 0)

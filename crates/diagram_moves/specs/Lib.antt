@@ -1,0 +1,11 @@
+pub mod Cells
+pub mod Decisions
+pub mod Changes
+pub mod Stores
+pub mod Loops
+pub mod UseLaws
+pub mod Reach
+pub mod TokenMoves
+pub mod FunctionMoves
+pub mod WholeMoves
+pub mod Files

@@ -1,0 +1,169 @@
+// The diagram's stepper: the file is read once, the move is decided, then it is written.
+ghost use mathlib.Core.Path.{_≡_};
+ghost use mathlib.Core.Bool.{true, false};
+ghost use lib.ListN.{length};
+ghost use Rattle.effbd.specs.Answers.{said, returningZero, afterwards};
+ghost use Rattle.effbd.specs.Moves.{stepDiagram, freshDiagram};
+ghost use Prim.Native.Nat.{_+_};
+ghost use Rattle.diagram_moves.specs.Cells.{ownerIn, closeIn};
+ghost use Rattle.diagram_moves.specs.Changes.{rowSet, entered, branchesTurned, itOpenChange, exitChange, functionChange, rowChange, moveChange, tableOutcome, copyTurn, fold};
+use diagram_decide::cells;
+use diagram_decide::kinds;
+use effbd::Answer;
+
+mod counts;
+mod tokens;
+
+// An IT open: one turn more, or the turns are over and the row after its close is entered.
+fn turn_iteration(table: &[u16], state: &mut [u16], row: u16)
+    ensures { λ _. ⌜ now (state .exit) ≡ itOpenChange (now (table .entry)) row (now (state .entry)) ⌝ }
+{
+    let turns = cells::turns(state, row as u32);
+    let count = cells::cell(table, cells::FIRST, row as u32);
+    if turns < count {
+        words::put(state, 3 * row as usize + 1, turns + 1);
+        tokens::pass_token(table, state, row as u32, row as u32 + 1);
+    } else {
+        let close = cells::cell(table, cells::CLOSE, row as u32);
+        words::put(state, 3 * row as usize + 1, 0);
+        tokens::pass_token(table, state, row as u32, close as u32 + 1);
+    }
+}
+
+// An LE: its loop's rows are cleared, the row after the loop is entered.
+fn exit_loop(table: &[u16], state: &mut [u16], row: u32)
+    ensures { λ _. ⌜ now (state .exit) ≡ exitChange (now (table .entry)) row (now (state .entry)) ⌝ }
+{
+    let first = cells::cell(table, cells::LOOP, row);
+    let last = cells::cell(table, cells::CLOSE, first as u32);
+    tokens::clear_rows(state, first, last);
+    tokens::enter(table, state, last as u32 + 1);
+}
+
+// A FUNCTION starts or ends.
+fn step_function(table: &[u16], rows: u32, file: &[u8], state: &mut [u16], row: u16)
+    ensures { λ _. ⌜ now (state .exit) ≡ functionChange (now (table .entry)) rows (now (file .entry)) row (now (state .entry)) ⌝ }
+{
+    if cells::activity(state, row as u32) == 1 {
+        counts::change_counts(table, rows, file, state, row as u32, false);
+        tokens::set_row(state, row as u32, 2);
+    } else {
+        counts::change_counts(table, rows, file, state, row as u32, true);
+        tokens::pass_token(table, state, row as u32, row as u32 + 1);
+    }
+}
+
+fn open_branches(table: &[u16], state: &mut [u16], row: u16)
+    ensures { λ _. ⌜ now (state .exit) ≡ branchesTurned (now (table .entry)) true row (closeIn (now (table .entry)) row) (rowSet row 0 (now (state .entry))) ⌝ }
+{
+    let close = cells::cell(table, cells::CLOSE, row as u32);
+    tokens::set_row(state, row as u32, 0);
+    tokens::turn_branches(table, state, true, row, close);
+}
+
+fn close_branches(table: &[u16], state: &mut [u16], row: u16)
+    ensures { λ _. ⌜ now (state .exit) ≡ entered (now (table .entry)) (row + 1) (branchesTurned (now (table .entry)) false (ownerIn (now (table .entry)) row) row (now (state .entry))) ⌝ }
+{
+    let owner = cells::cell(table, cells::OWNER, row as u32);
+    tokens::turn_branches(table, state, false, owner, row);
+    tokens::enter(table, state, row as u32 + 1);
+}
+
+// The stores of a row's step, by its kind.
+fn step_row(table: &[u16], rows: u32, file: &[u8], state: &mut [u16], row: u16)
+    ensures { λ _. ⌜ now (state .exit) ≡ rowChange (now (table .entry)) rows (now (file .entry)) row (now (state .entry)) ⌝ }
+{
+    let at = row as u32;
+    let kind = cells::kind(table, at);
+    let owner = cells::cell(table, cells::OWNER, at) as u32;
+    match kind {
+        kinds::FUNCTION => step_function(table, rows, file, state, row),
+        kinds::AND_OPEN => open_branches(table, state, row),
+        kinds::BRANCH => tokens::pass_token(table, state, owner, at + 1),
+        kinds::AND_CLOSE => close_branches(table, state, row),
+        kinds::IT_OPEN => turn_iteration(table, state, row),
+        kinds::IT_CLOSE => tokens::pass_token(table, state, at, owner),
+        kinds::LP_CLOSE => tokens::pass_token(table, state, at, owner),
+        kinds::LOOP_EXIT => exit_loop(table, state, at),
+        _ => tokens::pass_token(table, state, at, at + 1),
+    }
+}
+
+// Writes a move that crate diagram_decide accepted.
+pub fn write(table: &[u16], rows: u32, file: &[u8], state: &mut [u16], code: u16, argument: u16)
+    ensures { λ _. ⌜ now (state .exit) ≡ moveChange (now (table .entry)) rows (now (file .entry)) code argument (now (state .entry)) ⌝ }
+{
+    if code == 1 {
+        step_row(table, rows, file, state, argument);
+    } else {
+        counts::pass_ticks(state, rows, argument);
+    }
+}
+
+// Decides, then writes: a refusal leaves the state as it was.
+fn step_table(
+    table: &[u16],
+    rows: u32,
+    items: u32,
+    file: &[u8],
+    state: &mut [u16],
+    code: u16,
+    argument: u16,
+) -> Answer
+    ensures { λ r. ⌜ said r ≡ returningZero (tableOutcome (now (table .entry)) rows items (now (file .entry)) (now (state .entry)) code argument) ⌝ }
+    ensures { λ r. ⌜ now (state .exit) ≡ afterwards (now (state .entry)) (tableOutcome (now (table .entry)) rows items (now (file .entry)) (now (state .entry)) code argument) ⌝ }
+{
+    let verdict = diagram_decide::decide(table, rows, items, file, state, code, argument);
+    match verdict {
+        Answer::Accepted(_) => {
+            write(table, rows, file, state, code, argument);
+            Answer::Accepted(0)
+        }
+        Answer::Refused(number, value) => Answer::Refused(number, value),
+    }
+}
+
+// A move of a diagram: code 1 steps the row `argument`, code 2 waits `argument` ticks.
+pub fn step(file: &[u8], state: &mut [u16], code: u16, argument: u16) -> Answer
+    ensures { λ r. ⌜ said r ≡ returningZero (stepDiagram (now (file .entry)) code argument (now (state .entry))) ⌝ }
+    ensures { λ r. ⌜ now (state .exit) ≡ afterwards (now (state .entry)) (stepDiagram (now (file .entry)) code argument (now (state .entry))) ⌝ }
+{
+    let diagram = diagram_file::parse(file);
+    if diagram.number != 0 {
+        return Answer::Refused(diagram.number, diagram.value);
+    }
+    step_table(
+        &diagram.table,
+        diagram.rows as u32,
+        diagram.items as u32,
+        file,
+        state,
+        code,
+        argument,
+    )
+}
+
+fn copy(source: &[u16], state: &mut [u16])
+    ensures { λ r. ⌜ now (state .exit) ≡ fold (length (now (state .entry))) (copyTurn (now (source .entry))) (now (state .entry)) ⌝ }
+{
+    for at in 0..state.len() {
+        words::put(state, at, words::get(source, at));
+    }
+}
+
+// The fresh state of a diagram, in the place of `state`.
+pub fn fresh(file: &[u8], state: &mut [u16]) -> Answer
+    ensures { λ r. ⌜ said r ≡ returningZero (freshDiagram (now (file .entry)) (now (state .entry))) ⌝ }
+    ensures { λ r. ⌜ now (state .exit) ≡ afterwards (now (state .entry)) (freshDiagram (now (file .entry)) (now (state .entry))) ⌝ }
+{
+    let diagram = diagram_file::parse(file);
+    if diagram.number != 0 {
+        return Answer::Refused(diagram.number, diagram.value);
+    }
+    if state.len() != 3 * diagram.rows as usize + diagram.items as usize {
+        return Answer::Refused(20, 0);
+    }
+    let words = diagram.fresh();
+    copy(&words, state);
+    Answer::Accepted(0)
+}

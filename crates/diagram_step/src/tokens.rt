@@ -1,0 +1,87 @@
+// Tokens on rows: entering, passing on, the branches of an AND, the rows of a loop.
+ghost use mathlib.Core.Path.{_≡_};
+ghost use Rattle.diagram_moves.specs.Changes.{rowSet, enteredIn, entered, tokenPassed, branchTurn, branchesTurned, clearTurn, rowsCleared};
+use diagram_decide::cells;
+use diagram_decide::kinds;
+
+// Activity of a row, clock 0.
+pub(crate) fn set_row(state: &mut [u16], row: u32, activity: u16)
+    ensures { λ _. ⌜ now (state .exit) ≡ rowSet row activity (now (state .entry)) ⌝ }
+{
+    words::put(state, 3 * row as usize, activity);
+    words::put(state, 3 * row as usize + 2, 0);
+}
+
+// The row that entering a row changes.
+fn entered_row(table: &[u16], row: u32) -> u32
+    ensures { λ r. ⌜ r ≡ enteredIn (now (table .entry)) row ⌝ }
+{
+    let kind = cells::kind(table, row);
+    if kind == kinds::BRANCH {
+        let owner = cells::cell(table, cells::OWNER, row) as u32;
+        if cells::kind(table, owner) == kinds::AND_OPEN {
+            return cells::cell(table, cells::BRANCH_ENDED, row) as u32;
+        }
+        return cells::cell(table, cells::CLOSE, owner) as u32;
+    }
+    if kind == kinds::AND_CLOSE {
+        return cells::cell(table, cells::BRANCH_ENDED, row) as u32;
+    }
+    row
+}
+
+pub(crate) fn enter(table: &[u16], state: &mut [u16], row: u32)
+    ensures { λ _. ⌜ now (state .exit) ≡ entered (now (table .entry)) row (now (state .entry)) ⌝ }
+{
+    let changed = entered_row(table, row);
+    if cells::kind(table, changed) == kinds::BRANCH {
+        set_row(state, changed, 3);
+    } else {
+        set_row(state, changed, 1);
+    }
+}
+
+// Row `from` goes idle, row `to` is entered.
+pub(crate) fn pass_token(table: &[u16], state: &mut [u16], from: u32, to: u32)
+    ensures { λ _. ⌜ now (state .exit) ≡ tokenPassed (now (table .entry)) from to (now (state .entry)) ⌝ }
+{
+    set_row(state, from, 0);
+    enter(table, state, to);
+}
+
+fn turn_branch(table: &[u16], state: &mut [u16], entering: bool, owner: u16, row: u16)
+    ensures { λ _. ⌜ now (state .exit) ≡ branchTurn (now (table .entry)) entering owner row (now (state .entry)) ⌝ }
+{
+    if cells::is_branch(table, owner as u32, row as u32) {
+        if entering {
+            enter(table, state, row as u32 + 1);
+        } else {
+            set_row(state, row as u32, 0);
+        }
+    }
+}
+
+// Each BRANCH row that stands before row `end` in the construct that row `owner` opens has its branch entered, or goes idle.
+pub(crate) fn turn_branches(table: &[u16], state: &mut [u16], entering: bool, owner: u16, end: u16)
+    ensures { λ _. ⌜ now (state .exit) ≡ branchesTurned (now (table .entry)) entering owner end (now (state .entry)) ⌝ }
+{
+    for row in owner..end {
+        turn_branch(table, state, entering, owner, row);
+    }
+}
+
+fn clear_row(state: &mut [u16], row: u32)
+    ensures { λ _. ⌜ now (state .exit) ≡ clearTurn row (now (state .entry)) ⌝ }
+{
+    set_row(state, row, 0);
+    words::put(state, 3 * row as usize + 1, 0);
+}
+
+// The rows from `first` to `last` get activity, turns and clock 0.
+pub(crate) fn clear_rows(state: &mut [u16], first: u16, last: u16)
+    ensures { λ _. ⌜ now (state .exit) ≡ rowsCleared first last (now (state .entry)) ⌝ }
+{
+    for row in first as u32..last as u32 + 1 {
+        clear_row(state, row);
+    }
+}

@@ -1,0 +1,107 @@
+-- Where a net fits, the area holds its bytes and the next offset is their number; the answer and the area that a translation leaves.
+use Prim.Native.Nat.{ℕ, zero, suc, _+_, _≤_, _<_}
+use mathlib.Core.Path.{_≡_, refl, ap, ap₂, sym, _∙_}
+use mathlib.Core.Logic.{_≢_}
+use mathlib.Core.Bool.{Bool, true, false, cond}
+use mathlib.Core.List.{List, [], _∷_, _++_}
+use native.Mathlib.Omega.{arith}
+use native.Mathlib.Nat.{zero-add}
+use lib.ListN.{length, getD, drop, length-append}
+use lib.Seq.{sets, sets-eq}
+use lib.Dec.{ltb}
+use borrow.Author.Tests.{le-leb, lt-ltb, le-ltb}
+use Rattle.effbd.specs.Answers.{Outcome, accepted, refused}
+use Rattle.effbd.specs.Records.{areBytes}
+use Rattle.effbd.specs.Nets.{netBytes}
+use Rattle.effbd.specs.Patterns.{netOf, Translated, written, translatedAs, translated}
+use Rattle.agreement.specs.Basics.{and-intro}
+use Rattle.agreement.specs.AcceptedFiles.{Held, held}
+use Rattle.effbd.specs.Diagrams.{Diagram as Read}
+use Rattle.effbd.specs.Nesting.{readDiagram}
+use Rattle.diagram_file.specs.declared.Diagram.{Diagram}
+use Rattle.diagram_file.specs.Tables.{HoldsFile, Parsed, refusalNumber, refusalValue}
+use Rattle.translate.specs.Writing.{Records, encode, flat, offsetLimit, past, laid, reach, Wrote}
+use Rattle.translate.specs.Whole.{netRecords}
+use Rattle.translate.proofs.NetRecords.{net-is}
+use Rattle.translate.proofs.Sizes.{net-small}
+use Rattle.translate.proofs.Writing.{sets-append}
+
+past-fits : (at k : ℕ) → at + k ≤ offsetLimit → past at k ≡ at + k
+unfolding past
+past-fits at k h = rw (le-leb at offsetLimit (omega arith))
+
+reach-fits : (rs : Records) (at : ℕ) → at + length (flat rs) ≤ offsetLimit → reach at rs ≡ at + length (flat rs)
+unfolding reach flat
+reach-fits [] at h = omega arith
+reach-fits (r ∷ rs) at h =
+    let l : length (encode r ++ flat rs) ≡ length (encode r) + length (flat rs) = length-append (encode r) (flat rs) in
+    ap (λ (k : ℕ). reach k rs) (past-fits at (length (encode r)) (omega arith)) ∙ (reach-fits rs (at + length (encode r)) (omega arith) ∙ omega arith)
+
+laid-fits : (rs : Records) (area : List ℕ) (at : ℕ) → at + length (flat rs) ≤ offsetLimit → laid area at rs ≡ sets area at (flat rs)
+unfolding laid flat
+laid-fits [] area at h = refl
+laid-fits (r ∷ rs) area at h =
+    let l : length (encode r ++ flat rs) ≡ length (encode r) + length (flat rs) = length-append (encode r) (flat rs) in
+    ap (λ (k : ℕ). laid (sets area at (encode r)) k rs) (past-fits at (length (encode r)) (omega arith))
+    ∙ (laid-fits rs (sets area at (encode r)) (at + length (encode r)) (omega arith) ∙ sym (sets-append (encode r) (flat rs) area at))
+
+-- a list whose elements are bytes
+pub bytes-all : (l : List ℕ) → ((i : ℕ) → getD l i 0 < 256) → areBytes l ≡ true
+unfolding areBytes
+bytes-all [] h = refl
+bytes-all (b ∷ l) h = and-intro (lt-ltb b 256 (h 0)) (bytes-all l (λ i. h (suc i)))
+
+-- an accepted file, its diagram's table
+module _ (file : List ℕ) (rows items : ℕ) (table : List ℕ) (h : HoldsFile file rows items table) (bytes : areBytes file ≡ true) where
+  net : List ℕ
+  net = netBytes (netOf (h .diagram))
+
+  sound : Held (h .diagram)
+  sound = held file (h .diagram) bytes (h .read)
+
+  is-net : flat (netRecords table file rows items) ≡ net
+  unfolding net
+  is-net = net-is (h .diagram) rows items table file (h .holds) (h .uses) sound
+
+  small : length net ≤ 65535
+  unfolding net
+  small = net-small (h .diagram) rows items table file (h .holds) (h .uses) sound
+
+  fits : 0 + length (flat (netRecords table file rows items)) ≤ offsetLimit
+  fits = rw is-net (let s = small in omega arith)
+
+  measure : {before after : List ℕ} {next : ℕ} → Wrote before 0 after next (netRecords table file rows items) → next ≡ length net
+  measure w = w .reached ∙ (reach-fits (netRecords table file rows items) 0 fits ∙ (zero-add _ ∙ ap length is-net))
+
+  -- the writer's result is the net's length, and fits an answer
+  pub measured : {before after : List ℕ} {next : ℕ} → Wrote before 0 after next (netRecords table file rows items) → next ≤ 65535
+  measured w = let e = measure w in let s = small in omega arith
+
+  -- a short area
+  pub too-short : {before after area : List ℕ} {next : ℕ} → Wrote before 0 after next (netRecords table file rows items) → length area < next
+      → (refused 10 next ≡ translated file area .answer) × (area ≡ translated file area .area)
+  unfolding translated net
+  too-short {area = area} {next} w l = let e = measure w in
+      rw (h .read, lt-ltb (length area) (length (netBytes (netOf (h .diagram)))) (omega arith)) (ap (refused 10) e, refl)
+
+  -- a long one
+  pub long-enough : {before between area after : List ℕ} {needed next : ℕ} → Wrote before 0 between needed (netRecords table file rows items) → needed ≤ length area
+      → Wrote area 0 after next (netRecords table file rows items) → (accepted next ≡ translated file area .answer) × (after ≡ translated file area .area)
+  unfolding translated net
+  long-enough {area = area} {after} {needed} {next} v l w =
+      let e : needed ≡ length net = measure v in
+      rw (h .read, le-ltb (length area) (length (netBytes (netOf (h .diagram)))) (omega arith)) (ap accepted (measure w), content)
+    where
+      content : after ≡ net ++ drop (length net) area
+      content = w .area ∙ (laid-fits (netRecords table file rows items) area 0 fits ∙ (ap (sets area 0) is-net
+          ∙ (sets-eq net area 0 (let e : needed ≡ length net = measure v in omega arith) ∙ ap (λ (k : ℕ). net ++ drop k area) (zero-add (length net)))))
+
+-- a refused file
+pub turned-away : (file area : List ℕ) (p : Diagram) → Parsed file p → p .number ≢ 0
+    → (refused (p .number) (p .value) ≡ translated file area .answer) × (area ≡ translated file area .area)
+unfolding translated
+turned-away file area p h n = go (readDiagram file) (h .number) (h .value)
+  where
+    go : (o : Outcome Read) → p .number ≡ refusalNumber o → p .value ≡ refusalValue o → (refused (p .number) (p .value) ≡ translatedAs o area .answer) × (area ≡ translatedAs o area .area)
+    go (accepted d) e f = absurd (n e)
+    go (refused number value) e f = (ap₂ refused e f, refl)

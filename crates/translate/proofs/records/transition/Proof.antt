@@ -1,0 +1,23 @@
+use Rattle.translate.specs.Rows.{transition}
+use borrow.Author.Needs.{needs}
+use Rattle.translate.proofs.records.transition.Statement.{statement}
+use Rattle.translate.proofs.records.transition.Tie as tie
+
+cast-t8 : tie.Need-cast-t8
+cast-t8 c = search needs
+
+slice-aggregate-add : tie.Need-slice-aggregate-add
+slice-aggregate-add c = search needs
+
+add-requires : tie.Need-add-requires
+add-requires c κs = search needs
+
+same-length : tie.Need-same-length
+same-length c = search needs
+
+returns : tie.Need-returns
+unfolding transition
+returns c = c .before .before .add .ensures
+
+pub transition-spec : {M : Type 1} → statement M
+transition-spec = tie.close (tie.spec cast-t8 slice-aggregate-add add-requires same-length returns)

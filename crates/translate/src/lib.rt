@@ -1,0 +1,50 @@
+// The net of a diagram, written into a lent area.
+ghost use mathlib.Core.Path.{_≡_};
+ghost use Rattle.effbd.specs.Answers.{said};
+ghost use Rattle.effbd.specs.Patterns.{translated};
+ghost use Rattle.diagram_file.specs.Tables.{HoldsFile};
+ghost use Rattle.translate.specs.Writing.{Wrote};
+ghost use Rattle.translate.specs.Whole.{netRecords};
+use effbd::Answer;
+
+mod marks;
+mod records;
+mod rows;
+
+// The whole net: its head, the marks of its places, the transitions.
+fn put_net(table: &[u16], file: &[u8], rows: u16, items: u16, area: &mut [u8], at: usize) -> usize
+    ensures { λ r. ⌜ Wrote (now (area .entry)) at (now (area .exit)) r (netRecords (now (table .entry)) (now (file .entry)) rows items) ⌝ }
+{
+    let places = marks::head(table, rows, items, area, at);
+    let counts = marks::of_rows(table, rows, area, places);
+    let transitions = marks::of_items(table, items, area, counts);
+    rows::transitions(table, file, rows, area, transitions)
+}
+
+// The net of an accepted file. It is measured first, by writing it where there is no room.
+fn write(table: &[u16], file: &[u8], rows: u16, items: u16, area: &mut [u8]) -> Answer
+    requires { ⌜ HoldsFile (now file) rows items (now table) ⌝ }
+    ensures { λ r. ⌜ said r ≡ translated (now (file .entry)) (now (area .entry)) .answer ⌝ }
+    ensures { λ _. ⌜ now (area .exit) ≡ translated (now (file .entry)) (now (area .entry)) .area ⌝ }
+{
+    let mut nothing = [0u8; 1];
+    let needed = put_net(table, file, rows, items, &mut nothing, 0);
+    if area.len() < needed {
+        return Answer::Refused(10, needed as u32);
+    }
+    let length = put_net(table, file, rows, items, area, 0);
+    Answer::Accepted(length as u32)
+}
+
+// The net of a diagram file, written into the first bytes of the area: answers its length. A refused file's refusal, and 10 with
+// the bytes needed where the area is too short; then nothing is altered.
+pub fn translate(file: &[u8], area: &mut [u8]) -> Answer
+    ensures { λ r. ⌜ said r ≡ translated (now (file .entry)) (now (area .entry)) .answer ⌝ }
+    ensures { λ _. ⌜ now (area .exit) ≡ translated (now (file .entry)) (now (area .entry)) .area ⌝ }
+{
+    let diagram = diagram_file::parse(file);
+    if diagram.number != 0 {
+        return Answer::Refused(diagram.number, diagram.value);
+    }
+    write(&diagram.table, file, diagram.rows, diagram.items, area)
+}

@@ -1,0 +1,121 @@
+// A net's head and its places with their fresh marks.
+ghost use mathlib.Core.Path.{_≡_};
+ghost use Prim.Native.Nat.{_+_, _*_, _<_, _≤_};
+ghost use Rattle.translate.specs.Writing.{Wrote, runs};
+ghost use Rattle.translate.specs.Rows.{pair, entered};
+ghost use Rattle.translate.specs.Whole.{token as tokenOf, remaining as remainingOf, rowMarks, itemMark, numberAs, tally as tallyOf};
+use crate::records;
+use crate::records::HEAD;
+use crate::rows;
+use crate::rows::COUNTS;
+use crate::rows::FIRSTS;
+use crate::rows::KINDS;
+use crate::rows::OWNERS;
+
+// P of the row that entering row 0 changes has a token.
+fn token(first: usize, row: usize) -> u16
+    ensures { λ r. ⌜ r ≡ tokenOf first row ⌝ }
+{
+    if row == first {
+        return 1;
+    }
+    0
+}
+
+// R of an IT open has its count.
+fn remaining(table: &[u16], row: usize) -> u16
+    requires { ⌜ row < 65536 ⌝ }
+    ensures { λ r. ⌜ r ≡ remainingOf (now (table .entry)) row ⌝ }
+{
+    if rows::cell(table, KINDS, row) == 22 {
+        return rows::cell(table, FIRSTS, row);
+    }
+    0
+}
+
+fn row_marks(table: &[u16], first: usize, row: usize, area: &mut [u8], at: usize) -> usize
+    requires { ⌜ row < 65536 ⌝ }
+    ensures { λ r. ⌜ Wrote (now (area .entry)) at (now (area .exit)) r (rowMarks (now (table .entry)) first row) ⌝ }
+{
+    let ready = token(first, row);
+    let count = remaining(table, row);
+    let running = records::mark(area, at, ready);
+    let turns = records::mark(area, running, 0);
+    records::mark(area, turns, count)
+}
+
+pub(crate) fn of_rows(table: &[u16], rows: u16, area: &mut [u8], at: usize) -> usize
+    ensures { λ r. ⌜ Wrote (now (area .entry)) at (now (area .exit)) r (runs (rowMarks (now (table .entry)) (entered (now (table .entry)) 0)) rows) ⌝ }
+{
+    let first = rows::entered(table, 0);
+    let end = rows as usize;
+    let mut next = at;
+    let mut row: usize = 0;
+    while row < end {
+        next = row_marks(table, first, row, area, next);
+        row += 1;
+    }
+    next
+}
+
+pub(crate) fn of_items(table: &[u16], items: u16, area: &mut [u8], at: usize) -> usize
+    ensures { λ r. ⌜ Wrote (now (area .entry)) at (now (area .exit)) r (runs (itemMark (now (table .entry))) items) ⌝ }
+{
+    let end = items as usize;
+    let mut next = at;
+    let mut item: usize = 0;
+    while item < end {
+        let count = rows::cell(table, COUNTS, item);
+        next = records::mark(area, next, count);
+        item += 1;
+    }
+    next
+}
+
+// How many transitions a row of a kind has; a BRANCH, by its construct's open row.
+fn number(owner: u16, kind: u16) -> usize
+    ensures { λ r. ⌜ (r ≡ numberAs owner kind) × (r ≤ 2) ⌝ }
+{
+    match kind {
+        16 => 2,
+        22 => 2,
+        27 => 0,
+        20 => 0,
+        18 => {
+            if owner == 20 {
+                return 1;
+            }
+            0
+        }
+        _ => 1,
+    }
+}
+
+fn tally(table: &[u16], rows: u16) -> usize
+    ensures { λ r. ⌜ r ≡ tallyOf (now (table .entry)) rows ⌝ }
+{
+    let end = rows as usize;
+    let mut sum: usize = 0;
+    let mut row: usize = 0;
+    while row < end {
+        let opened = rows::cell(table, OWNERS, row) as usize;
+        let owner = rows::cell(table, KINDS, opened);
+        let kind = rows::cell(table, KINDS, row);
+        sum += number(owner, kind);
+        row += 1;
+    }
+    sum
+}
+
+pub(crate) fn head(table: &[u16], rows: u16, items: u16, area: &mut [u8], at: usize) -> usize
+    ensures { λ r. ⌜ Wrote (now (area .entry)) at (now (area .exit)) r (pair 32 (3 * rows + items) (tallyOf (now (table .entry)) rows)) ⌝ }
+{
+    let transitions = tally(table, rows);
+    records::pair(
+        area,
+        at,
+        HEAD,
+        3 * (rows as usize) + (items as usize),
+        transitions,
+    )
+}
