@@ -10,7 +10,6 @@ ghost use Rattle.diagram_file.specs.Fields.{useFine, functionRight, func
 ghost use Rattle.diagram_file.specs.Reading.{column, putRow, fillRow, ItemsRead, RowsRead, Recorded};
 use crate::Diagram;
 
-
 // Where reading stopped, and the fault of the record there, 0 for none.
 pub struct Reached {
     pub fault: u16,

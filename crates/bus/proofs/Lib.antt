@@ -1,0 +1,4 @@
+pub mod Written
+pub mod Judged
+pub mod Ends
+pub mod Withheld

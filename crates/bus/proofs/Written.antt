@@ -1,0 +1,28 @@
+-- Six stores into the first bytes of an area are a telegram there.
+use Prim.Native.Nat.{ℕ, zero, suc, _+_, _*_, _/_, _%_, _≤_, _<_}
+use mathlib.Core.Path.{_≡_, refl, sym, _∙_, ap}
+use mathlib.Core.List.{List, [], _∷_, _++_}
+use native.Mathlib.Omega.{arith}
+use lib.ListN.{length, getD, drop, set}
+use lib.Seq.{drop-cons}
+use Rattle.effbd.specs.BusEnds.{telegram}
+use Rattle.words.specs.Stores.{wordPut, longPut}
+
+-- n elements of a list written out, then the rest
+spelled : ℕ → ℕ → List ℕ → List ℕ
+spelled zero at l = drop at l
+spelled (suc n) at l = getD l at 0 ∷ spelled n (suc at) l
+
+spell : (n at : ℕ) (l : List ℕ) → at + n ≤ length l → drop at l ≡ spelled n at l
+unfolding spelled
+spell zero at l h = refl
+spell (suc n) at l h = drop-cons l at 0 (omega arith) ∙ ap (λ (x : List ℕ). getD l at 0 ∷ x) (spell n (suc at) l (omega arith))
+
+abbrev pub stored : (area : List ℕ) (number station code argument : ℕ) → List ℕ
+stored area number station code argument = wordPut (wordPut (wordPut (longPut (wordPut (wordPut area 0 14) 2 48) 4 number) 8 station) 10 code) 12 argument
+
+pub written : (area : List ℕ) (number station code argument : ℕ) → 14 ≤ length area
+    → stored area number station code argument ≡ telegram number station code argument ++ drop 14 area
+unfolding spelled telegram
+written area number station code argument h =
+    ap (λ (l : List ℕ). stored l number station code argument) (spell 14 0 area h)

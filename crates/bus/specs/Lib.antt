@@ -1,0 +1,2 @@
+pub mod Telegrams
+pub mod Demand

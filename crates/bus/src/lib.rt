@@ -1,0 +1,150 @@
+// Both ends of the bus.
+ghost use mathlib.Core.Path.{_≡_};
+ghost use mathlib.Core.List.{_++_};
+ghost use Prim.Native.Nat.{_≤_, _<_};
+ghost use lib.ListN.{length, drop};
+ghost use Rattle.effbd.specs.Answers.{said, returningZero, afterwards};
+ghost use Rattle.effbd.specs.Firing.{stepNet};
+ghost use Rattle.effbd.specs.Moves.{stepDiagram};
+ghost use Rattle.effbd.specs.BusEnds.{telegram as telegramOf, offered, taken};
+ghost use Rattle.bus.specs.Telegrams.{judged, counted, withheld};
+use effbd::Answer;
+
+// Writes a telegram into the first 14 bytes of an area.
+fn write_telegram(area: &mut [u8], number: u32, station: u16, code: u16, argument: u16)
+    requires { ⌜ 14 ≤ length (now area) ⌝ }
+    ensures { λ _. ⌜ now (area .exit) ≡ telegramOf number station code argument ++ drop 14 (now (area .entry)) ⌝ }
+{
+    words::put_word(area, 0, 14);
+    words::put_word(area, 2, 48);
+    words::put_long(area, 4, number);
+    words::put_word(area, 8, station);
+    words::put_word(area, 10, code);
+    words::put_word(area, 12, argument);
+}
+
+// Whether bytes are the telegram that is due after `count` of them: accepted with its number, or 30 to 33.
+fn judge(bytes: &[u8], count: u32, station: u16) -> Answer
+    ensures { λ r. ⌜ said r ≡ judged count station (now (bytes .entry)) ⌝ }
+{
+    if bytes.len() != 14 {
+        return Answer::Refused(30, 0);
+    }
+    if words::word(bytes, 0) != 14 {
+        return Answer::Refused(30, 0);
+    }
+    if words::word(bytes, 2) != 48 {
+        return Answer::Refused(30, 0);
+    }
+    let from = words::word(bytes, 8);
+    if from != station {
+        return Answer::Refused(31, from as u32);
+    }
+    let number = words::long(bytes, 4);
+    if number <= count {
+        return Answer::Refused(32, count);
+    }
+    if number - count > 1 {
+        return Answer::Refused(33, count);
+    }
+    Answer::Accepted(number)
+}
+
+// The leader's call: a move that is accepted is written as a telegram, numbered with the new count, into the first 14 bytes of the area.
+pub fn offer(
+    file: &[u8],
+    state: &mut [u16],
+    count: u32,
+    station: u16,
+    code: u16,
+    argument: u16,
+    area: &mut [u8],
+) -> Answer
+    ensures { λ r. ⌜ said r ≡ offered (now (file .entry)) (now (state .entry)) count station code argument (now (area .entry)) .answer ⌝ }
+    ensures { λ _. ⌜ now (state .exit) ≡ offered (now (file .entry)) (now (state .entry)) count station code argument (now (area .entry)) .state ⌝ }
+    ensures { λ _. ⌜ now (area .exit) ≡ offered (now (file .entry)) (now (state .entry)) count station code argument (now (area .entry)) .area ⌝ }
+{
+    if count == 4294967295 {
+        return withhold(file, state, code, argument, 27, count);
+    }
+    if area.len() < 14 {
+        return withhold(file, state, code, argument, 10, 14);
+    }
+    let answer = diagram_step::step(file, state, code, argument);
+    match answer {
+        Answer::Refused(number, value) => Answer::Refused(number, value),
+        Answer::Accepted(_) => {
+            write_telegram(area, count + 1, station, code, argument);
+            Answer::Accepted(count + 1)
+        }
+    }
+}
+
+// The refusal of an offer that 27 or 10 stands against: the move's own, or that one. The move is tried on a copy of the state;
+// a state of more than 208 words is no diagram's, so that its step is refused.
+fn withhold(
+    file: &[u8],
+    state: &mut [u16],
+    code: u16,
+    argument: u16,
+    number: u16,
+    value: u32,
+) -> Answer
+    ensures { λ r. ⌜ said r ≡ withheld number value (stepDiagram (now (file .entry)) code argument (now (state .entry))) ⌝ }
+    ensures { λ _. ⌜ now (state .exit) ≡ now (state .entry) ⌝ }
+{
+    let length = state.len();
+    if 208 < length {
+        return diagram_step::step(file, state, code, argument);
+    }
+    let mut copy = [0u16; 208];
+    let answer = step_copy(file, &mut copy[0..length], state, code, argument);
+    refused_as(answer, number, value)
+}
+
+// What a step of the state is answered, tried on a copy as long.
+fn step_copy(file: &[u8], copy: &mut [u16], state: &[u16], code: u16, argument: u16) -> Answer
+    requires { ⌜ length (now copy) ≡ length (now state) ⌝ }
+    ensures { λ r. ⌜ said r ≡ returningZero (stepDiagram (now (file .entry)) code argument (now (state .entry))) ⌝ }
+{
+    words::copy(copy, state);
+    diagram_step::step(file, copy, code, argument)
+}
+
+// A refusal as it is; of an accepted move the refusal given.
+fn refused_as(answer: Answer, number: u16, value: u32) -> Answer
+    ensures { λ r. ⌜ said r ≡ withheld number value (said answer) ⌝ }
+{
+    match answer {
+        Answer::Refused(n, v) => Answer::Refused(n, v),
+        Answer::Accepted(_) => Answer::Refused(number, value),
+    }
+}
+
+// The follower's call: bytes that came over the bus. Accepted with the new count, the state stepped.
+pub fn take(net: &[u8], state: &mut [u16], count: u32, station: u16, telegram: &[u8]) -> Answer
+    ensures { λ r. ⌜ said r ≡ taken (now (net .entry)) (now (state .entry)) count station (now (telegram .entry)) .answer ⌝ }
+    ensures { λ _. ⌜ now (state .exit) ≡ taken (now (net .entry)) (now (state .entry)) count station (now (telegram .entry)) .state ⌝ }
+{
+    let judgement = judge(telegram, count, station);
+    match judgement {
+        Answer::Refused(number, value) => Answer::Refused(number, value),
+        Answer::Accepted(next) => {
+            let code = words::word(telegram, 10);
+            let argument = words::word(telegram, 12);
+            follow(net, state, next, code, argument)
+        }
+    }
+}
+
+// Steps the net; accepted with the count given.
+fn follow(net: &[u8], state: &mut [u16], next: u32, code: u16, argument: u16) -> Answer
+    ensures { λ r. ⌜ said r ≡ counted next (stepNet (now (net .entry)) code argument (now (state .entry))) ⌝ }
+    ensures { λ _. ⌜ now (state .exit) ≡ afterwards (now (state .entry)) (stepNet (now (net .entry)) code argument (now (state .entry))) ⌝ }
+{
+    let answer = net_step::step(net, state, code, argument);
+    match answer {
+        Answer::Accepted(_) => Answer::Accepted(next),
+        Answer::Refused(number, value) => Answer::Refused(number, value),
+    }
+}
