@@ -17,7 +17,7 @@ fn done_at(table: &[u16], state: &[u16], owner: u32, row: u32) -> bool
 }
 
 // The BRANCH rows of the construct that row `owner` opens are done, all that stand before row `end`.
-pub fn all_done(table: &[u16], state: &[u16], owner: u32, end: u32) -> bool
+pub(crate) fn all_done(table: &[u16], state: &[u16], owner: u32, end: u32) -> bool
     ensures { λ r. ⌜ r ≡ allDoneTo (now (table .entry)) (now (state .entry)) owner end ⌝ }
 {
     for row in owner..end {
@@ -100,7 +100,7 @@ fn and_close(table: &[u16], rows: u32, items: u32, file: &[u8], state: &[u16], r
 }
 
 // The step of a row, by its kind.
-pub fn row_step(
+pub(crate) fn row_step(
     table: &[u16],
     rows: u32,
     items: u32,

@@ -75,7 +75,14 @@ fn unheld(table: &[u16], rows: u32, items: u32, file: &[u8], state: &[u16], tick
     true
 }
 
-pub fn wait(table: &[u16], rows: u32, items: u32, file: &[u8], state: &[u16], ticks: u16) -> Answer
+pub(crate) fn wait(
+    table: &[u16],
+    rows: u32,
+    items: u32,
+    file: &[u8],
+    state: &[u16],
+    ticks: u16,
+) -> Answer
     ensures { λ r. ⌜ said r ≡ waitVerdict (now (table .entry)) rows items (now (file .entry)) (now (state .entry)) ticks ⌝ }
 {
     if ticks == 0 {

@@ -95,6 +95,7 @@ abbrev pub outcomeOf : (verdict : Outcome ℕ) (words : List ℕ) → Outcome (L
 outcomeOf (accepted value) words = accepted words
 outcomeOf (refused number value) words = refused number value
 
+-- a whole move over the table: decided, then written
 unfoldable pub tableOutcome : (table : List ℕ) (rows items : ℕ) (file words : List ℕ) (code argument : ℕ) → Outcome (List ℕ)
 tableOutcome table rows items file words code argument =
     outcomeOf (moveVerdict table rows items file words code argument) (moveChange table rows file code argument words)

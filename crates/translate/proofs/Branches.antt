@@ -1,14 +1,14 @@
 -- An AND's gives: entering the rows behind its BRANCH rows marks places that rise with them.
-use Prim.Native.Nat.{ℕ, zero, suc, _+_, _≤_, _<_}
+use Prim.Native.Nat.{ℕ, zero, suc, _≤_, _<_}
 use mathlib.Core.Path.{_≡_, refl, ap, sym, _∙_}
-use mathlib.Core.Logic.{_≢_, _⊎_, inl, inr}
+use mathlib.Core.Logic.{_⊎_, inl, inr}
 use mathlib.Core.Bool.{Bool, true, false, not, cond, _&&_}
-use mathlib.Core.List.{List, [], _∷_, _++_, append-assoc, append-nil}
+use mathlib.Core.List.{[], _++_, append-assoc, append-nil}
 use native.Mathlib.Omega.{arith}
 use lib.Dec.{eqb}
 use borrow.Author.Tests.{eqb-true, eq-eqb, ne-eqb}
 use Rattle.effbd.specs.Ranges.{allBelow, only}
-use Rattle.agreement.specs.Basics.{decide, clash, all-intro, all-fail, and-left, and-right, only-refl, not-not}
+use Rattle.agreement.specs.Basics.{decide, clash, all-intro, all-fail, and-left, and-right, only-refl}
 use Rattle.translate.specs.Writing.{Records, runs}
 
 -- a set of numbers below n and, for each, itself or the number behind it, which then is not in the set

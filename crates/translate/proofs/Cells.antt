@@ -1,8 +1,8 @@
 -- What a table says of the diagram that it holds.
-use Prim.Native.Nat.{ℕ, zero, suc, _+_, _*_, _≤_, _<_}
-use mathlib.Core.Path.{_≡_, refl, ap, sym, _∙_, subst}
+use Prim.Native.Nat.{ℕ, suc, _+_, _*_, _<_}
+use mathlib.Core.Path.{_≡_, refl, ap, _∙_}
 use mathlib.Core.Logic.{_≢_}
-use mathlib.Core.Bool.{Bool, true, false, cond, _&&_}
+use mathlib.Core.Bool.{Bool, true, false, cond}
 use mathlib.Core.List.{List}
 use native.Mathlib.Omega.{arith}
 use native.Mathlib.Numerals.{add-one}
@@ -12,7 +12,6 @@ use lib.Dec.{eqb}
 use Rattle.effbd.specs.Diagrams.{Kind, function, and-open, branch, and-close, or-open, or-close, it-open, it-close, lp-open, lp-close, loop-exit, end, Diagram, numberOf, rowCount, kind, isKind}
 use Rattle.effbd.specs.Nesting.{owner, branchEnded, close, branchOf}
 use Rattle.effbd.specs.States.{enteredAs, enteredRow}
-use Rattle.agreement.specs.Basics.{decide}
 use Rattle.agreement.specs.AcceptedFiles.{Held}
 use Rattle.diagram_file.specs.Tables.{Holds}
 use Rattle.translate.specs.Rows.{kinds, owners, latests, closes, cell, entered, entry, isBranchOf}

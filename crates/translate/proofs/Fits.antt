@@ -1,19 +1,18 @@
 -- Where a net fits, the area holds its bytes and the next offset is their number; the answer and the area that a translation leaves.
-use Prim.Native.Nat.{ℕ, zero, suc, _+_, _≤_, _<_}
+use Prim.Native.Nat.{ℕ, suc, _+_, _≤_, _<_}
 use mathlib.Core.Path.{_≡_, refl, ap, ap₂, sym, _∙_}
 use mathlib.Core.Logic.{_≢_}
-use mathlib.Core.Bool.{Bool, true, false, cond}
+use mathlib.Core.Bool.{true}
 use mathlib.Core.List.{List, [], _∷_, _++_}
 use native.Mathlib.Omega.{arith}
 use native.Mathlib.Nat.{zero-add}
 use lib.ListN.{length, getD, drop, length-append}
 use lib.Seq.{sets, sets-eq}
-use lib.Dec.{ltb}
 use borrow.Author.Tests.{le-leb, lt-ltb, le-ltb}
 use Rattle.effbd.specs.Answers.{Outcome, accepted, refused}
 use Rattle.effbd.specs.Records.{areBytes}
 use Rattle.effbd.specs.Nets.{netBytes}
-use Rattle.effbd.specs.Patterns.{netOf, Translated, written, translatedAs, translated}
+use Rattle.effbd.specs.Patterns.{netOf, translatedAs, translated}
 use Rattle.agreement.specs.Basics.{and-intro}
 use Rattle.agreement.specs.AcceptedFiles.{Held, held}
 use Rattle.effbd.specs.Diagrams.{Diagram as Read}

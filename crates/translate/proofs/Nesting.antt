@@ -1,8 +1,8 @@
 -- Rows of an accepted nesting: the row behind one that is no END, what entering a row changes, where a construct's BRANCH rows stand.
 use Prim.Native.Nat.{ℕ, zero, suc, _+_, _-_, _≤_, _<_}
-use mathlib.Core.Path.{_≡_, refl, ap, sym, _∙_, subst}
+use mathlib.Core.Path.{_≡_, refl, sym, subst}
 use mathlib.Core.Logic.{_≢_, _⊎_, inl, inr}
-use mathlib.Core.Bool.{Bool, true, false, _&&_, _||_}
+use mathlib.Core.Bool.{Bool, true, false, _||_}
 use mathlib.Core.List.{List, [], _∷_}
 use native.Mathlib.Omega.{arith}
 use native.Mathlib.Nat.{add-zero, add-suc}
@@ -12,7 +12,7 @@ use Rattle.effbd.specs.Ranges.{allBelow}
 use Rattle.effbd.specs.Diagrams.{Kind, function, and-open, branch, and-close, or-open, or-close, it-open, it-close, lp-open, lp-close, loop-exit, end, Diagram, rowCount, kind, isKind, sameKind}
 use Rattle.effbd.specs.Nesting.{Frame, turnTo, pop, passing, innermostOpen, latestBranch, stack, owner, branchEnded, isClose, close, inAndOr}
 use Rattle.effbd.specs.States.{enteredAs, enteredRow}
-use Rattle.agreement.specs.Basics.{all-elim, and-left, and-right, clash, decide, kind-in, not-kind, same-eq, eq-same, or-split, or-left, or-right}
+use Rattle.agreement.specs.Basics.{all-elim, and-left, and-right, clash, decide, kind-in, not-kind, same-eq, or-split, or-left, or-right}
 use Rattle.agreement.specs.Nested.{mayStand, wellNested}
 use Rattle.agreement.specs.Structure.{Laws, opens}
 use Rattle.agreement.specs.AcceptedFiles.{AllOf}

@@ -1,15 +1,13 @@
 -- THEOREM (net-is): the records over the table are the bytes of the diagram's net.
 use Prim.Native.Nat.{ℕ, zero, suc, _+_, _*_, _%_, _≤_, _<_, zero-le}
-use mathlib.Core.Path.{_≡_, refl, ap, ap₂, sym, _∙_, subst}
-use mathlib.Core.Bool.{Bool, true, false, cond}
+use mathlib.Core.Path.{_≡_, refl, ap, ap₂, sym, _∙_}
+use mathlib.Core.Bool.{cond}
 use mathlib.Core.List.{List, [], _∷_, _++_, map, map-append, append-assoc}
 use native.Mathlib.Omega.{arith}
 use lib.ListN.{length, getD, length-append}
-use lib.Dec.{eqb}
-use Rattle.effbd.specs.Records.{wordBytes}
 use Rattle.effbd.specs.Ranges.{only, tabulate}
 use Rattle.effbd.specs.Diagrams.{Kind, function, and-open, branch, and-close, or-open, or-close, it-open, it-close, lp-open, lp-close, loop-exit, end, Diagram, numberOf, rowCount, countTotal, kind, isKind, turnLimit}
-use Rattle.effbd.specs.Layout.{Place, places, placeOf}
+use Rattle.effbd.specs.Layout.{places, placeOf}
 use Rattle.effbd.specs.Nesting.{owner}
 use Rattle.effbd.specs.States.{enteredRow}
 use Rattle.effbd.specs.Nets.{Arc, Transition, Net, takeArc, giveArc, arcBytes, transitionBytes, markBytes, netBytes}
@@ -20,7 +18,7 @@ use Rattle.agreement.specs.Numbering.{length-tab, length-map}
 use Rattle.agreement.specs.NetSteps.{many-marks}
 use Rattle.diagram_file.specs.Tables.{Holds, HoldsUses}
 use Rattle.translate.specs.Writing.{Records, encode, flat, runs}
-use Rattle.translate.specs.Rows.{kinds, owners, cell, entered, pair, transition, rowRecords}
+use Rattle.translate.specs.Rows.{entered, pair, transition, rowRecords}
 use Rattle.translate.specs.Whole.{mark, token, remaining, rowMarks, itemMark, numberAs, tally, netRecords}
 use Rattle.translate.proofs.Runs.{runs-same, runs-front}
 use Rattle.translate.proofs.Weights.{arcRecord, arcs-run, weights, by-rows}

@@ -1,16 +1,15 @@
 -- The clear ranges of a test: none where nothing passes, one where exactly the places of a range pass.
 use Prim.Native.Nat.{ℕ, zero, suc, _+_, _*_, _/_, _%_, _≤_, _<_}
-use mathlib.Core.Path.{_≡_, refl, ap, sym, _∙_}
-use mathlib.Core.Bool.{Bool, true, false, cond, _&&_}
-use mathlib.Core.List.{List, [], _∷_}
+use mathlib.Core.Path.{_≡_, refl, ap, _∙_}
+use mathlib.Core.Bool.{Bool, false, _&&_}
+use mathlib.Core.List.{[], _∷_}
 use native.Mathlib.Omega.{arith}
 use lib.Dec.{leb, ltb, eqb}
 use borrow.Author.Tests.{leb-true, leb-false, le-leb, lt-leb, eqb-true, eqb-false, eq-eqb, ltb-true, ltb-false}
 use Rattle.effbd.specs.Ranges.{within}
-use Rattle.effbd.specs.Diagrams.{Diagram, rowCount, countTotal}
-use Rattle.effbd.specs.Layout.{P, Q, R, Count, byPlace, places, placeOf}
-use Rattle.effbd.specs.Nets.{Arc}
-use Rattle.effbd.specs.Patterns.{clearRange, joinRange, rangesFrom, nowhere, clearsRows}
+use Rattle.effbd.specs.Diagrams.{Diagram, rowCount}
+use Rattle.effbd.specs.Layout.{places, placeOf}
+use Rattle.effbd.specs.Patterns.{clearRange, rangesFrom, nowhere, clearsRows}
 use Rattle.agreement.specs.Basics.{decide}
 
 pub ranges-none : (f : ℕ → Bool) (n p : ℕ) → ((i : ℕ) → p ≤ i → i < p + n → f i ≡ false) → rangesFrom n p f ≡ []

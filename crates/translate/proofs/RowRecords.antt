@@ -1,34 +1,32 @@
 -- THEOREM (row-is): the records of a row over the table are those of its patterns.
-use Prim.Native.Nat.{ℕ, zero, suc, _+_, _*_, _-_, _%_, _≤_, _<_}
+use Prim.Native.Nat.{ℕ, suc, _+_, _*_, _-_, _%_, _≤_, _<_}
 use mathlib.Core.Path.{_≡_, refl, ap, ap₂, sym, _∙_, subst}
 use mathlib.Core.Logic.{_≢_, _⊎_, inl, inr}
-use mathlib.Core.Bool.{Bool, true, false, not, cond, _&&_}
+use mathlib.Core.Bool.{Bool, true, false, cond}
 use mathlib.Core.List.{List, [], _∷_, _++_, map, append-assoc, append-nil}
 use native.Mathlib.Omega.{arith}
-use native.Mathlib.Numerals.{add-one}
-use lib.ListN.{drop}
 use lib.Dec.{leb, eqb}
-use borrow.Author.Tests.{leb-true, leb-false, le-leb, lt-leb, eqb-true, ne-eqb}
+use borrow.Author.Tests.{leb-false, le-leb, lt-leb, eqb-true, ne-eqb}
 use Rattle.effbd.specs.Records.{word}
 use Rattle.effbd.specs.Ranges.{only, within}
-use Rattle.effbd.specs.Diagrams.{Kind, function, and-open, branch, and-close, or-open, or-close, it-open, it-close, lp-open, lp-close, loop-exit, end, Diagram, Use, numberOf, rowCount, countTotal, row, kind, isKind, sameKind, turnLimit, takeOf, giveOf, takes, gives, usesAt, usesFine, rowFine, rowFineAs}
+use Rattle.effbd.specs.Diagrams.{Kind, function, and-open, branch, and-close, or-open, or-close, it-open, it-close, lp-open, lp-close, loop-exit, end, Diagram, Use, numberOf, rowCount, countTotal, row, kind, isKind, turnLimit, takeOf, giveOf, takes, gives, usesFine, rowFine, rowFineAs}
 use Rattle.effbd.specs.Layout.{Place, byPlace, places, placeOf}
 use Rattle.effbd.specs.Nesting.{owner, close, loop, inLoop, branchOf}
 use Rattle.effbd.specs.States.{enteredRow, branchEntries}
 use Rattle.effbd.specs.Nets.{takeArc, clearArc, giveArc}
 use Rattle.effbd.specs.Patterns.{Pattern, none, oneAt, weightOf, nowhere, atOnce, marksP, clearsRows, restoresR, patternsAs, rangesFrom}
-use Rattle.agreement.specs.Basics.{decide, clash, and-left, and-right, only-refl, same-eq, eq-same, not-kind, kind-in}
+use Rattle.agreement.specs.Basics.{decide, clash, and-left, and-right, only-refl, same-eq, not-kind}
 use Rattle.agreement.specs.AcceptedFiles.{Held}
 use Rattle.agreement.specs.Structure.{Laws, opens}
 use Rattle.agreement.specs.NestingLaws.{laws}
 use Rattle.diagram_file.specs.Tables.{Holds, HoldsUses}
 use Rattle.translate.specs.Writing.{Records, runs, span}
-use Rattle.translate.specs.Rows.{kinds, firsts, seconds, usesOffsets, usesNumbers, owners, closes, loops, cell, entered, entry, transition, pair, arc, token, useArc, useArcs, functionStart, functionEnd, isBranchOf, branchPlace, branchArc, branchArcs, andOpen, andClose, early, late, itTurn, itOpen, restore, leave, loopExit, branchToken, onward, back, rowAs, rowRecords}
+use Rattle.translate.specs.Rows.{firsts, seconds, usesOffsets, usesNumbers, loops, cell, transition, pair, arc, token, useArc, useArcs, functionStart, functionEnd, isBranchOf, branchPlace, branchArc, branchArcs, andOpen, andClose, early, late, itTurn, itOpen, restore, leave, loopExit, branchToken, onward, back, rowAs, rowRecords}
 use Rattle.translate.proofs.Runs.{runs-same, runs-span}
-use Rattle.translate.proofs.Weights.{arcRecord, arc-none, rowArcs, weights, countArcs, count-none, at-P, mark-P, mark-Q, mark-each, entry-among, it-gives}
+use Rattle.translate.proofs.Weights.{arcRecord, arc-none, weights, countArcs, count-none, at-P, mark-P, mark-Q, mark-each, entry-among, it-gives}
 use Rattle.translate.proofs.Ranges.{rows-range, no-range}
 use Rattle.translate.proofs.Uses.{uses-read}
-use Rattle.translate.proofs.Nesting.{next-row, close-next, behind-branch, branch-inside}
+use Rattle.translate.proofs.Nesting.{close-next, behind-branch, branch-inside}
 use Rattle.translate.proofs.Branches.{images}
 use Rattle.translate.proofs.Cells.{in-rows, kind-cell, owner-cell, owner-kind, close-cell, entry-cell, branch-cell, next-entry, entered-row, next-entered}
 
@@ -68,7 +66,7 @@ module _ (d : Diagram) (rows items : ℕ) (table file : List ℕ) (h : Holds d r
   law : Laws d
   law = laws d (held .acc)
 
-  uses-fine : (r : ℕ) → kind d r ≡ function → usesFine (countTotal d) 0 (row d r .uses) ≡ true
+  pub uses-fine : (r : ℕ) → kind d r ≡ function → usesFine (countTotal d) 0 (row d r .uses) ≡ true
   uses-fine r e = and-right (leb (row d r .first) (row d r .second)) _ (subst (λ k. rowFineAs k (countTotal d) (row d r) ≡ true) e (unfold rowFine in held .each r .fine))
 
   -- the takes or gives of a FUNCTION's uses

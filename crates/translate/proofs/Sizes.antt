@@ -1,24 +1,23 @@
 -- THEOREM (net-small): no diagram's net has more than 65,535 bytes.
 use Prim.Native.Nat.{ℕ, zero, suc, _+_, _-_, _*_, _≤_, _<_, zero-le}
-use mathlib.Core.Path.{_≡_, refl, ap, sym, _∙_, subst}
-use mathlib.Core.Bool.{Bool, true, false, not, cond, _&&_}
-use mathlib.Core.List.{List, [], _∷_, _++_}
+use mathlib.Core.Path.{_≡_, refl, subst}
+use mathlib.Core.Bool.{Bool, true, false, cond}
+use mathlib.Core.List.{List, [], _++_}
 use native.Mathlib.Omega.{arith}
 use lib.ListN.{length, length-append}
-use lib.Dec.{leb, ltb, eqb}
-use borrow.Author.Tests.{leb-true, ltb-true}
-use Rattle.effbd.specs.Diagrams.{Kind, function, and-open, branch, and-close, or-open, or-close, it-open, it-close, lp-open, lp-close, loop-exit, end, Diagram, Use, numberOf, rowCount, countTotal, row, kind, usesFine, rowFine, rowFineAs}
-use Rattle.effbd.specs.Nesting.{close, owner, loop}
+use lib.Dec.{eqb}
+use Rattle.effbd.specs.Diagrams.{Kind, function, and-open, branch, and-close, or-open, or-close, it-open, it-close, lp-open, lp-close, loop-exit, end, Diagram, numberOf, rowCount, countTotal, row, kind}
+use Rattle.effbd.specs.Nesting.{owner, loop}
 use Rattle.effbd.specs.Nets.{takeArc, clearArc, giveArc, netBytes}
 use Rattle.effbd.specs.Patterns.{netOf}
-use Rattle.agreement.specs.Basics.{and-left, and-right}
 use Rattle.agreement.specs.AcceptedFiles.{Held}
-use Rattle.agreement.specs.Structure.{Laws}
 use Rattle.agreement.specs.NestingLaws.{laws}
 use Rattle.diagram_file.specs.Tables.{Holds, HoldsUses}
 use Rattle.translate.specs.Writing.{Records, encode, flat, runs, span}
-use Rattle.translate.specs.Rows.{kinds, usesNumbers, owners, closes, loops, cell, entered, entry, transition, pair, arc, token, useArc, useArcs, functionStart, functionEnd, isBranchOf, branchArc, branchArcs, andOpen, andClose, itTurn, itOpen, restore, leave, loopExit, branchToken, onward, back, rowAs, rowRecords}
+use Rattle.translate.specs.Rows.{kinds, usesNumbers, owners, closes, loops, cell, entered, transition, pair, arc, token, useArc, useArcs, functionStart, functionEnd, isBranchOf, branchArc, branchArcs, andOpen, andClose, itTurn, itOpen, restore, leave, loopExit, branchToken, onward, back, rowAs, rowRecords}
 use Rattle.translate.specs.Whole.{mark, rowMarks, itemMark, netRecords}
+use Rattle.translate.proofs.Uses.{uses-few}
+use Rattle.translate.proofs.RowRecords.{uses-fine}
 use Rattle.translate.proofs.NetRecords.{flat-append, net-is}
 use Rattle.translate.proofs.Nesting.{close-next}
 use Rattle.translate.proofs.Cells.{in-rows, kind-cell, owner-cell, close-cell}
@@ -68,16 +67,6 @@ turn-small : (r p q w t : ℕ) → Small (itTurn r p q w t) 50
 unfolding itTurn
 turn-small r p q w t = transition-small r 0 0 then arc-small takeArc (3 * r) 1 then arc-small takeArc p w then arc-small giveArc t _ then arc-small giveArc q w then arc-small giveArc t _
 
--- rising item numbers are no more than items
-uses-few : (us : List Use) (M from : ℕ) → usesFine M from us ≡ true → length us ≤ M - from
-unfolding usesFine
-uses-few [] M from h = zero-le
-uses-few (x ∷ us) M from h =
-    let a = and-right (leb from (x .item)) _ h in let b = and-right (ltb (x .item) M) _ a in
-    let low = leb-true from (x .item) (and-left (leb from (x .item)) _ h) in
-    let high = ltb-true (x .item) M (and-left (ltb (x .item) M) _ a) in
-    let i = uses-few us M (suc (x .item)) (and-right (not (eqb (x .take + x .give) 0)) _ b) in omega arith
-
 module _ (table file : List ℕ) (rows : ℕ) where
   uses-small : (r k j n : ℕ) → cell table usesNumbers r ≤ n → Small (useArcs table file rows r k j) (n * 8)
   unfolding useArcs useArc
@@ -113,10 +102,7 @@ module _ (table file : List ℕ) (rows : ℕ) where
 module _ (d : Diagram) (rows items : ℕ) (table file : List ℕ) (h : Holds d rows items table) (u : HoldsUses file d table) (held : Held d) where
   rowSmall : (k : Kind) (r : ℕ) → r < rowCount d → kind d r ≡ k → Small (rowAs table file rows r (numberOf k)) 554
   unfolding rowAs andOpen andClose branchToken onward back itOpen loopExit
-  rowSmall function r l e = function-small table file rows r (rw (h .numbers r (in-rows d rows items table h r l)) (let a = uses-few (row d r .uses) (countTotal d) 0 fine in let b = held .items in omega arith))
-    where
-      fine : usesFine (countTotal d) 0 (row d r .uses) ≡ true
-      fine = and-right (leb (row d r .first) (row d r .second)) _ (subst (λ k. rowFineAs k (countTotal d) (row d r) ≡ true) e (unfold rowFine in held .each r .fine))
+  rowSmall function r l e = function-small table file rows r (rw (h .numbers r (in-rows d rows items table h r l)) (let a = uses-few (row d r .uses) (countTotal d) 0 (uses-fine d rows items table file h u held r e) in let b = held .items in omega arith))
   rowSmall and-open r l e = more (omega arith) (transition-small r 0 0 then arc-small takeArc (3 * r) 1 then branches-small table file rows r giveArc (rw (close-cell d rows items table h r l) (let a = h .closeLow r in let b = h .fewRows in omega arith)))
   rowSmall branch r l e = either (eqb (cell table kinds (cell table owners r)) 20) (more (omega arith) (token-small r _ _)) (more zero-le none-small)
   rowSmall and-close r l e = more (omega arith) (transition-small r 0 0 then branches-small table file rows (cell table owners r) takeArc

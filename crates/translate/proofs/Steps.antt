@@ -1,13 +1,11 @@
 -- What the functions' branches and turns have computed, as the records over the table.
-use Prim.Native.Nat.{ℕ, suc, _+_, _*_}
-use mathlib.Core.Path.{_≡_, refl, ap, sym, _∙_}
-use mathlib.Core.Bool.{Bool, true, false, cond}
-use mathlib.Core.List.{List, [], _∷_, _++_}
+use Prim.Native.Nat.{ℕ, _+_, _*_}
+use mathlib.Core.Path.{_≡_}
+use mathlib.Core.List.{List, []}
 use native.Mathlib.Numerals.{add-one}
 use lib.Dec.{eqb}
-use borrow.Author.Tests.{eq-eqb, ne-eqb}
+use borrow.Author.Tests.{ne-eqb}
 use Rattle.effbd.specs.Records.{word}
-use Rattle.translate.specs.Writing.{Records}
 use Rattle.translate.specs.Rows.{kinds, firsts, usesOffsets, owners, latests, closes, loops, cell, entered, entry, arc, token, useArc, isBranchOf, itTurn, leave, loopExit, branchToken, rowAs}
 use Rattle.translate.specs.Whole.{numberAs, tally}
 

@@ -1,12 +1,11 @@
 -- The arcs of a row's uses: item numbers rise, so they stand in the order of the file.
-use Prim.Native.Nat.{ℕ, zero, suc, _+_, _*_, _≤_, _<_}
+use Prim.Native.Nat.{ℕ, zero, suc, _+_, _-_, _*_, _≤_, _<_, zero-le}
 use mathlib.Core.Path.{_≡_, refl, ap, ap₂, sym, _∙_}
-use mathlib.Core.Logic.{_≢_}
-use mathlib.Core.Bool.{Bool, true, false, not, cond, _&&_}
+use mathlib.Core.Bool.{true, not, cond}
 use mathlib.Core.List.{List, [], _∷_, _++_, append-nil}
 use native.Mathlib.Omega.{arith}
 use native.Mathlib.Nat.{add-suc}
-use lib.ListN.{getD, drop}
+use lib.ListN.{length, drop}
 use lib.Seq.{getD-drop}
 use lib.Dec.{leb, ltb, eqb}
 use borrow.Author.Tests.{leb-true, ltb-true, eqb-true, ne-eqb, eq-eqb}
@@ -16,6 +15,26 @@ use Rattle.agreement.specs.Basics.{decide, and-left, and-right}
 use Rattle.translate.specs.Writing.{Records, runs}
 use Rattle.translate.proofs.Runs.{runs-same, runs-none, runs-front, runs-first}
 
+-- the first of uses whose item numbers rise from `from` on and stay below M
+pub record Rising (M from : ℕ) (u : Use) (us : List Use) : Type 0 where
+  pub low : from ≤ u .item
+  pub high : u .item < M
+  pub rest : usesFine M (suc (u .item)) us ≡ true
+
+pub rising : (M from : ℕ) (u : Use) (us : List Use) → usesFine M from (u ∷ us) ≡ true → Rising M from u us
+unfolding usesFine
+rising M from u us h =
+    let a = and-right (leb from (u .item)) _ h in let b = and-right (ltb (u .item) M) _ a in record {
+      low = leb-true from (u .item) (and-left (leb from (u .item)) _ h);
+      high = ltb-true (u .item) M (and-left (ltb (u .item) M) _ a);
+      rest = and-right (not (eqb (u .take + u .give) 0)) _ b;
+    }
+
+-- no more uses than items
+pub uses-few : (us : List Use) (M from : ℕ) → usesFine M from us ≡ true → length us ≤ M - from
+uses-few [] M from h = zero-le
+uses-few (u ∷ us) M from h = let f = rising M from u us h in let i = uses-few us M (suc (u .item)) (f .rest) in omega arith
+
 -- what `write` leaves for each use, and 0 leaves nothing; `field` is its take or its give, and `weight` what the uses weigh at a count
 module _ (write : ℕ → ℕ → Records) (field : Use → ℕ) where
   inOrder : List Use → Records
@@ -24,23 +43,9 @@ module _ (write : ℕ → ℕ → Records) (field : Use → ℕ) where
 
   module _ (nothing : (k : ℕ) → write k 0 ≡ []) (weight : List Use → ℕ → ℕ) (without : (k : ℕ) → weight [] k ≡ 0)
       (with : (u : Use) (us : List Use) (k : ℕ) → weight (u ∷ us) k ≡ cond (eqb (u .item) k) (field u) (weight us k)) (M : ℕ) where
-    record Fine (from : ℕ) (u : Use) (us : List Use) : Type 0 where
-      low : from ≤ u .item
-      high : u .item < M
-      rest : usesFine M (suc (u .item)) us ≡ true
-
-    fine : (from : ℕ) (u : Use) (us : List Use) → usesFine M from (u ∷ us) ≡ true → Fine from u us
-    unfolding usesFine
-    fine from u us h =
-        let a = and-right (leb from (u .item)) _ h in let b = and-right (ltb (u .item) M) _ a in record {
-          low = leb-true from (u .item) (and-left (leb from (u .item)) _ h);
-          high = ltb-true (u .item) M (and-left (ltb (u .item) M) _ a);
-          rest = and-right (not (eqb (u .take + u .give) 0)) _ b;
-        }
-
     below : (us : List Use) (from k : ℕ) → usesFine M from us ≡ true → k < from → weight us k ≡ 0
     below [] from k h l = without k
-    below (u ∷ us) from k h l = let f = fine from u us h in let a : from ≤ u .item = f .low in
+    below (u ∷ us) from k h l = let f = rising M from u us h in let a : from ≤ u .item = f .low in
         with u us k ∙ rw (ne-eqb (u .item) k (omega arith)) (below us (suc (u .item)) k (f .rest) (omega arith))
 
     by-count : (us : List Use) (from : ℕ) → usesFine M from us ≡ true → runs (λ k. write k (weight us k)) M ≡ inOrder us
@@ -51,8 +56,8 @@ module _ (write : ℕ → ℕ → Records) (field : Use → ℕ) where
         (λ k l. rw (below us (suc (u .item)) k (f .rest) (omega arith)) (nothing k))
         ∙ rw (eq-eqb (u .item) (u .item) refl, by-count us (suc (u .item)) (f .rest)))
       where
-        f : Fine from u us
-        f = fine from u us h
+        f : Rising M from u us
+        f = rising M from u us h
 
         own : ℕ → Records
         own k = write k (cond (eqb (u .item) k) (field u) 0)

@@ -1,12 +1,12 @@
 -- Writing in turn, and into the lent rest of an area.
-use Prim.Native.Nat.{ℕ, zero, suc, _+_, _-_, _*_, _≤_, _<_}
+use Prim.Native.Nat.{ℕ, suc, _+_, _-_, _*_, _≤_, _<_}
 use mathlib.Core.Path.{_≡_, refl, ap, sym, _∙_, subst}
 use mathlib.Core.Bool.{Bool, true, false, cond}
-use mathlib.Core.List.{List, [], _∷_, _++_, append-nil, append-assoc}
+use mathlib.Core.List.{List, [], _∷_, _++_, append-nil}
 use native.Mathlib.Numerals.{add-one}
 use native.Mathlib.Omega.{arith}
 use native.Mathlib.Nat.{le-of-eq, le-add-right, add-zero, add-suc}
-use lib.ListN.{length, getD, take, drop, set, length-append, length-take, length-set, take-append-drop, length-drop}
+use lib.ListN.{length, getD, take, drop, set, length-take, take-append-drop, length-drop}
 use lib.Seq.{sets, length-sets, take-suc, take-set-le, drop-set-add, take-all, set-out, drop-length}
 use borrow.Rule.Slice.PartMut.{putMid, midOf}
 use Rattle.words.specs.Stores.{wordPut}

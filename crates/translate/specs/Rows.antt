@@ -1,6 +1,6 @@
 -- The records of each row's transitions, in the order of the file, from a diagram's table and its file's bytes.
 -- Any words are a table: past its end a word is 0. Assumes nothing.
-use Prim.Native.Nat.{ℕ, _+_, _-_, _*_, _%_}
+use Prim.Native.Nat.{ℕ, _+_, _*_, _%_}
 use mathlib.Core.Bool.{Bool, cond, _&&_}
 use mathlib.Core.List.{List, [], _∷_, _++_}
 use lib.ListN.{getD}

@@ -27,13 +27,16 @@ fn write(table: &[u16], file: &[u8], rows: u16, items: u16, area: &mut [u8]) -> 
     ensures { λ r. ⌜ said r ≡ translated (now (file .entry)) (now (area .entry)) .answer ⌝ }
     ensures { λ _. ⌜ now (area .exit) ≡ translated (now (file .entry)) (now (area .entry)) .area ⌝ }
 {
+    let room = area.len();
     let mut nothing = [0u8; 1];
     let needed = put_net(table, file, rows, items, &mut nothing, 0);
-    if area.len() < needed {
-        return Answer::Refused(10, needed as u32);
+    if room < needed {
+        let value = needed as u32;
+        return Answer::Refused(10, value);
     }
-    let length = put_net(table, file, rows, items, area, 0);
-    Answer::Accepted(length as u32)
+    let written = put_net(table, file, rows, items, area, 0);
+    let length = written as u32;
+    Answer::Accepted(length)
 }
 
 // The net of a diagram file, written into the first bytes of the area: answers its length. A refused file's refusal, and 10 with

@@ -1,4 +1,3 @@
-use native.Mathlib.Omega.{arith}
 use Rattle.translate.proofs.Fits.{turned-away}
 use borrow.Author.Needs.{needs}
 use Rattle.translate.proofs.translate.Statement.{statement}

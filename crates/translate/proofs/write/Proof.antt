@@ -10,8 +10,8 @@ slice-aggregate-put-net c = search needs
 put-net-requires : tie.Need-put-net-requires
 put-net-requires c κs = search needs
 
-cast-t13 : tie.Need-cast-t13
-cast-t13 c = let a = c .before .before .before .before .before .before .before .args in
+cast-value : tie.Need-cast-value
+cast-value c = let a = c .before .before .before .before .before .before .before .args in
     let bytes = bytes-all (a .file .now) (λ i. omega (arith, c .before .before .before .before .before .shared-slice-known2 .given i)) in
     let small = measured (a .file .now) (a .rows) (a .items) (a .table .now) (c .before .before .before .before .before .before .before .pre) bytes (c .before .before .put-net .ensures) in omega arith
 
@@ -23,8 +23,8 @@ returns c = let a = c .before .before .before .before .before .before .before .a
 put-net-requires-2 : tie.Need-put-net-requires-2
 put-net-requires-2 c κs = search needs
 
-cast-t16 : tie.Need-cast-t16
-cast-t16 c = let a = c .before .before .before .before .before .before .before .before .before .before .before .args in
+cast-length : tie.Need-cast-length
+cast-length c = let a = c .before .before .before .before .before .before .before .before .before .before .before .args in
     let bytes = bytes-all (a .file .now) (λ i. omega (arith, c .before .before .before .before .before .before .before .before .before .shared-slice-known2 .given i)) in
     let small = measured (a .file .now) (a .rows) (a .items) (a .table .now) (c .before .before .before .before .before .before .before .before .before .before .before .pre) bytes (c .before .before .put-net2 .ensures) in omega arith
 
@@ -42,9 +42,9 @@ write-spec =
     (tie.spec
     slice-aggregate-put-net
     put-net-requires
-    cast-t13
+    cast-value
     returns
     put-net-requires-2
-    cast-t16
+    cast-length
     same-length
     returns-2)

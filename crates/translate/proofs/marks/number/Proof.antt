@@ -2,7 +2,6 @@ use mathlib.Core.Path.{refl, ap, sym}
 use borrow.Author.Tests.{eq-eqb, ne-eqb}
 use native.Mathlib.Omega.{arith}
 use Rattle.translate.specs.Whole.{numberAs}
-use borrow.Author.Needs.{needs}
 use Rattle.translate.proofs.marks.number.Statement.{statement}
 use Rattle.translate.proofs.marks.number.Tie as tie
 

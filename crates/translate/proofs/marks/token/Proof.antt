@@ -1,6 +1,5 @@
 use borrow.Author.Tests.{eq-eqb, ne-eqb}
 use Rattle.translate.specs.Whole.{token}
-use borrow.Author.Needs.{needs}
 use Rattle.translate.proofs.marks.token.Statement.{statement}
 use Rattle.translate.proofs.marks.token.Tie as tie
 

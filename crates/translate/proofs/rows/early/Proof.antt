@@ -1,6 +1,5 @@
 use borrow.Author.Tests.{le-leb, lt-leb}
 use Rattle.translate.specs.Rows.{early}
-use borrow.Author.Needs.{needs}
 use Rattle.translate.proofs.rows.early.Statement.{statement}
 use Rattle.translate.proofs.rows.early.Tie as tie
 

@@ -1,6 +1,5 @@
 use borrow.Author.Tests.{le-leb, lt-leb}
 use Rattle.translate.specs.Rows.{late}
-use borrow.Author.Needs.{needs}
 use Rattle.translate.proofs.rows.late.Statement.{statement}
 use Rattle.translate.proofs.rows.late.Tie as tie
 

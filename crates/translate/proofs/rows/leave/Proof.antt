@@ -1,4 +1,3 @@
-use Prim.Native.Nat.{ℕ}
 use mathlib.Core.Path.{ap}
 use Rattle.translate.specs.Rows.{arc, leave}
 use Rattle.translate.proofs.Writing.{and-then, same}

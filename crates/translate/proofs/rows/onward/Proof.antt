@@ -1,4 +1,4 @@
-use Prim.Native.Nat.{ℕ, _*_}
+use Prim.Native.Nat.{_*_}
 use mathlib.Core.Path.{ap}
 use Rattle.translate.specs.Rows.{token, onward}
 use Rattle.translate.proofs.Writing.{same}

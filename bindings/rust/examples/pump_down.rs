@@ -1,0 +1,32 @@
+//! Example A of document 01 from Rust: a move over the bus, and what is turned away.
+
+use effbd::{fresh_diagram, fresh_net, offer, read_diagram, read_net, step_diagram, take, translate, Refusal};
+
+fn main() -> Result<(), Refusal> {
+    let file = [
+        10, 0, 1, 0, 1, 0, 2, 0, 1, 0, 6, 0, 2, 0, 3, 0, 14, 0, 16, 0, 2, 0, 5, 0, 0, 0, 1, 0, 0, 0, 4, 0, 27, 0,
+    ];
+    let mut area = vec![0; 65_536];
+    let length = translate(&file, &mut area)? as usize;
+    let net = &area[..length];
+    let mut leader = vec![0; read_diagram(&file)? as usize];
+    let mut follower = vec![0; read_net(net)? as usize];
+    fresh_diagram(&file, &mut leader)?;
+    fresh_net(net, &mut follower)?;
+
+    let station = 9;
+    let mut telegram = [0; 14];
+    let sent = offer(&file, &mut leader, 0, station, 1, 0, &mut telegram)?;
+    let taken = take(net, &mut follower, 0, station, &telegram)?;
+    println!("net {length} bytes, {sent} sent, {taken} taken");
+    println!("diagram {leader:?}, net {follower:?}");
+
+    // The same telegram again, and an end that comes too early.
+    for refused in [take(net, &mut follower, taken, station, &telegram), step_diagram(&file, &mut leader, 1, 0)] {
+        match refused {
+            Ok(value) => println!("accepted: {value}"),
+            Err(refusal) => println!("refused: {refusal}"),
+        }
+    }
+    Ok(())
+}

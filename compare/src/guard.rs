@@ -1,0 +1,25 @@
+//! Memory that is lent, with guard elements on both sides.
+
+const WIDTH: usize = 16;
+
+/// Lends a copy of `content` between guards; the answer, and the content afterwards. A touched guard is an error.
+pub fn lend<T: Copy + PartialEq, A>(
+    content: &[T],
+    guard: T,
+    call: impl FnOnce(&mut [T]) -> A,
+) -> Result<(A, Vec<T>), String> {
+    let mut memory = vec![guard; WIDTH];
+    memory.extend_from_slice(content);
+    memory.extend(std::iter::repeat(guard).take(WIDTH));
+    let end = WIDTH + content.len();
+    let answer = call(&mut memory[WIDTH..end]);
+    let untouched = memory[..WIDTH]
+        .iter()
+        .chain(&memory[end..])
+        .all(|element| *element == guard);
+    if untouched {
+        Ok((answer, memory[WIDTH..end].to_vec()))
+    } else {
+        Err("a guard beside lent memory was written".to_owned())
+    }
+}

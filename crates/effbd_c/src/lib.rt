@@ -1,0 +1,111 @@
+// The functions that C and Rust programs call. A list is a pointer and its number of elements; an answer is number * 2^32 + value,
+// number 0 where accepted. Each hands its arguments on as they are: what it answers and leaves is what the called function promises.
+ghost use mathlib.Core.Path.{_≡_};
+ghost use Rattle.effbd.specs.Answers.{said, returningZero, afterwards};
+ghost use Rattle.effbd.specs.Moves.{stepDiagram, freshDiagram};
+ghost use Rattle.effbd.specs.Firing.{stepNet, freshNet};
+ghost use Rattle.effbd.specs.Patterns.{translated};
+ghost use Rattle.effbd.specs.BusEnds.{offered, taken};
+ghost use Rattle.diagram_file.specs.Tables.{stateLength};
+ghost use Rattle.effbd.specs.Nets.{readNet};
+ghost use Rattle.net_file.specs.Due.{wordsOf};
+ghost use Rattle.effbd_c.specs.Packed.{packed};
+use effbd::Answer;
+
+// An answer as one number.
+fn pack(answer: Answer) -> u64
+    ensures { λ r. ⌜ r ≡ packed (said answer) ⌝ }
+{
+    match answer {
+        Answer::Accepted(value) => value as u64,
+        Answer::Refused(number, value) => (number as u64) * 4294967296 + value as u64,
+    }
+}
+
+// A diagram file: accepted with the number of words of its state.
+#[no_mangle]
+pub extern "C" fn effbd_read(file: &[u8]) -> u64
+    ensures { λ r. ⌜ r ≡ packed (stateLength (now (file .entry))) ⌝ }
+{
+    pack(diagram_file::read(file))
+}
+
+// The fresh state of a diagram.
+#[no_mangle]
+pub extern "C" fn effbd_fresh(file: &[u8], state: &mut [u16]) -> u64
+    ensures { λ r. ⌜ r ≡ packed (returningZero (freshDiagram (now (file .entry)) (now (state .entry)))) ⌝ }
+    ensures { λ _. ⌜ now (state .exit) ≡ afterwards (now (state .entry)) (freshDiagram (now (file .entry)) (now (state .entry))) ⌝ }
+{
+    pack(diagram_step::fresh(file, state))
+}
+
+// A step or wait of a diagram.
+#[no_mangle]
+pub extern "C" fn effbd_step(file: &[u8], state: &mut [u16], code: u16, argument: u16) -> u64
+    ensures { λ r. ⌜ r ≡ packed (returningZero (stepDiagram (now (file .entry)) code argument (now (state .entry)))) ⌝ }
+    ensures { λ _. ⌜ now (state .exit) ≡ afterwards (now (state .entry)) (stepDiagram (now (file .entry)) code argument (now (state .entry))) ⌝ }
+{
+    pack(diagram_step::step(file, state, code, argument))
+}
+
+// The net of a diagram.
+#[no_mangle]
+pub extern "C" fn effbd_translate(file: &[u8], area: &mut [u8]) -> u64
+    ensures { λ r. ⌜ r ≡ packed (translated (now (file .entry)) (now (area .entry)) .answer) ⌝ }
+    ensures { λ _. ⌜ now (area .exit) ≡ translated (now (file .entry)) (now (area .entry)) .area ⌝ }
+{
+    pack(translate::translate(file, area))
+}
+
+// A net file: accepted with the number of words of its state.
+#[no_mangle]
+pub extern "C" fn tpn_read(net: &[u8]) -> u64
+    ensures { λ r. ⌜ r ≡ packed (wordsOf (readNet (now (net .entry)))) ⌝ }
+{
+    pack(net_file::read(net))
+}
+
+// The fresh state of a net.
+#[no_mangle]
+pub extern "C" fn tpn_fresh(net: &[u8], state: &mut [u16]) -> u64
+    ensures { λ r. ⌜ r ≡ packed (returningZero (freshNet (now (net .entry)) (now (state .entry)))) ⌝ }
+    ensures { λ _. ⌜ now (state .exit) ≡ afterwards (now (state .entry)) (freshNet (now (net .entry)) (now (state .entry))) ⌝ }
+{
+    pack(net_step::fresh(net, state))
+}
+
+// A step or wait of a net.
+#[no_mangle]
+pub extern "C" fn tpn_step(net: &[u8], state: &mut [u16], code: u16, argument: u16) -> u64
+    ensures { λ r. ⌜ r ≡ packed (returningZero (stepNet (now (net .entry)) code argument (now (state .entry)))) ⌝ }
+    ensures { λ _. ⌜ now (state .exit) ≡ afterwards (now (state .entry)) (stepNet (now (net .entry)) code argument (now (state .entry))) ⌝ }
+{
+    pack(net_step::step(net, state, code, argument))
+}
+
+// The leader's call.
+#[no_mangle]
+pub extern "C" fn leader_offer(
+    file: &[u8],
+    state: &mut [u16],
+    count: u32,
+    station: u16,
+    code: u16,
+    argument: u16,
+    area: &mut [u8],
+) -> u64
+    ensures { λ r. ⌜ r ≡ packed (offered (now (file .entry)) (now (state .entry)) count station code argument (now (area .entry)) .answer) ⌝ }
+    ensures { λ _. ⌜ now (state .exit) ≡ offered (now (file .entry)) (now (state .entry)) count station code argument (now (area .entry)) .state ⌝ }
+    ensures { λ _. ⌜ now (area .exit) ≡ offered (now (file .entry)) (now (state .entry)) count station code argument (now (area .entry)) .area ⌝ }
+{
+    pack(bus::offer(file, state, count, station, code, argument, area))
+}
+
+// The follower's call.
+#[no_mangle]
+pub extern "C" fn follower_take(net: &[u8], state: &mut [u16], count: u32, station: u16, telegram: &[u8]) -> u64
+    ensures { λ r. ⌜ r ≡ packed (taken (now (net .entry)) (now (state .entry)) count station (now (telegram .entry)) .answer) ⌝ }
+    ensures { λ _. ⌜ now (state .exit) ≡ taken (now (net .entry)) (now (state .entry)) count station (now (telegram .entry)) .state ⌝ }
+{
+    pack(bus::take(net, state, count, station, telegram))
+}
