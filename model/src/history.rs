@@ -306,7 +306,8 @@ pub fn moves_to_try(file: &[u8], state: &[u16]) -> Vec<(u16, u16)> {
     for (number, row) in diagram.rows.iter().enumerate() {
         let running = state.get(activity(number)) == Some(&RUNNING);
         if let (Row::Function(function), true) = (row, running) {
-            let left = function.beta.saturating_sub(state[clock(number)]);
+            let passed = state.get(clock(number)).copied().unwrap_or(0);
+            let left = function.beta.saturating_sub(passed);
             moves.push((WAIT, left));
             moves.push((WAIT, left.saturating_add(1)));
         }
