@@ -103,7 +103,13 @@ pub extern "C" fn leader_offer(
 
 // The follower's call.
 #[no_mangle]
-pub extern "C" fn follower_take(net: &[u8], state: &mut [u16], count: u32, station: u16, telegram: &[u8]) -> u64
+pub extern "C" fn follower_take(
+    net: &[u8],
+    state: &mut [u16],
+    count: u32,
+    station: u16,
+    telegram: &[u8],
+) -> u64
     ensures { λ r. ⌜ r ≡ packed (taken (now (net .entry)) (now (state .entry)) count station (now (telegram .entry)) .answer) ⌝ }
     ensures { λ _. ⌜ now (state .exit) ≡ taken (now (net .entry)) (now (state .entry)) count station (now (telegram .entry)) .state ⌝ }
 {
