@@ -1,18 +1,20 @@
 -- The turns of copies, clocks and waits.
 use Prim.Native.Nat.{ℕ, zero, suc, _+_, _-_, _≤_, _<_}
 use mathlib.Core.Path.{_≡_, refl, ap, sym, _∙_}
-use mathlib.Core.Bool.{Bool, true, false, _||_}
+use mathlib.Core.Bool.{Bool, true, false, cond, _||_}
 use mathlib.Core.List.{List, [], _∷_, _++_, append-nil}
 use native.Mathlib.Nat.{sub-zero, not-suc-le-zero, le-of-suc-le-suc, le-of-eq}
 use native.Mathlib.Numerals.{add-one}
 use native.Mathlib.Omega.{arith}
 use lib.ListN.{length, take, drop, getD, set, length-drop, length-append, drop-of-length-le}
 use lib.Seq.{drop-cons, getD-at, set-at, append-snoc, take-all}
+use lib.Dec.{eqb}
 use Rattle.effbd.specs.Ranges.{tabulate}
+use Rattle.net_walk.specs.Walked.{covered}
 use Rattle.effbd.specs.Nets.{Transition}
 use Rattle.net_file.specs.Contents.{transitionIn, afterTransition, transitionsIn}
 use Rattle.net_file.proofs.Walks.{transitions-more, transitions-none}
-use Rattle.net_step.specs.Stepping.{clocksBy, holdsWait, waitHeld}
+use Rattle.net_step.specs.Stepping.{keptClock, clocksBy, holdsWait, waitHeld}
 
 -- a list written from the front: its first n words are f 0, f 1, ..
 front-suc : (to : List ℕ) (f : ℕ → ℕ) (n : ℕ) → n < length to → set (tabulate n f ++ drop n to) n (f n) ≡ tabulate (suc n) f ++ drop (suc n) to
@@ -93,3 +95,13 @@ module _ (f : ℕ → Transition → ℕ → ℕ) (count : ℕ) (transitions clo
     write-end ln l =
         let h : length clocks₀ ≤ x = omega arith in
         w .is ∙ rw (drop-of-length-le clocks₀ h) (rw (transitions-none (count - x) rest (omega arith)) at (w .same))
+
+-- a clock that stands at 0 stays there when a transition fires
+pub still-zero : (j : ℕ) (marks : List ℕ) (x : ℕ) (t : Transition) → 0 ≡ keptClock j marks x t 0
+unfolding keptClock
+still-zero j marks x t = go (eqb x j) (covered (t .arcs) marks)
+  where
+    go : (a b : Bool) → _≡_ {A = ℕ} 0 (cond a 0 (cond b 0 0))
+    go true b = refl
+    go false true = refl
+    go false false = refl

@@ -42,6 +42,10 @@ fn kept(j: u16, marks: &[u16], x: u16, rest: &[u8], running: u16) -> u16
     if x == j {
         return 0;
     }
+    // A clock that stands at 0 stays there, enabled or not.
+    if running == 0 {
+        return 0;
+    }
     if net_walk::covers(marks, words::tail(rest, 10)) {
         return running;
     }
