@@ -17,7 +17,7 @@ use Rattle.effbd.specs.Nesting.{nested, afterRows, afterItems, readDiagram, ski
 use Rattle.diagram_file.specs.declared.records.Reached.{Reached}
 use Rattle.diagram_file.specs.Reading.{Stopped, ItemsRead, RowsRead, column, recordRows, recordItems, readRecords, Tabulated, Recorded}
 use Rattle.diagram_file.proofs.Basics.{decide, and-left, and-right, all-elim, unless-refused, andThen-twice, unless-then}
-use Rattle.diagram_file.proofs.Loops.{Whole, no-fault}
+use Rattle.agreement.specs.ByteLaws.{Clean, none-clean}
 
 -- n records that were read: their values, their faults, the rest
 pub record Many (A : Type 0) (fault : List ℕ → ℕ) (value : List ℕ → A) (n : ℕ) (start : List ℕ) (g : Got (List A)) : Type 0 where
@@ -93,7 +93,7 @@ pub head-good : (file : List ℕ) → headFault file ≡ 0 → Head file
 unfolding headFault lengthOf entryIn kindTable
 head-good file e =
     let fine = eqb (word file 4) 1 && (leb 1 (word file 6) && (leb (word file 6) 64 && leb (word file 8) 16)) in
-    let c = no-fault file (eqb (kindAt file) 1) (eqb (lengthAt file) 10) fine 3 e in
+    let c = none-clean file (eqb (kindAt file) 1) (eqb (lengthAt file) 10) fine 3 e in
     let s = eqb-true (lengthAt file) 10 (c .isRight) in
     let w = c .whole in
     let a = and-right (eqb (word file 4) 1) _ (c .isFine) in
@@ -131,9 +131,9 @@ uses-length (suc u) l = ap suc (uses-length u (drop 6 l))
 
 -- one row's record without fault, at the file's tail
 module _ (items : ℕ) (file l : List ℕ) (clean : rowFault items l ≡ 0) where
-  whole : Whole l (leb 16 (kindAt l) && leb (kindAt l) 27) (rowRight items l) (rowFine items (rowAt l))
+  whole : Clean l (leb 16 (kindAt l) && leb (kindAt l) 27) (rowRight items l) (rowFine items (rowAt l))
   unfolding rowFault
-  whole = no-fault l (leb 16 (kindAt l) && leb (kindAt l) 27) (rowRight items l) (rowFine items (rowAt l)) 4 clean
+  whole = none-clean l (leb 16 (kindAt l) && leb (kindAt l) 27) (rowRight items l) (rowFine items (rowAt l)) 4 clean
 
   row-kind : kindAt l ≡ numberOf (rowAt l .kind)
   unfolding rowAt

@@ -2,15 +2,16 @@
 use Prim.Native.Nat.{ℕ, zero, suc, _+_, _-_, _*_, _/_, _%_, _≤_, _<_}
 use mathlib.Core.Path.{_≡_, refl, sym, _∙_, ap, ap₂, subst}
 use mathlib.Core.Logic.{_≢_}
-use mathlib.Core.Bool.{Bool, true, false, not, cond, _&&_}
+use mathlib.Core.Bool.{Bool, true, false, cond, _&&_}
 use mathlib.Core.List.{List, [], _∷_}
 use native.Mathlib.Omega.{arith}
 use native.Mathlib.Numerals.{add-one}
 use lib.ListN.{length, getD, drop, set, length-set, length-drop}
 use lib.Seq.{getD-set-same, getD-set-other, drop-drop}
-use lib.Dec.{leb, ltb, eqb}
-use borrow.Author.Tests.{ltb-false, leb-true, eqb-true, eqb-false}
-use Rattle.effbd.specs.Records.{word, lengthAt, kindAt, kindTable, entryIn, lengthOf, faultAt}
+use lib.Dec.{leb, eqb}
+use borrow.Author.Tests.{leb-true, eqb-true, eqb-false}
+use Rattle.agreement.specs.ByteLaws.{none-clean}
+use Rattle.effbd.specs.Records.{word, lengthAt, kindAt, kindTable, entryIn, lengthOf}
 use Rattle.effbd.specs.Diagrams.{itemFault, itemAt, rowAt, rowRight, rowFine, rowFault}
 use Rattle.effbd.specs.Nesting.{skip}
 use Rattle.diagram_file.specs.Cells.{Cell, cell}
@@ -18,27 +19,6 @@ use Rattle.diagram_file.specs.Reading.{Reading, Stopped, FilledRows, Kep
 use Rattle.diagram_file.proofs.Basics.{decide, and-left, and-right}
 use Rattle.diagram_file.proofs.Cells.{put-long, put-away, put-at}
 use Rattle.diagram_file.proofs.KindTable.{short}
-
--- a record with nothing off
-pub record Whole (bytes : List ℕ) (due right fine : Bool) : Type 0 where
-  pub long : 4 ≤ length bytes
-  pub isDue : due ≡ true
-  pub isRight : right ≡ true
-  pub whole : lengthAt bytes ≤ length bytes
-  pub isFine : fine ≡ true
-
-pub no-fault : (bytes : List ℕ) (due right fine : Bool) (n : ℕ) → faultAt bytes due right fine (suc n) ≡ 0 → Whole bytes due right fine
-unfolding faultAt
-no-fault bytes due right fine n e = go (ltb (length bytes) 4) due right (ltb (length bytes) (lengthAt bytes)) fine refl refl e
-  where
-    go : (a b c x f : Bool) → ltb (length bytes) 4 ≡ a → ltb (length bytes) (lengthAt bytes) ≡ x
-        → cond a 1 (cond (not b) 2 (cond (not c) 3 (cond x 1 (cond (not f) (suc n) 0)))) ≡ 0 → Whole bytes b c f
-    go true b c x f p q z = absurd (omega arith)
-    go false false c x f p q z = absurd (omega arith)
-    go false true false x f p q z = absurd (omega arith)
-    go false true true true f p q z = absurd (omega arith)
-    go false true true false false p q z = absurd (omega arith)
-    go false true true false true p q z = record { long = ltb-false (length bytes) 4 p; isDue = refl; isRight = refl; whole = ltb-false (length bytes) (lengthAt bytes) q; isFine = refl }
 
 skip-next : (i : ℕ) (l : List ℕ) → skip (suc i) l ≡ drop (lengthAt (skip i l)) (skip i l)
 unfolding skip
@@ -89,12 +69,12 @@ reading-start fault file rest from h e = record {
 -- one record without fault
 pub item-clean : (l : List ℕ) → itemFault l ≡ 0 → (lengthAt l ≡ 6) × (lengthAt l ≤ length l)
 unfolding itemFault lengthOf entryIn kindTable
-item-clean l e = let c = no-fault l (eqb (kindAt l) 2) (eqb (lengthAt l) 6) true 4 e in (eqb-true (lengthAt l) 6 (c .isRight), c .whole)
+item-clean l e = let c = none-clean l (eqb (kindAt l) 2) (eqb (lengthAt l) 6) true 4 e in (eqb-true (lengthAt l) 6 (c .isRight), c .whole)
 
 pub row-clean : (items : ℕ) (l : List ℕ) → items ≤ 16 → rowFault items l ≡ 0 → (lengthAt l ≤ 104) × (lengthAt l ≤ length l)
 unfolding rowFault rowRight
 row-clean items l m e =
-    let c = no-fault l (leb 16 (kindAt l) && leb (kindAt l) 27) (rowRight items l) (rowFine items (rowAt l)) 4 e in
+    let c = none-clean l (leb 16 (kindAt l) && leb (kindAt l) 27) (rowRight items l) (rowFine items (rowAt l)) 4 e in
     (go (eqb (kindAt l) 16) (c .isRight), c .whole)
   where
     go : (b : Bool) → cond b (leb 8 (lengthAt l) && (eqb ((lengthAt l - 8) % 6) 0 && leb ((lengthAt l - 8) / 6) items)) (eqb (lengthAt l) (lengthOf (kindAt l))) ≡ true → lengthAt l ≤ 104

@@ -4,7 +4,7 @@ ghost use mathlib.Core.Bool.{cond};
 ghost use Prim.Native.Nat.{_+_, _-_, _/_, _≤_, _<_};
 ghost use lib.ListN.{length};
 ghost use lib.Dec.{eqb};
-ghost use Rattle.effbd.specs.Records.{kindAt, faultAt};
+ghost use Rattle.effbd.specs.Records.{kindAt};
 ghost use Rattle.effbd.specs.Diagrams.{usesAt, usesFine, rowAt, rowRight, rowFine, headFault, itemFault, rowFault};
 ghost use Rattle.diagram_file.specs.Fields.{useFine, functionRight, functionFine, turnLimitFine, headFine, isRow};
 ghost use Rattle.diagram_file.specs.Reading.{column, putRow, fillRow, ItemsRead, RowsRead, Recorded};
@@ -56,28 +56,6 @@ fn use_count(length: u16) -> u16
         return 0;
     }
     (length - 8) / 6
-}
-
-// "At a record: 1 (4 bytes), 2, 3, 1, fields."
-fn record_fault(bytes: &[u8], due: bool, right: bool, fine: bool, number: u16) -> u16
-    ensures { λ r. ⌜ r ≡ faultAt (now (bytes .entry)) due right fine number ⌝ }
-{
-    if bytes.len() < 4 {
-        return 1;
-    }
-    if !due {
-        return 2;
-    }
-    if !right {
-        return 3;
-    }
-    if bytes.len() < words::word(bytes, 0) as usize {
-        return 1;
-    }
-    if !fine {
-        return number;
-    }
-    0
 }
 
 fn is_row(kind: u16) -> bool
@@ -141,7 +119,7 @@ fn row_fault(bytes: &[u8], items: u16) -> u16
     let due = is_row(words::word(bytes, 2));
     let right = row_right(bytes, items);
     let fine = row_fine(bytes, items);
-    record_fault(bytes, due, right, fine, 5)
+    words::record_fault(bytes, due, right, fine, 5)
 }
 
 fn item_fault(bytes: &[u8]) -> u16
@@ -150,7 +128,7 @@ fn item_fault(bytes: &[u8]) -> u16
     let kind = words::word(bytes, 2);
     let length = words::word(bytes, 0);
     let right = words::kinds::length_of(2);
-    record_fault(bytes, kind == 2, length == right, true, 5)
+    words::record_fault(bytes, kind == 2, length == right, true, 5)
 }
 
 fn head_fine(edition: u16, rows: u16, items: u16) -> bool
@@ -170,7 +148,7 @@ fn head_fault(bytes: &[u8]) -> u16
         words::word(bytes, 8),
     );
     let right = words::kinds::length_of(1);
-    record_fault(bytes, kind == 1, length == right, fine, 4)
+    words::record_fault(bytes, kind == 1, length == right, fine, 4)
 }
 
 // α of a FUNCTION, the count of an IT open.

@@ -18,7 +18,8 @@ use Rattle.net_file.specs.Due.{arcNext}
 use Rattle.net_file.specs.Contents.{arcHere, arcsIn, pastArcs, transitionIn, afterTransition, transitionsIn, behindPlaces, arcsFine, transitionsFine}
 use Rattle.net_file.proofs.Lists.{length-tabulate}
 use Rattle.net_file.proofs.Bytes.{bytes-drop, word-at}
-use Rattle.net_file.proofs.Records.{none-clean, never, unless-inv, then-inv, adding-inv}
+use Rattle.agreement.specs.ByteLaws.{none-clean, never}
+use Rattle.net_file.proofs.Records.{unless-inv, then-inv, adding-inv}
 use Rattle.net_file.proofs.Tails.{ArcRead, arc-read, TransitionRead, transition-read, tail-arc, tail-end, tail-over, tail-transition}
 use Rattle.net_file.proofs.Turns.{place-read}
 use Rattle.net_file.proofs.Walks.{arcs-more, arcs-done, past-more, past-done, length-transitions}

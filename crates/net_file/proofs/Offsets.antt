@@ -12,7 +12,7 @@ use Rattle.effbd.specs.Records.{word, lengthAt}
 use Rattle.effbd.specs.Nets.{netHeadFault, readNet}
 use Rattle.net_file.specs.declared.Due.{Due}
 use Rattle.net_file.specs.Due.{start, faultIn, nextDue, ended, wordsOf}
-use Rattle.net_file.proofs.Records.{never}
+use Rattle.agreement.specs.ByteLaws.{never}
 use Rattle.net_file.proofs.Standing.{Stands, near-offset, head-bad, head-fine, go-on, shrinks, stop, done}
 
 same-value : {a b c d : ℕ} → _≡_ {A = Outcome ℕ} (refused a b) (refused c d) → b ≡ d

@@ -1,42 +1,10 @@
 -- What a record without fault is; how outcomes follow one another.
-use Prim.Native.Nat.{ℕ, zero, suc, _≤_}
+use Prim.Native.Nat.{ℕ, zero, suc}
 use mathlib.Core.Path.{_≡_, refl}
-use mathlib.Core.Bool.{Bool, true, false, not, cond}
 use mathlib.Core.List.{List, _∷_}
-use native.Mathlib.Omega.{arith}
-use lib.ListN.{length}
-use lib.Dec.{ltb}
-use borrow.Author.Tests.{ltb-false, le-ltb}
+use Rattle.agreement.specs.ByteLaws.{never}
 use Rattle.effbd.specs.Answers.{Outcome, accepted, refused, unless, andThen}
-use Rattle.effbd.specs.Records.{lengthAt, faultAt, Got, adding}
-
--- a record with nothing off
-pub record Clean (rest : List ℕ) (due right fine : Bool) : Type 0 where
-  pub long : 4 ≤ length rest
-  pub isDue : due ≡ true
-  pub isRight : right ≡ true
-  pub whole : lengthAt rest ≤ length rest
-  pub isFine : fine ≡ true
-
-pub clean-none : (rest : List ℕ) (due right fine : Bool) (n : ℕ) → Clean rest due right fine → faultAt rest due right fine n ≡ 0
-unfolding faultAt
-clean-none rest due right fine n c = rw (le-ltb (length rest) 4 (c .long), c .isDue, c .isRight, le-ltb (length rest) (lengthAt rest) (c .whole), c .isFine)
-
-pub none-clean : (rest : List ℕ) (due right fine : Bool) (n : ℕ) → faultAt rest due right fine (suc n) ≡ 0 → Clean rest due right fine
-unfolding faultAt
-none-clean rest due right fine n e = go (ltb (length rest) 4) due right (ltb (length rest) (lengthAt rest)) fine refl refl e
-  where
-    go : (a b c x f : Bool) → ltb (length rest) 4 ≡ a → ltb (length rest) (lengthAt rest) ≡ x
-        → cond a 1 (cond (not b) 2 (cond (not c) 3 (cond x 1 (cond (not f) (suc n) 0)))) ≡ 0 → Clean rest b c f
-    go true b c x f p q z = absurd (omega arith)
-    go false false c x f p q z = absurd (omega arith)
-    go false true false x f p q z = absurd (omega arith)
-    go false true true true f p q z = absurd (omega arith)
-    go false true true false false p q z = absurd (omega arith)
-    go false true true false true p q z = record { long = ltb-false (length rest) 4 p; isDue = refl; isRight = refl; whole = ltb-false (length rest) (lengthAt rest) q; isFine = refl }
-
-pub never : {A : Type 0} {C : Type 0} {n v : ℕ} {x : A} → refused n v ≡ accepted x → C
-never e = absurd (let z : _≡_ {A = ℕ} 0 1 = cc in omega arith)
+use Rattle.effbd.specs.Records.{Got, adding}
 
 -- on where there is no fault, turned away where there is one
 pub unless-none : {A : Type 0} (f v : ℕ) (on : Outcome A) → f ≡ 0 → unless f v on ≡ on

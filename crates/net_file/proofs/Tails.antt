@@ -14,7 +14,7 @@ use Rattle.effbd.specs.Answers.{accepted, refused, unless}
 use Rattle.effbd.specs.Records.{word, lengthAt, kindAt, lengthOf, faultAt, kindTable, entryIn}
 use Rattle.effbd.specs.Nets.{takeArc, arcDue, arcFine, above, arcAt, transitionFine, transitionAt, noTail, withArc, withTransition, arcFault, transitionFault, readTail}
 use Rattle.net_file.specs.Due.{arcNext}
-use Rattle.net_file.proofs.Records.{none-clean}
+use Rattle.agreement.specs.ByteLaws.{none-clean}
 
 -- the kinds of arcs
 pub record Arcs (kind : ℕ) : Type 0 where

@@ -13,7 +13,8 @@ use Rattle.effbd.specs.Records.{word, lengthAt, kindAt, lengthOf, kindTable, en
 use Rattle.effbd.specs.Nets.{takeArc, above, arcAt, transitionAt, Arc, Transition, markAt, markFault, Tail, withArc, withTransition, arcFault, transitionFault, readTail}
 use Rattle.net_file.specs.declared.Due.{Due}
 use Rattle.net_file.specs.Due.{arcNext, dueKind, fieldsFine, faultIn, nextDue, ended, verdict}
-use Rattle.net_file.proofs.Records.{none-clean, unless-same, unless-then, adding-then}
+use Rattle.agreement.specs.ByteLaws.{none-clean}
+use Rattle.net_file.proofs.Records.{unless-same, unless-then, adding-then}
 use Rattle.net_file.proofs.Tails.{arc-kind, arc-read, transition-read, tail-arc, tail-end, tail-over, tail-transition, tail-fuel}
 
 -- what may stand next

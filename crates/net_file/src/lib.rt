@@ -5,7 +5,6 @@ ghost use mathlib.Core.Bool.{cond};
 ghost use Prim.Native.Nat.{_-_};
 ghost use lib.Dec.{eqb};
 ghost use Rattle.effbd.specs.Answers.{said};
-ghost use Rattle.effbd.specs.Records.{faultAt};
 ghost use Rattle.effbd.specs.Nets.{arcFine, above as aboveOf, transitionFine, netHeadFault, readNet};
 ghost use Rattle.net_file.specs.Contents.{headFine};
 ghost use Rattle.net_file.specs.Due.{start as startOf, arcOf, timed, arcNext, dueKind, fieldsFine, faultIn, nextDue, ended as endedBy, wordsOf};
@@ -52,28 +51,6 @@ fn start(places: u16, transitions: u16) -> Due
     }
 }
 
-// The order of refusals at a record; 0 where nothing is off.
-fn record_fault(rest: &[u8], due: bool, right: bool, fine: bool, number: u16) -> u16
-    ensures { λ r. ⌜ r ≡ faultAt (now (rest .entry)) due right fine number ⌝ }
-{
-    if rest.len() < 4 {
-        return 1;
-    }
-    if !due {
-        return 2;
-    }
-    if !right {
-        return 3;
-    }
-    if rest.len() < words::word(rest, 0) as usize {
-        return 1;
-    }
-    if !fine {
-        return number;
-    }
-    0
-}
-
 // Places 1 to 208, transitions 0 to 128.
 fn head_fine(places: u16, transitions: u16) -> bool
     ensures { λ r. ⌜ r ≡ headFine places transitions ⌝ }
@@ -88,7 +65,7 @@ fn head_fault(net: &[u8]) -> u16
     let due = words::word(net, 2) == HEAD;
     let right = words::word(net, 0) == words::kinds::length_of(HEAD);
     let fine = head_fine(words::word(net, 4), words::word(net, 6));
-    record_fault(net, due, right, fine, 4)
+    words::record_fault(net, due, right, fine, 4)
 }
 
 // The lowest place that an arc of kind `kind` may have.
@@ -165,7 +142,7 @@ fn fault(count: u16, due: Due, rest: &[u8]) -> u16
     }
     let stands = words::word(rest, 2) == kind;
     let right = words::word(rest, 0) == words::kinds::length_of(kind);
-    record_fault(rest, stands, right, fields_fine(count, due, kind, rest), 5)
+    words::record_fault(rest, stands, right, fields_fine(count, due, kind, rest), 5)
 }
 
 fn less_one(n: u16) -> u16

@@ -17,7 +17,8 @@ use Rattle.effbd.specs.Nets.{Net, readNet}
 use Rattle.effbd.specs.Firing.{netWordCount, checkedNetMove, stepNet, freshNetWords, freshNet}
 use Rattle.net_file.specs.Due.{wordsOf}
 use Rattle.net_file.specs.Contents.{transitionsIn, behindPlaces, transitionsFine}
-use Rattle.net_file.proofs.Records.{never, then-inv}
+use Rattle.agreement.specs.ByteLaws.{never}
+use Rattle.net_file.proofs.Records.{then-inv}
 use Rattle.net_file.proofs.Lists.{tabulate-same}
 use Rattle.net_file.proofs.Accepted.{NetRead, net-read, place-count, transition-count, word-count}
 use Rattle.net_walk.proofs.Effects.{Words}

@@ -5,7 +5,7 @@ pub mod kinds;
 ghost use mathlib.Core.Path.{_≡_};
 ghost use Prim.Native.Nat.{_+_, _*_, _<_};
 ghost use lib.ListN.{length, drop, getD, set};
-ghost use Rattle.effbd.specs.Records.{word as wordIn};
+ghost use Rattle.effbd.specs.Records.{word as wordIn, faultAt};
 ghost use Rattle.words.specs.Stores.{longIn, wordPut, longPut, copied};
 
 // The byte at `at`.
@@ -46,6 +46,28 @@ pub fn tail<'a>(bytes: &'a [u8], n: usize) -> &'a [u8]
         return &bytes[n..];
     }
     &bytes[0..0]
+}
+
+// The order of refusals at a record: its kind is due, its length is right for its kind, its fields are fine (else `number`). 0 where nothing is off.
+pub fn record_fault(bytes: &[u8], due: bool, right: bool, fine: bool, number: u16) -> u16
+    ensures { λ r. ⌜ r ≡ faultAt (now (bytes .entry)) due right fine number ⌝ }
+{
+    if bytes.len() < 4 {
+        return 1;
+    }
+    if !due {
+        return 2;
+    }
+    if !right {
+        return 3;
+    }
+    if bytes.len() < word(bytes, 0) as usize {
+        return 1;
+    }
+    if !fine {
+        return number;
+    }
+    0
 }
 
 // Stores a byte at `at`.

@@ -1,8 +1,8 @@
 use borrow.Author.Tests.{lt-ltb, le-ltb}
 use Rattle.effbd.specs.Records.{faultAt}
 use borrow.Author.Needs.{needs}
-use Rattle.net_file.proofs.record_fault.Statement.{statement}
-use Rattle.net_file.proofs.record_fault.Tie as tie
+use Rattle.words.proofs.record_fault.Statement.{statement}
+use Rattle.words.proofs.record_fault.Tie as tie
 
 returns : tie.Need-returns
 unfolding faultAt
