@@ -25,4 +25,5 @@ pub mod WellFormed
 pub mod Telegrams
 pub mod Reached
 pub mod Demand
+pub mod Reach
 pub mod Theorems

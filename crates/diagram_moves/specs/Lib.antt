@@ -4,7 +4,6 @@ pub mod Changes
 pub mod Stores
 pub mod Loops
 pub mod UseLaws
-pub mod Reach
 pub mod TokenMoves
 pub mod FunctionMoves
 pub mod WholeMoves

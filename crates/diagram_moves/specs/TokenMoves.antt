@@ -23,7 +23,7 @@ use Rattle.diagram_moves.specs.Decisions.{isBranch, doneAt, doneFrom, al
 use Rattle.diagram_moves.specs.Changes.{fold, startingAt, rowSet, clearTurn, rowsCleared, enteredIn, entered, tokenPassed, branchTurn, branchesTurned, outcomeOf}
 use Rattle.diagram_moves.specs.Stores.{Reads, like, reads-words, set-row}
 use Rattle.diagram_moves.specs.Loops.{idle-fold, clear-fold, and-false}
-use Rattle.diagram_moves.specs.Reach.{next-in, entered-in, branch-behind, branch-before}
+use Rattle.agreement.specs.Reach.{next-in, entered-in, branch-behind, branch-before}
 
 -- what all numbers from n on pass, all below n decide
 all-cut : (n N : ℕ) (f : ℕ → Bool) → n ≤ N → ((i : ℕ) → n ≤ i → i < N → f i ≡ true) → allBelow n f ≡ allBelow N f

@@ -26,7 +26,7 @@ use Rattle.diagram_moves.specs.Decisions.{added, activityAllowed, turnsA
 use Rattle.diagram_moves.specs.Changes.{fold, rowSet, tickTurn, tokenPassed, branchesTurned, itOpenChange, exitChange, entered, rowChange, moveChange, outcomeOf}
 use Rattle.diagram_moves.specs.Stores.{Reads, like, reads-words, words-read, set-turns}
 use Rattle.diagram_moves.specs.Loops.{tick-fold}
-use Rattle.diagram_moves.specs.Reach.{next-in, close-in, opened-by}
+use Rattle.agreement.specs.Reach.{next-in, close-in, opened-by}
 use Rattle.diagram_moves.specs.TokenMoves.{owner-in, number-is, idle-reads, enter-reads, pass-reads, ready-is, all-done-is, idle-branches, open-branches, clear-reads}
 use Rattle.diagram_moves.specs.FunctionMoves.{Small, whole-sum, enough-is, function-is}
 

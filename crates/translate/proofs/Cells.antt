@@ -15,7 +15,7 @@ use Rattle.effbd.specs.States.{enteredAs, enteredRow}
 use Rattle.agreement.specs.AcceptedFiles.{Held}
 use Rattle.diagram_file.specs.Tables.{Holds}
 use Rattle.translate.specs.Rows.{kinds, owners, latests, closes, cell, entered, entry, isBranchOf}
-use Rattle.translate.proofs.Nesting.{next-row, entered-in}
+use Rattle.agreement.specs.Reach.{next-in, entered-in}
 
 module _ (d : Diagram) (rows items : ℕ) (table : List ℕ) (h : Holds d rows items table) where
   pub in-rows : (r : ℕ) → r < rowCount d → r < rows
@@ -65,10 +65,10 @@ module _ (d : Diagram) (rows items : ℕ) (table : List ℕ) (h : Holds d rows i
 
   module _ (held : Held d) where
     pub next-entry : (r : ℕ) → kind d r ≢ end → entry table (r + 1) ≡ 3 * enteredRow d (suc r)
-    next-entry r n = entry-cell r (next-row d (held .acc) r n)
+    next-entry r n = entry-cell r (next-in d (held .acc) r n)
 
     pub entered-row : (q : ℕ) → q < rowCount d → enteredRow d q < rowCount d
-    entered-row q l = entered-in d (held .acc) q (h .branchLow q) l
+    entered-row q l = entered-in d (held .acc) q l
 
     pub next-entered : (r : ℕ) → kind d r ≢ end → enteredRow d (suc r) < rowCount d
-    next-entered r n = entered-row (suc r) (next-row d (held .acc) r n)
+    next-entered r n = entered-row (suc r) (next-in d (held .acc) r n)

@@ -26,7 +26,8 @@ use Rattle.translate.proofs.Runs.{runs-same, runs-span}
 use Rattle.translate.proofs.Weights.{arcRecord, arc-none, weights, countArcs, count-none, at-P, mark-P, mark-Q, mark-each, entry-among, it-gives}
 use Rattle.translate.proofs.Ranges.{rows-range, no-range}
 use Rattle.translate.proofs.Uses.{uses-read}
-use Rattle.translate.proofs.Nesting.{close-next, behind-branch, branch-inside}
+use Rattle.agreement.specs.Reach.{close-in}
+use Rattle.translate.proofs.Nesting.{behind-branch, branch-inside}
 use Rattle.translate.proofs.Branches.{images}
 use Rattle.translate.proofs.Cells.{in-rows, kind-cell, owner-cell, owner-kind, close-cell, entry-cell, branch-cell, next-entry, entered-row, next-entered}
 
@@ -103,10 +104,10 @@ module _ (d : Diagram) (rows items : ℕ) (table file : List ℕ) (h : Holds d r
   branches-are : (o k : ℕ) (place : ℕ → ℕ) → o < rowCount d → opens d o ≡ true → ((q : ℕ) → branchOf d o q ≡ true → branchPlace table k q ≡ place q)
       → runs (λ q. cond (branchOf d o q) (arc k (place q) 1) []) (rowCount d) ≡ branchArcs table o k
   unfolding branchArcs branchArc span
-  branches-are o k place l opened same = runs-span f o (close d o) (rowCount d) low (let c = close-next d (held .acc) o opened in omega arith)
+  branches-are o k place l opened same = runs-span f o (close d o) (rowCount d) low (let c = close-in d (held .acc) o opened in omega arith)
       (λ q m. rw (off q (λ e. let b = h .ownerLow q in let w = owned q e in absurd (omega arith))))
       (λ q m. rw (off q (λ e. let w = inside q e in absurd (omega arith))))
-      ∙ (rw (close-cell d rows items table h o l) (runs-same _ _ (_) (λ i m. turn (o + i) (let c = close-next d (held .acc) o opened in omega arith))))
+      ∙ (rw (close-cell d rows items table h o l) (runs-same _ _ (_) (λ i m. turn (o + i) (let c = close-in d (held .acc) o opened in omega arith))))
     where
       f : ℕ → Records
       f q = cond (branchOf d o q) (arc k (place q) 1) []
@@ -122,7 +123,7 @@ module _ (d : Diagram) (rows items : ℕ) (table file : List ℕ) (h : Holds d r
 
       inside : (q : ℕ) → branchOf d o q ≡ true → q < close d o
       inside q e = subst (λ x. q < close d x) (owned q e)
-          (branch-inside d (held .acc) q (same-eq (kind d q) branch (and-left (isKind d branch q) (only o (owner d q)) (unfold branchOf in e))) (h .ownerLow q) (h .ownerLow (close d (owner d q))))
+          (branch-inside d (held .acc) q (same-eq (kind d q) branch (and-left (isKind d branch q) (only o (owner d q)) (unfold branchOf in e))))
 
       turn : (q : ℕ) → q < rowCount d → f q ≡ cond (isBranchOf table o q) (arc k (branchPlace table k q) 1) []
       turn q m = rw (branch-cell d rows items table h o q m) (decide (branchOf d o q) (λ e. rw (e, same q e)) (λ e. rw e))
@@ -211,7 +212,7 @@ module _ (d : Diagram) (rows items : ℕ) (table file : List ℕ) (h : Holds d r
       no-end = not-kind d r e end refl
 
       behind : suc (close d r) < rowCount d
-      behind = close-next d (held .acc) r (rw e)
+      behind = close-in d (held .acc) r (rw e)
 
   loop-exit-is : (r : ℕ) → r < rowCount d → kind d r ≡ loop-exit → loopExit table r ≡ allPatterns d r (patternsAs d loop-exit r)
   unfolding loopExit leave allPatterns patternRecords
@@ -231,7 +232,7 @@ module _ (d : Diagram) (rows items : ℕ) (table file : List ℕ) (h : Holds d r
       opened = rw (law .looped r e .0)
 
       cl : suc c < rowCount d
-      cl = close-next d (held .acc) o opened
+      cl = close-in d (held .acc) o opened
 
       low : o ≤ c
       low = let w = law .shut o opened .1 in let b = h .ownerLow c in omega arith

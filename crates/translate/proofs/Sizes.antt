@@ -19,7 +19,7 @@ use Rattle.translate.specs.Whole.{mark, rowMarks, itemMark, netRecords}
 use Rattle.translate.proofs.Uses.{uses-few}
 use Rattle.translate.proofs.RowRecords.{uses-fine}
 use Rattle.translate.proofs.NetRecords.{flat-append, net-is}
-use Rattle.translate.proofs.Nesting.{close-next}
+use Rattle.agreement.specs.Reach.{close-in}
 use Rattle.translate.proofs.Cells.{in-rows, kind-cell, owner-cell, close-cell}
 
 -- records of at most n bytes
@@ -115,7 +115,7 @@ module _ (d : Diagram) (rows items : ℕ) (table file : List ℕ) (h : Holds d r
   rowSmall lp-close r l e = more (omega arith) (token-small r _ _)
   rowSmall loop-exit r l e = exit-small table file rows r (cell table loops r) (cell table closes (cell table loops r)) _
       (rw (h .loops r (in-rows d rows items table h r l), close-cell d rows items table h (loop d r) (let a = h .loopLow r in omega arith))
-      (let c = close-next d (held .acc) (loop d r) (rw (laws d (held .acc) .looped r e .0)) in let b = held .rows in omega arith))
+      (let c = close-in d (held .acc) (loop d r) (rw (laws d (held .acc) .looped r e .0)) in let b = held .rows in omega arith))
   rowSmall end r l e = more zero-le none-small
 
   row-small : (r : ℕ) → r < rowCount d → Small (rowRecords table file rows r) 554
