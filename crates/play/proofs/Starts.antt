@@ -1,0 +1,194 @@
+-- Both ends made ready, or a refusal: from what the parts of `play` leave to what it promises.
+use Prim.Native.Nat.{ℕ, _-_, _≤_}
+use mathlib.Core.Path.{_≡_, refl, sym, _∙_, ap, ap₂, subst}
+use mathlib.Core.Logic.{_≢_}
+use mathlib.Core.Bool.{Bool, true, false, cond, _&&_}
+use mathlib.Core.List.{List, [], _∷_, _++_}
+use native.Mathlib.Omega.{arith}
+use lib.ListN.{length, take, drop, length-append}
+use lib.Seq.{take-at}
+use lib.Dec.{eqb}
+use borrow.Author.Tests.{le-ltb}
+use Rattle.effbd.specs.Answers.{Outcome, accepted, refused, andThen, returningZero, afterwards}
+use Rattle.effbd.specs.Records.{areBytes}
+use Rattle.effbd.specs.Diagrams.{Diagram}
+use Rattle.effbd.specs.Nesting.{readDiagram}
+use Rattle.effbd.specs.Layout.{places}
+use Rattle.effbd.specs.States.{freshWords}
+use Rattle.effbd.specs.Moves.{freshDiagram}
+use Rattle.effbd.specs.Nets.{Net, netBytes, readNet}
+use Rattle.effbd.specs.Firing.{netWordCount, freshNetWords, freshNet}
+use Rattle.effbd.specs.Patterns.{netOf, Translated, translated}
+use Rattle.effbd.specs.History.{Seen, freshEnds, netFileOf}
+use Rattle.agreement.specs.Basics.{decide}
+use Rattle.agreement.specs.AcceptedFiles.{held}
+use Rattle.agreement.specs.Theorems.{net-well-formed, net-read-back}
+use Rattle.bus.specs.Demand.{demand-3}
+use Rattle.diagram_file.specs.Tables.{refusalNumber, refusalValue, HoldsFile, Parsed}
+use Rattle.diagram_file.specs.declared.Diagram.{Diagram as Table}
+use Rattle.net_file.specs.Due.{wordsOf}
+use Rattle.translate.proofs.Sizes.{net-small}
+use Rattle.play.specs.CallList.{callsOf, listAfter}
+use Rattle.play.specs.Parts.{netLength, Laid, NetOf, asLong}
+use Rattle.play.specs.Played.{Live, AllCalled, playable, Played, Unplayed, PlayedAs}
+use Rattle.play.proofs.Lists.{live-all, live-seen-all}
+
+-- a state's length
+pub long-by : (o : Outcome Net) (l w : ℕ) → accepted w ≡ wordsOf o → eqb l w ≡ asLong o l
+unfolding wordsOf asLong
+long-by (accepted n) l w e = let q : w ≡ netWordCount n = cc in ap (eqb l) q
+long-by (refused number value) l w e = absurd (let z : _≡_ {A = ℕ} 0 1 = cc in omega arith)
+
+pub long-never : (o : Outcome Net) (l number value : ℕ) → refused number value ≡ wordsOf o → false ≡ asLong o l
+unfolding wordsOf asLong
+long-never (accepted n) l number value e = absurd (let z : _≡_ {A = ℕ} 0 1 = cc in omega arith)
+long-never (refused n v) l number value e = refl
+
+-- the calls, from the follower as its fresh state left it
+pub started : (file net : List ℕ) (station : ℕ) (leader follower fresh calls leader′ follower′ calls′ : List ℕ) (sent took : ℕ) → fresh ≡ afterwards follower (freshNet net follower)
+    → AllCalled file net station (record { leader = leader; sent = 0; follower = fresh; taken = 0 }) calls leader′ follower′ calls′ sent took
+    → AllCalled file net station (record { leader = leader; sent = 0; follower = afterwards follower (freshNet net follower); taken = 0 }) calls leader′ follower′ calls′ sent took
+started file net station leader follower fresh calls leader′ follower′ calls′ sent took e =
+    subst (λ (x : List ℕ). AllCalled file net station (record { leader = leader; sent = 0; follower = x; taken = 0 }) calls leader′ follower′ calls′ sent took) e
+
+-- a refused file has no net
+pub no-net : (file area : List ℕ) (p : Table) → Parsed file p → p .number ≢ 0 → (refused (p .number) (p .value) ≡ netLength (readDiagram file)) × Laid file area
+unfolding netLength
+no-net file area p h n = go (readDiagram file) refl (h .number) (h .value)
+  where
+    go : (o : Outcome Diagram) → readDiagram file ≡ o → p .number ≡ refusalNumber o → p .value ≡ refusalValue o → (refused (p .number) (p .value) ≡ netLength o) × Laid file area
+    go (accepted d) r e f = absurd (n e)
+    go (refused number value) r e f = (
+      ap₂ refused e f,
+      record {
+        within = λ d s. absurd (let z : _≡_ {A = ℕ} 0 1 = cc in omega arith);
+        front = λ d s. absurd (let z : _≡_ {A = ℕ} 0 1 = cc in omega arith);
+      },
+    )
+
+-- an accepted file's net fits
+module _ (file : List ℕ) (rows items : ℕ) (table : List ℕ) (h : HoldsFile file rows items table) (bytes : areBytes file ≡ true) where
+  small : length (netFileOf (h .diagram)) ≤ 65535
+  small = net-small (h .diagram) rows items table file (h .holds) (h .uses) (held file (h .diagram) bytes (h .read))
+
+  translation : (area : List ℕ) → 65535 ≤ length area
+      → translated file area ≡ record { answer = accepted (length (netFileOf (h .diagram))); area = netFileOf (h .diagram) ++ drop (length (netFileOf (h .diagram))) area }
+  unfolding translated
+  translation area l = let s = small in rw (h .read, le-ltb (length area) (length (netFileOf (h .diagram))) (omega arith))
+
+  pub net-laid : (area after : List ℕ) (answer : Outcome ℕ) → 65535 ≤ length area → answer ≡ translated file area .answer → after ≡ translated file area .area
+      → (answer ≡ netLength (readDiagram file)) × Laid file after
+  unfolding netLength
+  net-laid area after answer l a e =
+      let t = translation area l in
+      let is : after ≡ netFileOf (h .diagram) ++ drop (length (netFileOf (h .diagram))) area = e ∙ ap (λ (x : Translated). x .area) t in
+      let same : (d : Diagram) → readDiagram file ≡ accepted d → h .diagram ≡ d = λ d r. (let r′ = h .read in cc) in (
+        a ∙ (ap (λ (x : Translated). x .answer) t ∙ ap netLength (sym (h .read))),
+        record {
+          within = λ d r. subst (λ (x : Diagram). length (netFileOf x) ≤ length after) (same d r)
+              (let n = length-append (netFileOf (h .diagram)) (drop (length (netFileOf (h .diagram))) area) in let m = ap length is in omega arith);
+          front = λ d r. subst (λ (x : Diagram). take (length (netFileOf x)) after ≡ netFileOf x) (same d r)
+              (ap (take (length (netFileOf (h .diagram)))) is ∙ take-at (netFileOf (h .diagram)) (drop (length (netFileOf (h .diagram))) area) (length (netFileOf (h .diagram))) refl);
+        },
+      )
+
+-- nothing was done
+pub unplayed : (o : Outcome Diagram) (number value : ℕ) → o ≡ refused number value → (file : List ℕ) (station : ℕ) (calls leader follower leader′ : List ℕ) → leader′ ≡ leader
+    → (refused number value ≡ returningZero o) × PlayedAs o file station calls leader follower calls leader′ follower 0 0
+unplayed (refused n v) number value e file station calls leader follower leader′ l =
+    (sym (ap returningZero e), record { leader-kept = l; follower-kept = refl; list-kept = refl; none-sent = refl; none-taken = refl })
+unplayed (accepted d) number value e file station calls leader follower leader′ l = absurd (let z : _≡_ {A = ℕ} 0 1 = cc in omega arith)
+
+-- the list was played
+pub played : (o : Outcome Diagram) (d : Diagram) → o ≡ accepted d → (file : List ℕ) (station : ℕ) (calls leader follower calls′ leader′ follower′ : List ℕ) (sent took : ℕ)
+    → Played file d station calls leader′ follower′ calls′ sent took
+    → (accepted 0 ≡ returningZero o) × PlayedAs o file station calls leader follower calls′ leader′ follower′ sent took
+played o d e file station calls leader follower calls′ leader′ follower′ sent took p = rw e (refl, p)
+
+-- a file that is refused
+pub file-refused : (file : List ℕ) (number value : ℕ) → refused number value ≡ netLength (readDiagram file) → (leader follower : List ℕ) → playable file leader follower ≡ refused number value
+unfolding netLength playable
+file-refused file number value e leader follower = go (readDiagram file) e
+  where
+    go : (o : Outcome Diagram) → refused number value ≡ netLength o
+        → andThen o (λ d. cond (eqb (length leader) (places d) && eqb (length follower) (netWordCount (netOf d))) (accepted d) (refused 20 0)) ≡ refused number value
+    go (accepted d) f = absurd (let z : _≡_ {A = ℕ} 0 1 = cc in omega arith)
+    go (refused n v) f = let a : n ≡ number = cc in let b : v ≡ value = cc in ap₂ refused a b
+
+-- a file that is accepted, and its net in an area
+pub found-net : (file area : List ℕ) (n : ℕ) → accepted n ≡ netLength (readDiagram file) → Laid file area → (n ≤ length area) × NetOf file (take n area)
+unfolding netLength
+found-net file area n e h = go (readDiagram file) refl e
+  where
+    go : (o : Outcome Diagram) → readDiagram file ≡ o → accepted n ≡ netLength o → (n ≤ length area) × NetOf file (take n area)
+    go (accepted d) r f = let q : n ≡ length (netFileOf d) = cc in
+        (subst (λ (x : ℕ). x ≤ length area) (sym q) (h .within d r), record { diagram = d; read = r; is = ap (λ (x : ℕ). take x area) q ∙ h .front d r })
+    go (refused number value) r f = absurd (let z : _≡_ {A = ℕ} 0 1 = cc in omega arith)
+
+module _ (file net : List ℕ) (n : NetOf file net) (bytes : areBytes file ≡ true) where
+  net-reads : readNet net ≡ accepted (netOf (n .diagram))
+  net-reads = ap readNet (n .is) ∙ net-read-back (netOf (n .diagram)) (net-well-formed file (n .diagram) bytes (n .read))
+
+  as-long : (follower : List ℕ) (b : Bool) → b ≡ asLong (readNet net) (length follower) → eqb (length follower) (netWordCount (netOf (n .diagram))) ≡ b
+  unfolding asLong
+  as-long follower b e = sym (e ∙ ap (λ (o : Outcome Net). asLong o (length follower)) net-reads)
+
+  playable-is : (leader follower : List ℕ) (a b : Bool) → eqb (length leader) (places (n .diagram)) ≡ a → eqb (length follower) (netWordCount (netOf (n .diagram))) ≡ b
+      → playable file leader follower ≡ cond (a && b) (accepted (n .diagram)) (refused 20 0)
+  unfolding playable
+  playable-is leader follower a b p q = ap (λ (o : Outcome Diagram). andThen o (λ d. cond (eqb (length leader) (places d) && eqb (length follower) (netWordCount (netOf d))) (accepted d) (refused 20 0))) (n .read)
+      ∙ ap₂ (λ (x y : Bool). cond (x && y) (accepted (n .diagram)) (refused 20 0)) p q
+
+  -- the follower's state has another length
+  pub follower-off : (leader follower : List ℕ) → false ≡ asLong (readNet net) (length follower) → playable file leader follower ≡ refused 20 0
+  follower-off leader follower e = decide (eqb (length leader) (places (n .diagram)))
+      (λ t. playable-is leader follower true false t (as-long follower false e)) (λ t. playable-is leader follower false false t (as-long follower false e))
+
+  fresh-is : (leader : List ℕ) (a : Bool) → eqb (length leader) (places (n .diagram)) ≡ a → freshDiagram file leader ≡ cond a (accepted (freshWords (n .diagram))) (refused 20 0)
+  unfolding freshDiagram
+  fresh-is leader a p = ap (λ (o : Outcome Diagram). andThen o (λ d. cond (eqb (length leader) (places d)) (accepted (freshWords d)) (refused 20 0))) (n .read)
+      ∙ ap (λ (x : Bool). cond x (accepted (freshWords (n .diagram))) (refused 20 0)) p
+
+  -- the leader's state has another length
+  pub leader-off : (leader follower leader′ : List ℕ) (number value : ℕ) → true ≡ asLong (readNet net) (length follower)
+      → refused number value ≡ returningZero (freshDiagram file leader) → leader′ ≡ afterwards leader (freshDiagram file leader)
+      → (playable file leader follower ≡ refused number value) × (leader′ ≡ leader)
+  leader-off leader follower leader′ number value e r l = decide (eqb (length leader) (places (n .diagram)))
+      (λ t. let z : refused number value ≡ accepted 0 = r ∙ ap returningZero (fresh-is leader true t) in absurd (let y : _≡_ {A = ℕ} 0 1 = cc in omega arith))
+      (λ t. let z : refused number value ≡ refused 20 0 = r ∙ ap returningZero (fresh-is leader false t) in let a : 20 ≡ number = cc in let b : 0 ≡ value = cc in
+      (playable-is leader follower false true t (as-long follower true e) ∙ ap₂ refused a b, l ∙ ap (afterwards leader) (fresh-is leader false t)))
+
+  fresh-net-is : (follower : List ℕ) → eqb (length follower) (netWordCount (netOf (n .diagram))) ≡ true → freshNet net follower ≡ accepted (freshNetWords (netOf (n .diagram)))
+  unfolding freshNet
+  fresh-net-is follower p = ap (λ (o : Outcome Net). andThen o (λ x. cond (eqb (length follower) (netWordCount x)) (accepted (freshNetWords x)) (refused 20 0))) net-reads
+      ∙ ap (λ (x : Bool). cond x (accepted (freshNetWords (netOf (n .diagram)))) (refused 20 0)) p
+
+  all-played : (station : ℕ) (calls leader′ follower′ calls′ : List ℕ) (sent took : ℕ)
+      → AllCalled file (netFileOf (n .diagram)) station (record { leader = freshWords (n .diagram); sent = 0; follower = freshNetWords (netOf (n .diagram)); taken = 0 }) calls leader′ follower′ calls′ sent took
+      → Played file (n .diagram) station calls leader′ follower′ calls′ sent took
+  unfolding freshEnds
+  all-played station calls leader′ follower′ calls′ sent took c =
+      let d = n .diagram in
+      let e = c .live ∙ sym (live-all file (netFileOf d) station (callsOf calls) (freshEnds d)) in record {
+        leader-holds = ap (λ (v : Live). v .leader) e;
+        sent-is = ap (λ (v : Live). v .sent) e;
+        follower-holds = ap (λ (v : Live). v .follower) e;
+        taken-is = ap (λ (v : Live). v .taken) e;
+        list-holds = c .list ∙ sym (ap (λ (s : List Seen). listAfter (length calls) s calls) (live-seen-all file (netFileOf d) station (callsOf calls) (freshEnds d)));
+        claim = demand-3 file d bytes (n .read) station (callsOf calls);
+      }
+
+  -- both ends are fresh and the calls were made
+  pub both-fresh : (station : ℕ) (leader follower fresh calls leader′ follower′ calls′ : List ℕ) (sent took value : ℕ) → true ≡ asLong (readNet net) (length follower)
+      → accepted value ≡ returningZero (freshDiagram file leader) → fresh ≡ afterwards leader (freshDiagram file leader)
+      → AllCalled file net station (record { leader = fresh; sent = 0; follower = afterwards follower (freshNet net follower); taken = 0 }) calls leader′ follower′ calls′ sent took
+      → (accepted 0 ≡ returningZero (playable file leader follower)) × PlayedAs (playable file leader follower) file station calls leader follower calls′ leader′ follower′ sent took
+  both-fresh station leader follower fresh calls leader′ follower′ calls′ sent took value e r l c = decide (eqb (length leader) (places (n .diagram)))
+      (λ t. let p = as-long follower true e in played (playable file leader follower) (n .diagram) (playable-is leader follower true true t p) file station calls leader follower calls′ leader′ follower′ sent took
+      (all-played station calls leader′ follower′ calls′ sent took
+      (subst (λ (x : List ℕ). AllCalled file x station (record { leader = freshWords (n .diagram); sent = 0; follower = freshNetWords (netOf (n .diagram)); taken = 0 }) calls leader′ follower′ calls′ sent took) (n .is)
+      (subst (λ (x : List ℕ). AllCalled file net station (record { leader = freshWords (n .diagram); sent = 0; follower = x; taken = 0 }) calls leader′ follower′ calls′ sent took)
+      (ap (afterwards follower) (fresh-net-is follower p))
+      (subst (λ (x : List ℕ). AllCalled file net station (record { leader = x; sent = 0; follower = afterwards follower (freshNet net follower); taken = 0 }) calls leader′ follower′ calls′ sent took)
+      (l ∙ ap (afterwards leader) (fresh-is leader true t)) c)))))
+      (λ t. let z : accepted value ≡ refused 20 0 = r ∙ ap returningZero (fresh-is leader false t) in absurd (let y : _≡_ {A = ℕ} 0 1 = cc in omega arith))
