@@ -1,6 +1,9 @@
 //! Document 01's examples A to I, through the proved functions: every length, answer, mark and clock that it gives.
 
-use effbd::{fresh_diagram, fresh_net, read_diagram, read_net, step_diagram, step_net, take, translate, Answer, Refusal};
+use effbd::{
+    fresh_diagram, fresh_net, read_diagram, read_net, step_diagram, step_net, take, translate,
+    Answer, Refusal,
+};
 use model::bus::Telegram;
 use model::examples;
 
@@ -29,12 +32,20 @@ impl Plant {
         let mut marks = vec![0; read_net(&net).expect("accepted") as usize];
         assert_eq!(fresh_diagram(&file, &mut diagram), Ok(0));
         assert_eq!(fresh_net(&net, &mut marks), Ok(0));
-        Plant { file, net, diagram, marks }
+        Plant {
+            file,
+            net,
+            diagram,
+            marks,
+        }
     }
 
     /// Offers a move to both steppers.
     fn offer(&mut self, code: u16, argument: u16, diagram: Answer, net: Answer) {
-        assert_eq!(step_diagram(&self.file, &mut self.diagram, code, argument), diagram);
+        assert_eq!(
+            step_diagram(&self.file, &mut self.diagram, code, argument),
+            diagram
+        );
         assert_eq!(step_net(&self.net, &mut self.marks, code, argument), net);
     }
 
@@ -43,7 +54,12 @@ impl Plant {
     }
 
     fn refused(&mut self, code: u16, argument: u16, number: u32, value: u32) {
-        self.offer(code, argument, refused(number, value), refused(number, value));
+        self.offer(
+            code,
+            argument,
+            refused(number, value),
+            refused(number, value),
+        );
     }
 }
 
@@ -119,7 +135,13 @@ fn i_takes_only_the_next_number() {
     let plant = Plant::fresh(examples::b(), 14, 26);
     for (number, answer) in [(4, refused(32, 4)), (5, Ok(5)), (6, refused(33, 4))] {
         let mut marks = plant.marks.clone();
-        let telegram = Telegram { number, station: 7, code: WAIT, argument: 1 }.encode();
+        let telegram = Telegram {
+            number,
+            station: 7,
+            code: WAIT,
+            argument: 1,
+        }
+        .encode();
         assert_eq!(take(&plant.net, &mut marks, 4, 7, &telegram), answer);
         assert_eq!(marks, plant.marks);
     }

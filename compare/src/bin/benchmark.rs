@@ -9,7 +9,9 @@ use std::hint::black_box;
 use std::time::Instant;
 
 const STATION: u16 = 9;
-const ROUNDS: usize = 7;
+const MOVES: usize = 24;
+const CALLS: usize = 100 * MOVES;
+const ROUNDS: usize = 100;
 
 /// A diagram of just so many rows with as many accepted moves as asked, and these moves with the states before them.
 struct Plant {
@@ -62,26 +64,167 @@ fn accepted_moves(random: &mut Random, file: &[u8], wanted: usize) -> Vec<(Vec<u
     moves
 }
 
-/// A result that the compiler must not leave out.
-fn used<T>(result: T) {
-    black_box(result);
-}
-
-/// The least time of some rounds, in nanoseconds a call.
-fn nanoseconds(calls: usize, mut round: impl FnMut()) -> f64 {
-    let mut least = f64::INFINITY;
-    for _ in 0..ROUNDS {
-        let start = Instant::now();
-        round();
-        least = least.min(start.elapsed().as_nanos() as f64 / calls as f64);
+/// The time of `calls` calls, in nanoseconds a call; the compiler must not leave a result out.
+fn nanoseconds<T>(calls: usize, call: &mut impl FnMut(usize) -> T) -> f64 {
+    let start = Instant::now();
+    for number in 0..calls {
+        black_box(call(number));
     }
-    least
+    start.elapsed().as_nanos() as f64 / calls as f64
 }
 
-fn line(name: &str, rows: usize, proved: f64, model: f64) {
+/// Prints the least times of both and their ratio. Their rounds take turns, so that a machine that slows down slows both.
+fn compare<P, M>(
+    name: &str,
+    rows: usize,
+    mut proved: impl FnMut(usize) -> P,
+    mut model: impl FnMut(usize) -> M,
+) {
+    let mut least = (f64::INFINITY, f64::INFINITY);
+    for _ in 0..ROUNDS {
+        least.0 = least.0.min(nanoseconds(CALLS, &mut proved));
+        least.1 = least.1.min(nanoseconds(CALLS, &mut model));
+    }
     println!(
-        "{name:<14} {rows:>4} rows {proved:>10.0} ns {model:>10.0} ns {:>8.2}",
-        proved / model
+        "{name:<14} {rows:>4} rows {:>10.0} ns {:>10.0} ns {:>8.2}",
+        least.0,
+        least.1,
+        least.0 / least.1
+    );
+}
+
+/// Reading and translating.
+fn compare_files(rows: usize, plant: &Plant) {
+    let (file, net) = (&plant.file, &plant.net);
+    let mut areas = (vec![0; 65_536], vec![0; 65_536]);
+    compare(
+        "read",
+        rows,
+        |_| effbd::read_diagram(black_box(file)),
+        |_| model::diagram::read(black_box(file)),
+    );
+    compare(
+        "read net",
+        rows,
+        |_| effbd::read_net(black_box(net)),
+        |_| model::net::read(black_box(net)),
+    );
+    compare(
+        "translate",
+        rows,
+        |_| effbd::translate(black_box(file), &mut areas.0),
+        |_| model::translate::translate(black_box(file), &mut areas.1),
+    );
+}
+
+/// The diagram's step and the leader's call.
+fn compare_diagram(rows: usize, plant: &Plant) {
+    let file = &plant.file;
+    let moves = |number: usize| &plant.moves[number % plant.moves.len()];
+    let mut states = (plant.moves[0].0.clone(), plant.moves[0].0.clone());
+    compare(
+        "diagram step",
+        rows,
+        |number| {
+            let (before, code, argument) = moves(number);
+            states.0.copy_from_slice(before);
+            effbd::step_diagram(file, &mut states.0, *code, *argument)
+        },
+        |number| {
+            let (before, code, argument) = moves(number);
+            states.1.copy_from_slice(before);
+            model::diagram_step::step(file, &mut states.1, *code, *argument)
+        },
+    );
+    let mut areas = ([0; 14], [0; 14]);
+    compare(
+        "offer",
+        rows,
+        |number| {
+            let (before, code, argument) = moves(number);
+            states.0.copy_from_slice(before);
+            effbd::offer(
+                file,
+                &mut states.0,
+                3,
+                STATION,
+                *code,
+                *argument,
+                &mut areas.0,
+            )
+        },
+        |number| {
+            let (before, code, argument) = moves(number);
+            states.1.copy_from_slice(before);
+            model::bus::offer(
+                file,
+                &mut states.1,
+                3,
+                STATION,
+                *code,
+                *argument,
+                &mut areas.1,
+            )
+        },
+    );
+}
+
+/// The net's step and the follower's call, on the same moves.
+fn compare_net(rows: usize, plant: &Plant) {
+    let net = &plant.net;
+    let before: Vec<Vec<u16>> = plant
+        .moves
+        .iter()
+        .filter_map(|(before, _, _)| model::image::image(&plant.file, before))
+        .collect();
+    let telegram = |&(_, code, argument): &(Vec<u16>, u16, u16)| Telegram {
+        number: 4,
+        station: STATION,
+        code,
+        argument,
+    };
+    let telegrams: Vec<Vec<u8>> = plant
+        .moves
+        .iter()
+        .map(|move_| telegram(move_).encode())
+        .collect();
+    let mut states = (before[0].clone(), before[0].clone());
+    let moves = |number: usize| &plant.moves[number % before.len()];
+    compare(
+        "net step",
+        rows,
+        |number| {
+            states.0.copy_from_slice(&before[number % before.len()]);
+            effbd::step_net(net, &mut states.0, moves(number).1, moves(number).2)
+        },
+        |number| {
+            states.1.copy_from_slice(&before[number % before.len()]);
+            model::net_step::step(net, &mut states.1, moves(number).1, moves(number).2)
+        },
+    );
+    compare(
+        "take",
+        rows,
+        |number| {
+            states.0.copy_from_slice(&before[number % before.len()]);
+            effbd::take(
+                net,
+                &mut states.0,
+                3,
+                STATION,
+                &telegrams[number % before.len()],
+            )
+        },
+        |number| {
+            states.1.copy_from_slice(&before[number % before.len()]);
+            model::bus::take(
+                net,
+                &mut states.1,
+                3,
+                STATION,
+                &telegrams[number % before.len()],
+            )
+        },
     );
 }
 
@@ -91,135 +234,9 @@ fn main() {
         "function", "", "proved", "model", "ratio"
     );
     for rows in [5, 30, 64] {
-        let plant = plant(rows, 24);
-        let turns = 400;
-        let calls = turns * plant.moves.len();
-        let mut area = vec![0; 65_536];
-
-        let proved = nanoseconds(calls, || {
-            (0..calls).for_each(|_| used(effbd::read_diagram(black_box(&plant.file))))
-        });
-        let model = nanoseconds(calls, || {
-            (0..calls).for_each(|_| used(model::diagram::read(black_box(&plant.file))))
-        });
-        line("read", rows, proved, model);
-
-        let proved = nanoseconds(calls, || {
-            (0..calls).for_each(|_| used(effbd::translate(black_box(&plant.file), &mut area)))
-        });
-        let model = nanoseconds(calls, || {
-            (0..calls).for_each(|_| {
-                used(model::translate::translate(
-                    black_box(&plant.file),
-                    &mut area,
-                ))
-            })
-        });
-        line("translate", rows, proved, model);
-
-        let mut state = plant.moves[0].0.clone();
-        let mut each = |step: &mut dyn FnMut(&mut [u16], u16, u16)| {
-            for _ in 0..turns {
-                for (before, code, argument) in &plant.moves {
-                    state.copy_from_slice(before);
-                    step(&mut state, *code, *argument);
-                }
-            }
-        };
-        let proved = nanoseconds(calls, || {
-            each(&mut |state, code, argument| {
-                used(effbd::step_diagram(&plant.file, state, code, argument))
-            })
-        });
-        let model = nanoseconds(calls, || {
-            each(&mut |state, code, argument| {
-                used(model::diagram_step::step(
-                    &plant.file,
-                    state,
-                    code,
-                    argument,
-                ))
-            })
-        });
-        line("diagram step", rows, proved, model);
-
-        let mut telegram = [0; 14];
-        let proved = nanoseconds(calls, || {
-            each(&mut |state, code, argument| {
-                used(effbd::offer(
-                    &plant.file,
-                    state,
-                    3,
-                    STATION,
-                    code,
-                    argument,
-                    &mut telegram,
-                ))
-            })
-        });
-        let model = nanoseconds(calls, || {
-            each(&mut |state, code, argument| {
-                used(model::bus::offer(
-                    &plant.file,
-                    state,
-                    3,
-                    STATION,
-                    code,
-                    argument,
-                    &mut telegram,
-                ))
-            })
-        });
-        line("offer", rows, proved, model);
-
-        let marks: Vec<(Vec<u16>, u16, u16, Vec<u8>)> = plant
-            .moves
-            .iter()
-            .filter_map(|(before, code, argument)| {
-                let bytes = Telegram {
-                    number: 4,
-                    station: STATION,
-                    code: *code,
-                    argument: *argument,
-                }
-                .encode();
-                Some((
-                    model::image::image(&plant.file, before)?,
-                    *code,
-                    *argument,
-                    bytes,
-                ))
-            })
-            .collect();
-        let mut state = marks[0].0.clone();
-        let mut each = |step: &mut dyn FnMut(&mut [u16], u16, u16, &[u8])| {
-            for _ in 0..turns {
-                for (before, code, argument, bytes) in &marks {
-                    state.copy_from_slice(before);
-                    step(&mut state, *code, *argument, bytes);
-                }
-            }
-        };
-        let proved = nanoseconds(calls, || {
-            each(&mut |state, code, argument, _| {
-                used(effbd::step_net(&plant.net, state, code, argument))
-            })
-        });
-        let model = nanoseconds(calls, || {
-            each(&mut |state, code, argument, _| {
-                used(model::net_step::step(&plant.net, state, code, argument))
-            })
-        });
-        line("net step", rows, proved, model);
-
-        let proved = nanoseconds(calls, || {
-            each(&mut |state, _, _, bytes| used(effbd::take(&plant.net, state, 3, STATION, bytes)))
-        });
-        let model = nanoseconds(calls, || {
-            each(&mut |state, _, _, bytes| {
-                used(model::bus::take(&plant.net, state, 3, STATION, bytes))
-            })
-        });
-        line("take", rows, proved, model);
+        let plant = plant(rows, MOVES);
+        compare_files(rows, &plant);
+        compare_diagram(rows, &plant);
+        compare_net(rows, &plant);
     }
 }
