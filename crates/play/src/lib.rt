@@ -62,7 +62,7 @@ pub fn call_length(rest: &[u8]) -> usize
     0
 }
 
-// Makes the call that `record` is: an offer writes its telegram into the record's own area.
+// Makes the call that a record of a list is: an offer writes its telegram into the record's own area.
 fn make_call(
     file: &[u8],
     net: &[u8],
@@ -166,7 +166,7 @@ fn as_long(net: &[u8], length: usize) -> bool
     }
 }
 
-// The net of a file, written into an area that has room for every net.
+// The net of a file, written into an area that has room for every net (of an accepted file's table it is known that its net fits).
 fn translate_into(file: &[u8], area: &mut [u8]) -> Answer
     requires { ⌜ 65535 ≤ length (now area) ⌝ }
     ensures { λ r. ⌜ said r ≡ netLength (readDiagram (now (file .entry))) ⌝ }
