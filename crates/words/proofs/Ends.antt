@@ -16,6 +16,10 @@ word-out bytes at h =
     let b = List·getD-eq-default bytes 0 {n = suc at} (omega arith) in
     omega arith
 
+-- the last byte, or what is past the end, as a word
+pub word-last : (bytes : List ℕ) (at byte : ℕ) → length bytes ≤ at + 1 → byte ≡ getD bytes at 0 → byte ≡ word bytes at
+word-last bytes at byte h e = let b = List·getD-eq-default bytes 0 {n = suc at} (omega arith) in omega arith
+
 pub long-out : (bytes : List ℕ) (at : ℕ) → length bytes ≤ at → 0 ≡ longIn bytes at
 long-out bytes at h =
     let a = word-out bytes at h in

@@ -31,6 +31,19 @@ length-at k h = eqb-true (getD lengths k 0) (lengthOf k) (and-left (eqb (getD le
 pub fields-at : (k : ℕ) → k < 38 → getD fields k 0 ≡ fieldsOf k
 fields-at k h = eqb-true (getD fields k 0) (fieldsOf k) (and-right (eqb (getD lengths k 0) (lengthOf k)) (eqb (getD fields k 0) (fieldsOf k)) (all-elim 38 right all-right k h))
 
+abbrev small : ℕ → Bool
+small k = ltb (getD lengths k 0) 65536 && ltb (getD fields k 0) 65536
+
+all-small : allBelow 38 small ≡ true
+unfolding lengths fields
+all-small = refl
+
+pub length-small : (k : ℕ) → k < 38 → getD lengths k 0 < 65536
+length-small k h = ltb-true (getD lengths k 0) 65536 (and-left (ltb (getD lengths k 0) 65536) (ltb (getD fields k 0) 65536) (all-elim 38 small all-small k h))
+
+pub fields-small : (k : ℕ) → k < 38 → getD fields k 0 < 65536
+fields-small k h = ltb-true (getD fields k 0) 65536 (and-right (ltb (getD lengths k 0) 65536) (ltb (getD fields k 0) 65536) (all-elim 38 small all-small k h))
+
 abbrev low : List Entry → Bool
 low [] = true
 low (e ∷ es) = ltb (e .kind) 38 && low es

@@ -2,8 +2,8 @@
 ghost use mathlib.Core.Path.{_≡_};
 ghost use Rattle.effbd.specs.Records.{lengthOf, fieldsOf};
 
-// The length of a record of each kind; a FUNCTION has 6 bytes more for each of its uses.
-const LENGTHS: [u16; 38] = [
+// The length of a record of each kind; a FUNCTION has 6 bytes more for each of its uses. Bytes, since a call lays the table out anew.
+const LENGTHS: [u8; 38] = [
     0,
     10,
     6,
@@ -45,7 +45,7 @@ const LENGTHS: [u16; 38] = [
 ];
 
 // The number of 16-bit fields in that length.
-const FIELDS: [u16; 38] = [
+const FIELDS: [u8; 38] = [
     0,
     3,
     1,
@@ -91,7 +91,7 @@ pub fn length_of(kind: u16) -> u16
     ensures { λ r. ⌜ r ≡ lengthOf kind ⌝ }
 {
     if kind < 38 {
-        return LENGTHS[kind as usize];
+        return LENGTHS[kind as usize] as u16;
     }
     0
 }
@@ -101,7 +101,7 @@ pub fn fields_of(kind: u16) -> u16
     ensures { λ r. ⌜ r ≡ fieldsOf kind ⌝ }
 {
     if kind < 38 {
-        return FIELDS[kind as usize];
+        return FIELDS[kind as usize] as u16;
     }
     0
 }

@@ -18,14 +18,17 @@ pub fn byte(bytes: &[u8], at: usize) -> u16
     0
 }
 
-// The 16 bits at `at`.
+// The 16 bits at `at`; one look at the length serves both bytes.
 pub fn word(bytes: &[u8], at: usize) -> u16
     ensures { λ r. ⌜ r ≡ wordIn (now (bytes .entry)) at ⌝ }
 {
-    if at < bytes.len() {
-        return byte(bytes, at) + 256 * byte(bytes, at + 1);
+    if bytes.len() < 2 {
+        return byte(bytes, at);
     }
-    0
+    if bytes.len() - 2 < at {
+        return byte(bytes, at);
+    }
+    bytes[at] as u16 + 256 * (bytes[at + 1] as u16)
 }
 
 // The 32 bits at `at`.
