@@ -1,17 +1,34 @@
 -- Turns of this crate's loops.
 use Prim.Native.Nat.{ℕ, _+_, _-_, _≤_, _<_}
-use mathlib.Core.Path.{_≡_, sym, _∙_, ap}
-use mathlib.Core.Bool.{Bool, true, false, cond}
+use mathlib.Core.Path.{_≡_, refl, sym, _∙_, ap}
+use mathlib.Core.Bool.{Bool, true, false, cond, _&&_}
 use mathlib.Core.List.{List}
 use native.Mathlib.Nat.{sub-zero}
+use native.Mathlib.Omega.{arith}
 use lib.ListN.{getD, drop}
-use borrow.Author.Tests.{lt-ltb, le-ltb}
+use lib.Dec.{eqb}
+use borrow.Author.Tests.{lt-ltb, le-ltb, le-leb, eqb-true}
 use Rattle.effbd.specs.Ranges.{allBelow}
 use Rattle.effbd.specs.Records.{word}
 use Rattle.effbd.specs.Diagrams.{usesAt}
-use Rattle.agreement.specs.Basics.{all-intro}
-use Rattle.diagram_moves.specs.Decisions.{countPlace, exceeds, blockedItem, doneAt, doneFrom}
+use Rattle.agreement.specs.Basics.{all-intro, and-left, and-right, and-intro}
+use Rattle.diagram_moves.specs.Cells.{kindIn, firstIn}
+use Rattle.diagram_moves.specs.Decisions.{activityAllowed, turnsAllowed, clockAllowed, countPlace, exceeds, blockedItem, doneAt, doneFrom}
 use Rattle.diagram_moves.specs.UseLaws.{uses-more, uses-none}
+
+-- a row at rest passes, whatever its kind
+always : (b : Bool) {x y : Bool} → x ≡ true → y ≡ true → cond b x y ≡ true
+always true p q = p
+always false p q = q
+
+pub rest-allowed : (table : List ℕ) (r a n c : ℕ) → (eqb a 0 && (eqb n 0 && eqb c 0)) ≡ true → (activityAllowed table r a && (turnsAllowed table r n && clockAllowed table r a c)) ≡ true
+unfolding activityAllowed turnsAllowed clockAllowed
+rest-allowed table r a n c h =
+    rw (eqb-true a 0 (and-left (eqb a 0) _ h), eqb-true n 0 (and-left (eqb n 0) _ (and-right (eqb a 0) _ h)), eqb-true c 0 (and-right (eqb n 0) _ (and-right (eqb a 0) _ h)))
+    (and-intro (always (k 16) refl (always (k 18) refl (always (k 19) refl refl))) (and-intro (always (k 22) (le-leb 0 (firstIn table r) (omega arith)) refl) refl))
+  where
+    k : ℕ → Bool
+    k n = eqb (kindIn table r) n
 
 -- before row o nothing is asked
 pub done-start : (table l : List ℕ) (o : ℕ) → allBelow o (doneFrom table l o) ≡ true

@@ -1,5 +1,7 @@
 // The check of a state: refusal 20.
 ghost use mathlib.Core.Path.{_≡_};
+ghost use mathlib.Core.Bool.{_&&_};
+ghost use lib.Dec.{eqb};
 ghost use Rattle.diagram_moves.specs.Decisions.{activityAllowed, turnsAllowed, clockAllowed, rowAllowed, stateAllowed};
 use crate::cells;
 use crate::kinds;
@@ -48,17 +50,30 @@ fn clock_allowed(table: &[u16], row: u32, activity: u16, clock: u16) -> bool
     clock == 0
 }
 
+// An idle row, with no turns and no clock.
+fn rests(activity: u16, turns: u16, clock: u16) -> bool
+    ensures { λ r. ⌜ r ≡ (eqb activity 0 && (eqb turns 0 && eqb clock 0)) ⌝ }
+{
+    activity == 0 && (turns == 0 && clock == 0)
+}
+
+// Most rows of a plant rest, and a resting row passes whatever its kind.
 fn row_allowed(table: &[u16], state: &[u16], row: u32) -> bool
     ensures { λ r. ⌜ r ≡ rowAllowed (now (table .entry)) (now (state .entry)) row ⌝ }
 {
     let activity = cells::activity(state, row);
+    let turns = cells::turns(state, row);
+    let clock = cells::clock(state, row);
+    if rests(activity, turns, clock) {
+        return true;
+    }
     if !activity_allowed(table, row, activity) {
         return false;
     }
-    if !turns_allowed(table, row, cells::turns(state, row)) {
+    if !turns_allowed(table, row, turns) {
         return false;
     }
-    clock_allowed(table, row, activity, cells::clock(state, row))
+    clock_allowed(table, row, activity, clock)
 }
 
 // A state has three words for each row and one for each item, and every row passes.
