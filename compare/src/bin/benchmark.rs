@@ -11,7 +11,8 @@ use std::time::Instant;
 const STATION: u16 = 9;
 const MOVES: usize = 24;
 const CALLS: usize = 100 * MOVES;
-const ROUNDS: usize = 100;
+const ROUNDS: usize = 20;
+const SWEEPS: usize = 5;
 
 /// A diagram of just so many rows with as many accepted moves as asked, and these moves with the states before them.
 struct Plant {
@@ -73,9 +74,19 @@ fn nanoseconds<T>(calls: usize, call: &mut impl FnMut(usize) -> T) -> f64 {
     start.elapsed().as_nanos() as f64 / calls as f64
 }
 
-/// Prints the least times of both and their ratio. Their rounds take turns, so that a machine that slows down slows both.
+/// The least times of one function on one plant, in nanoseconds a call.
+struct Times {
+    name: &'static str,
+    rows: usize,
+    proved: f64,
+    model: f64,
+}
+
+/// Times a function, `proved` and `model`, and keeps the least of each. Their rounds take turns, so that a machine that slows down
+/// slows both; each sweep comes back to every function, so that a slow spell spoils none.
 fn compare<P, M>(
-    name: &str,
+    table: &mut Vec<Times>,
+    name: &'static str,
     rows: usize,
     mut proved: impl FnMut(usize) -> P,
     mut model: impl FnMut(usize) -> M,
@@ -85,31 +96,43 @@ fn compare<P, M>(
         least.0 = least.0.min(nanoseconds(CALLS, &mut proved));
         least.1 = least.1.min(nanoseconds(CALLS, &mut model));
     }
-    println!(
-        "{name:<14} {rows:>4} rows {:>10.0} ns {:>10.0} ns {:>8.2}",
-        least.0,
-        least.1,
-        least.0 / least.1
-    );
+    match table
+        .iter_mut()
+        .find(|line| line.name == name && line.rows == rows)
+    {
+        Some(line) => {
+            line.proved = line.proved.min(least.0);
+            line.model = line.model.min(least.1);
+        }
+        None => table.push(Times {
+            name,
+            rows,
+            proved: least.0,
+            model: least.1,
+        }),
+    }
 }
 
 /// Reading and translating.
-fn compare_files(rows: usize, plant: &Plant) {
+fn compare_files(table: &mut Vec<Times>, rows: usize, plant: &Plant) {
     let (file, net) = (&plant.file, &plant.net);
     let mut areas = (vec![0; 65_536], vec![0; 65_536]);
     compare(
+        table,
         "read",
         rows,
         |_| effbd::read_diagram(black_box(file)),
         |_| model::diagram::read(black_box(file)),
     );
     compare(
+        table,
         "read net",
         rows,
         |_| effbd::read_net(black_box(net)),
         |_| model::net::read(black_box(net)),
     );
     compare(
+        table,
         "translate",
         rows,
         |_| effbd::translate(black_box(file), &mut areas.0),
@@ -118,11 +141,12 @@ fn compare_files(rows: usize, plant: &Plant) {
 }
 
 /// The diagram's step and the leader's call.
-fn compare_diagram(rows: usize, plant: &Plant) {
+fn compare_diagram(table: &mut Vec<Times>, rows: usize, plant: &Plant) {
     let file = &plant.file;
     let moves = |number: usize| &plant.moves[number % plant.moves.len()];
     let mut states = (plant.moves[0].0.clone(), plant.moves[0].0.clone());
     compare(
+        table,
         "diagram step",
         rows,
         |number| {
@@ -138,6 +162,7 @@ fn compare_diagram(rows: usize, plant: &Plant) {
     );
     let mut areas = ([0; 14], [0; 14]);
     compare(
+        table,
         "offer",
         rows,
         |number| {
@@ -170,7 +195,7 @@ fn compare_diagram(rows: usize, plant: &Plant) {
 }
 
 /// The net's step and the follower's call, on the same moves.
-fn compare_net(rows: usize, plant: &Plant) {
+fn compare_net(table: &mut Vec<Times>, rows: usize, plant: &Plant) {
     let net = &plant.net;
     let before: Vec<Vec<u16>> = plant
         .moves
@@ -191,6 +216,7 @@ fn compare_net(rows: usize, plant: &Plant) {
     let mut states = (before[0].clone(), before[0].clone());
     let moves = |number: usize| &plant.moves[number % before.len()];
     compare(
+        table,
         "net step",
         rows,
         |number| {
@@ -203,6 +229,7 @@ fn compare_net(rows: usize, plant: &Plant) {
         },
     );
     compare(
+        table,
         "take",
         rows,
         |number| {
@@ -229,14 +256,27 @@ fn compare_net(rows: usize, plant: &Plant) {
 }
 
 fn main() {
+    let plants = [5, 30, 64].map(|rows| (rows, plant(rows, MOVES)));
+    let mut table = Vec::new();
+    for _ in 0..SWEEPS {
+        for (rows, plant) in &plants {
+            compare_files(&mut table, *rows, plant);
+            compare_diagram(&mut table, *rows, plant);
+            compare_net(&mut table, *rows, plant);
+        }
+    }
     println!(
         "{:<14} {:>9} {:>13} {:>13} {:>8}",
         "function", "", "proved", "model", "ratio"
     );
-    for rows in [5, 30, 64] {
-        let plant = plant(rows, MOVES);
-        compare_files(rows, &plant);
-        compare_diagram(rows, &plant);
-        compare_net(rows, &plant);
+    for line in table {
+        println!(
+            "{:<14} {:>4} rows {:>10.0} ns {:>10.0} ns {:>8.2}",
+            line.name,
+            line.rows,
+            line.proved,
+            line.model,
+            line.proved / line.model
+        );
     }
 }
