@@ -6,4 +6,5 @@ pub mod Turns
 pub mod Walks
 pub mod Accepted
 pub mod Standing
+pub mod Places
 pub mod Offsets

@@ -1,8 +1,9 @@
 -- A net file read as one row of records: what is due next decides what a record is checked for. Assumes nothing.
-use Prim.Native.Nat.{ℕ, suc, _-_}
+use Prim.Native.Nat.{ℕ, suc, _-_, _*_, _≤_, _<_}
+use mathlib.Core.Path.{_≡_}
 use mathlib.Core.Bool.{Bool, true, cond, _&&_}
 use mathlib.Core.List.{List, []}
-use lib.ListN.{length}
+use lib.ListN.{length, drop}
 use lib.Dec.{leb, eqb}
 use Rattle.effbd.specs.Answers.{Outcome, accepted, andThen, returningZero}
 use Rattle.effbd.specs.Records.{word, lengthAt, kindAt, lengthOf, faultAt, readMany}
@@ -49,6 +50,14 @@ nextDue due rest = cond (eqb (kindAt rest) 33)
 
 unfoldable pub ended : Due → List ℕ → Bool
 ended due rest = eqb (due .places) 0 && (eqb (due .transitions) 0 && eqb (length rest) 0)
+
+-- a place with nothing off stands at the start; n of `count` places from the start on, all with nothing off
+unfoldable pub placeRight : List ℕ → Bool
+placeRight rest = leb 6 (length rest) && (eqb (kindAt rest) 33 && eqb (lengthAt rest) (lengthOf 33))
+
+pub record RightPlaces (count n : ℕ) (places : List ℕ) : Type 0 where
+  pub few : n ≤ count
+  pub all : (i : ℕ) → i < n → placeRight (drop (6 * i) places) ≡ true
 
 -- what is answered for `rest`, the end of a file of `total` bytes, where `due` is due: 0, or the refusal
 unfoldable pub verdict : (count total : ℕ) → Due → List ℕ → Outcome ℕ

@@ -1,4 +1,4 @@
-// The reader of net files: one loop over the records, each checked against what is due.
+// The reader of net files: the places that stand right, then one loop over the records, each checked against what is due.
 use effbd::Answer;
 ghost use mathlib.Core.Path.{_≡_};
 ghost use mathlib.Core.Bool.{cond};
@@ -7,7 +7,7 @@ ghost use lib.Dec.{eqb};
 ghost use Rattle.effbd.specs.Answers.{said};
 ghost use Rattle.effbd.specs.Nets.{arcFine, above as aboveOf, transitionFine, netHeadFault, readNet};
 ghost use Rattle.net_file.specs.Contents.{headFine};
-ghost use Rattle.net_file.specs.Due.{start as startOf, arcOf, timed, arcNext, dueKind, fieldsFine, faultIn, nextDue, ended as endedBy, wordsOf};
+ghost use Rattle.net_file.specs.Due.{start as startOf, arcOf, timed, arcNext, dueKind, fieldsFine, faultIn, nextDue, ended as endedBy, placeRight, RightPlaces, wordsOf};
 
 // The kinds of net records, and the limits that a net's head has to keep.
 const HEAD: u16 = 32;
@@ -200,6 +200,31 @@ fn ended(due: Due, rest: &[u8]) -> bool
     due.places == 0 && (due.transitions == 0 && rest.len() == 0)
 }
 
+// Does a place with nothing off stand at the start?
+fn place_right(rest: &[u8]) -> bool
+    ensures { λ r. ⌜ r ≡ placeRight (now (rest .entry)) ⌝ }
+{
+    6 <= rest.len()
+        && (words::word(rest, 2) == PLACE && words::word(rest, 0) == words::kinds::length_of(PLACE))
+}
+
+// How many places with nothing off stand at the start, of `count`: a loop of their own, since most records are places.
+fn right_places(places: &[u8], count: u16) -> u16
+    ensures { λ r. ⌜ RightPlaces count r (now (places .entry)) ⌝ }
+{
+    let mut rest = places;
+    let mut n: u16 = 0;
+    while n < count {
+        if !place_right(rest) {
+            return n;
+        }
+        let more = words::tail(rest, 6);
+        rest = more;
+        n += 1;
+    }
+    n
+}
+
 // Reads a net file: accepted with the number of words of its state, or refused (1 to 6) with the record's offset.
 // After each record the rest of the file, starting at its end, is read next.
 pub fn read(net: &[u8]) -> Answer
@@ -211,8 +236,9 @@ pub fn read(net: &[u8]) -> Answer
     }
     let places = words::word(net, 4);
     let transitions = words::word(net, 6);
-    let mut due = start(places, transitions);
-    let mut rest = words::tail(net, 8);
+    let right = right_places(words::tail(net, 8), places);
+    let mut due = start(places - right, transitions);
+    let mut rest = words::tail(net, 8 + 6 * right as usize);
     while !ended(due, rest) {
         let wrong = fault(places, due, rest);
         if wrong != 0 {

@@ -5,15 +5,16 @@ use Prim.Native.Nat.{_-_}
 use native.Mathlib.Omega.{arith}
 use lib.ListN.{length}
 use Rattle.effbd.specs.Answers.{refused}
-use Rattle.net_file.proofs.Standing.{Stands, head-bad, head-fine, go-on, shrinks, stop, done, near-offset}
+use Rattle.net_file.proofs.Standing.{Stands, head-bad, go-on, shrinks, stop, done, near-offset}
+use Rattle.net_file.proofs.Places.{behind-right}
 use Rattle.net_file.proofs.read.Statement.{statement}
 use Rattle.net_file.proofs.read.Tie as tie
 
 abbrev Inv-loop : tie.InvT-loop
-Inv-loop net bad places transitions due₀ rest₀ due rest = Stands net rest places transitions due
+Inv-loop net bad places transitions right due₀ rest₀ due rest = Stands net rest places transitions due
 
 abbrev μ-loop : tie.MeasureT-loop
-μ-loop net bad places transitions due₀ rest₀ due rest = length rest
+μ-loop net bad places transitions right due₀ rest₀ due rest = length rest
 
 head-fault-requires : tie.Need-head-fault-requires Inv-loop μ-loop
 head-fault-requires c κs = search needs
@@ -27,14 +28,36 @@ word-requires c κs = search needs
 word-requires-2 : tie.Need-word-requires-2 Inv-loop μ-loop
 word-requires-2 c κs = search needs
 
-start-requires : tie.Need-start-requires Inv-loop μ-loop
-start-requires c κs = search needs
-
 tail-requires : tie.Need-tail-requires Inv-loop μ-loop
 tail-requires c κs = search needs
 
+right-places-requires : tie.Need-right-places-requires Inv-loop μ-loop
+right-places-requires c κs = search needs
+
+sub-start : tie.Need-sub-start Inv-loop μ-loop
+sub-start c = search needs
+
+start-requires : tie.Need-start-requires Inv-loop μ-loop
+start-requires c κs = search needs
+
+cast-tail : tie.Need-cast-tail Inv-loop μ-loop
+cast-tail c = search needs
+
+mul-tail : tie.Need-mul-tail Inv-loop μ-loop
+mul-tail c = search needs
+
+add-tail : tie.Need-add-tail Inv-loop μ-loop
+add-tail c = search needs
+
+tail-requires-2 : tie.Need-tail-requires-2 Inv-loop μ-loop
+tail-requires-2 c κs = search needs
+
 loop-holds : tie.Need-loop-holds Inv-loop μ-loop
-loop-holds c = head-fine (c .before .before .before .before .before .before .before .args .net .now) (c .tail .result .now) (c .before .before .before .word .result) (c .before .before .word2 .result) (c .before .start .result) (sym (c .before .before .before .before .before .head-fault .ensures) ∙ c .before .before .before .before .if1 .left) (c .before .before .before .word .ensures) (c .before .before .word2 .ensures) (c .before .start .ensures) (c .tail .ensures)
+loop-holds c =
+    behind-right (c .before .before .before .before .before .before .before .before .before .args .net .now) (c .before .before .before .before .before .word .result) (c .before .before .before .before .word2 .result)
+    (sym (c .before .before .before .before .before .before .before .head-fault .ensures) ∙ c .before .before .before .before .before .before .if1 .left) (c .before .before .before .before .before .word .ensures) (c .before .before .before .before .word2 .ensures)
+    (c .before .before .right-places .result) (c .before .before .before .tail .result .now) (c .before .start .result) (c .tail2 .result .now)
+    (c .before .before .before .tail .ensures) (c .before .before .right-places .ensures) (c .before .start .ensures) (c .tail2 .ensures)
 
 ended-requires : tie.Need-ended-requires Inv-loop μ-loop
 ended-requires c κs = search needs
@@ -42,17 +65,17 @@ ended-requires c κs = search needs
 fault-requires : tie.Need-fault-requires Inv-loop μ-loop
 fault-requires c κs = search needs
 
-sub-t15 : tie.Need-sub-t15 Inv-loop μ-loop
-sub-t15 c = let n = c .before .before .before .before .loop .inv .near .inside in omega arith
+sub-t21 : tie.Need-sub-t21 Inv-loop μ-loop
+sub-t21 c = let n = c .before .before .before .before .loop .inv .near .inside in omega arith
 
-cast-t16 : tie.Need-cast-t16 Inv-loop μ-loop
-cast-t16 c = let n = near-offset (length (c .before .before .before .before .before .before .before .before .before .before .before .before .args .net .now)) (c .before .before .before .before .loop .due) (c .before .before .before .before .loop .rest .now) (c .before .before .before .before .loop .inv .near) in omega arith
+cast-t22 : tie.Need-cast-t22 Inv-loop μ-loop
+cast-t22 c = let n = near-offset (length (c .before .before .before .before .before .before .before .before .before .before .before .before .before .before .args .net .now)) (c .before .before .before .before .loop .due) (c .before .before .before .before .loop .rest .now) (c .before .before .before .before .loop .inv .near) in omega arith
 
 returns-2 : tie.Need-returns-2 Inv-loop μ-loop
 returns-2 c =
     let l = c .before .before .before .before .loop in
-    ap (λ k. refused k (length (c .before .before .before .before .before .before .before .before .before .before .before .before .args .net .now) - length (l .rest .now))) (c .before .fault .ensures)
-    ∙ stop (c .before .before .before .before .before .before .before .before .before .before .before .before .args .net .now) (l .rest .now) (c .before .before .before .before .before .before .before .before .word .result) (c .before .before .before .before .before .before .before .word2 .result) (l .due) (l .inv)
+    ap (λ k. refused k (length (c .before .before .before .before .before .before .before .before .before .before .before .before .before .before .args .net .now) - length (l .rest .now))) (c .before .fault .ensures)
+    ∙ stop (c .before .before .before .before .before .before .before .before .before .before .before .before .before .before .args .net .now) (l .rest .now) (c .before .before .before .before .before .before .before .before .before .before .word .result) (c .before .before .before .before .before .before .before .before .before .word2 .result) (l .due) (l .inv)
     (sym (c .before .before .before .ended .ensures) ∙ not-true _ (c .before .before .if2 .taken)) (λ q. c .if3 .taken (c .before .fault .ensures ∙ q))
 
 word-requires-3 : tie.Need-word-requires-3 Inv-loop μ-loop
@@ -64,36 +87,36 @@ cast-size c = search needs
 next-requires : tie.Need-next-requires Inv-loop μ-loop
 next-requires c κs = search needs
 
-tail-requires-2 : tie.Need-tail-requires-2 Inv-loop μ-loop
-tail-requires-2 c κs = search needs
+tail-requires-3 : tie.Need-tail-requires-3 Inv-loop μ-loop
+tail-requires-3 c κs = search needs
 
 loop-less : tie.Need-loop-less Inv-loop μ-loop
 loop-less c =
     let l = c .before .before .before .before .before .before .before .loop in
-    shrinks (c .before .before .before .before .before .before .before .before .before .before .before .before .before .before .before .args .net .now) (l .rest .now) (c .before .before .before .before .before .before .before .before .before .before .before .word .result) (c .before .before .before .before .before .before .before .before .before .before .word2 .result) (l .due) (l .inv)
-    (c .before .before .word3 .result) (c .tail2 .result .now) (sym (c .before .before .before .before .fault .ensures) ∙ c .before .before .before .if3 .left) (c .before .before .word3 .ensures) (c .tail2 .ensures)
+    shrinks (c .before .before .before .before .before .before .before .before .before .before .before .before .before .before .before .before .before .args .net .now) (l .rest .now) (c .before .before .before .before .before .before .before .before .before .before .before .before .before .word .result) (c .before .before .before .before .before .before .before .before .before .before .before .before .word2 .result) (l .due) (l .inv)
+    (c .before .before .word3 .result) (c .tail3 .result .now) (sym (c .before .before .before .before .fault .ensures) ∙ c .before .before .before .if3 .left) (c .before .before .word3 .ensures) (c .tail3 .ensures)
 
 loop-again : tie.Need-loop-again Inv-loop μ-loop
 loop-again c =
     let l = c .before .before .before .before .before .before .before .loop in
-    go-on (c .before .before .before .before .before .before .before .before .before .before .before .before .before .before .before .args .net .now) (l .rest .now) (c .before .before .before .before .before .before .before .before .before .before .before .word .result) (c .before .before .before .before .before .before .before .before .before .before .word2 .result) (l .due) (l .inv)
-    (c .before .before .word3 .result) (c .before .next .result) (c .tail2 .result .now)
+    go-on (c .before .before .before .before .before .before .before .before .before .before .before .before .before .before .before .before .before .args .net .now) (l .rest .now) (c .before .before .before .before .before .before .before .before .before .before .before .before .before .word .result) (c .before .before .before .before .before .before .before .before .before .before .before .before .word2 .result) (l .due) (l .inv)
+    (c .before .before .word3 .result) (c .before .next .result) (c .tail3 .result .now)
     (sym (c .before .before .before .before .before .before .ended .ensures) ∙ not-true _ (c .before .before .before .before .before .if2 .taken)) (sym (c .before .before .before .before .fault .ensures) ∙ c .before .before .before .if3 .left)
-    (c .before .before .word3 .ensures) (c .before .next .ensures) (c .tail2 .ensures)
+    (c .before .before .word3 .ensures) (c .before .next .ensures) (c .tail3 .ensures)
 
-cast-t18 : tie.Need-cast-t18 Inv-loop μ-loop
-cast-t18 c = search needs
+cast-t24 : tie.Need-cast-t24 Inv-loop μ-loop
+cast-t24 c = search needs
 
-cast-t19 : tie.Need-cast-t19 Inv-loop μ-loop
-cast-t19 c = search needs
+cast-t25 : tie.Need-cast-t25 Inv-loop μ-loop
+cast-t25 c = search needs
 
-add-t20 : tie.Need-add-t20 Inv-loop μ-loop
-add-t20 c = search needs
+add-t26 : tie.Need-add-t26 Inv-loop μ-loop
+add-t26 c = search needs
 
 returns-3 : tie.Need-returns-3 Inv-loop μ-loop
 returns-3 c =
     let l = c .before .before .loop in
-    done (c .before .before .before .before .before .before .before .before .before .before .args .net .now) (l .rest .now) (c .before .before .before .before .before .before .word .result) (c .before .before .before .before .before .word2 .result) (l .due) (l .inv)
+    done (c .before .before .before .before .before .before .before .before .before .before .before .before .args .net .now) (l .rest .now) (c .before .before .before .before .before .before .before .before .word .result) (c .before .before .before .before .before .before .before .word2 .result) (l .due) (l .inv)
     (sym (c .before .ended .ensures) ∙ not-false _ (c .if2 .left))
 
 pub read-spec : {M : Type 1} → statement M
@@ -106,21 +129,27 @@ read-spec =
     returns
     word-requires
     word-requires-2
-    start-requires
     tail-requires
+    right-places-requires
+    sub-start
+    start-requires
+    cast-tail
+    mul-tail
+    add-tail
+    tail-requires-2
     loop-holds
     ended-requires
     fault-requires
-    sub-t15
-    cast-t16
+    sub-t21
+    cast-t22
     returns-2
     word-requires-3
     cast-size
     next-requires
-    tail-requires-2
+    tail-requires-3
     loop-less
     loop-again
-    cast-t18
-    cast-t19
-    add-t20
+    cast-t24
+    cast-t25
+    add-t26
     returns-3)
