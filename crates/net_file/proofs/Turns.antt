@@ -6,16 +6,16 @@ use mathlib.Core.List.{List}
 use native.Mathlib.Omega.{arith}
 use lib.ListN.{length, drop, length-drop}
 use lib.Dec.{leb, eqb}
-use borrow.Author.Tests.{eqb-true, eqb-false, eq-eqb, ne-eqb}
+use borrow.Author.Tests.{leb-true, eqb-true, eqb-false, eq-eqb, ne-eqb, le-ltb}
 use Rattle.words.proofs.Tests.{decide, clash, and-left, and-right}
 use Rattle.effbd.specs.Answers.{Outcome, accepted, refused, unless, andThen, returningZero}
-use Rattle.effbd.specs.Records.{word, lengthAt, kindAt, lengthOf, kindTable, entryIn, adding, readMany}
-use Rattle.effbd.specs.Nets.{takeArc, above, arcAt, transitionAt, Arc, Transition, markAt, markFault, Tail, withArc, withTransition, arcFault, transitionFault, readTail}
+use Rattle.effbd.specs.Records.{word, lengthAt, kindAt, lengthOf, kindTable, entryIn, faultAt, adding, readMany}
+use Rattle.effbd.specs.Nets.{takeArc, arcDue, arcFine, above, arcAt, transitionAt, Arc, Transition, markAt, markFault, Tail, withArc, withTransition, arcFault, transitionFault, readTail}
 use Rattle.net_file.specs.declared.Due.{Due}
-use Rattle.net_file.specs.Due.{arcNext, dueKind, fieldsFine, faultIn, nextDue, ended, verdict}
+use Rattle.net_file.specs.Due.{arcNext, arcRight, dueKind, fieldsFine, faultIn, nextDue, ended, verdict}
 use Rattle.agreement.specs.ByteLaws.{none-clean}
 use Rattle.net_file.proofs.Records.{unless-same, unless-then, adding-then}
-use Rattle.net_file.proofs.Tails.{arc-kind, arc-read, transition-read, tail-arc, tail-end, tail-over, tail-transition, tail-fuel}
+use Rattle.net_file.proofs.Tails.{Arcs, arc-kind, arc-length, arc-read, transition-read, tail-arc, tail-end, tail-over, tail-transition, tail-fuel}
 
 -- what may stand next
 pub data Way (due : Due) (rest : List ℕ) : Type 0 where
@@ -42,6 +42,39 @@ place-read rest e =
     let s : lengthAt rest ≡ 6 = eqb-true (lengthAt rest) 6 (c .isRight) in
     let z = c .whole in
     record { kind = eqb-true (kindAt rest) 33 (c .isDue); six = s; whole = omega arith }
+
+-- an arc with nothing off has no fault
+no-fault : (count : ℕ) (due : Due) (rest : List ℕ) → 8 ≤ length rest → eqb (due .places) 0 ≡ true → arcNext (due .kind) rest ≡ true → Arcs (kindAt rest) → lengthAt rest ≡ 8
+    → arcFine count (due .kind) (due .from) (arcAt rest) ≡ true → faultIn count due rest ≡ 0
+unfolding faultIn dueKind fieldsFine faultAt
+no-fault count due rest l p n a e f =
+    rw (
+      p,
+      n,
+      ne-eqb (kindAt rest) 0 (omega arith),
+      eq-eqb (kindAt rest) (kindAt rest) refl,
+      ne-eqb (kindAt rest) 33 (omega arith),
+      ne-eqb (kindAt rest) 34 (omega arith),
+      arc-length (kindAt rest) a,
+      f,
+      e,
+      le-ltb (length rest) 4 (omega arith),
+      le-ltb (length rest) 8 l,
+    )
+
+pub right-arc : (count : ℕ) (due : Due) (rest : List ℕ) → arcRight count due rest ≡ true → faultIn count due rest ≡ 0
+unfolding arcRight arcNext arcDue
+right-arc count due rest h =
+    let q = and-right (leb 8 (length rest)) _ h in
+    let r = and-right (eqb (due .places) 0) _ q in
+    let s = and-right (leb 35 (kindAt rest)) _ r in
+    let n = and-left (leb 4 (length rest) && (leb (due .kind) (kindAt rest) && leb (kindAt rest) 37)) _ s in
+    let t = and-right (leb 4 (length rest) && (leb (due .kind) (kindAt rest) && leb (kindAt rest) 37)) _ s in
+    let most = leb-true (kindAt rest) 37 (and-right (leb (due .kind) (kindAt rest)) _ (and-right (leb 4 (length rest)) _ n)) in
+    let least = leb-true 35 (kindAt rest) (and-left (leb 35 (kindAt rest)) _ r) in
+    no-fault count due rest (leb-true 8 (length rest) (and-left (leb 8 (length rest)) _ h)) (and-left (eqb (due .places) 0) _ q) n (record { least = least; most = most })
+    (eqb-true (lengthAt rest) (lengthOf 35) (and-left (eqb (lengthAt rest) (lengthOf 35)) _ t) ∙ arc-length 35 (record { least = omega arith; most = omega arith }))
+    (and-right (eqb (lengthAt rest) (lengthOf 35)) _ t)
 
 less-one : (n : ℕ) → eqb n 0 ≡ false → n ≡ suc (n - 1)
 less-one n h = let z = eqb-false n 0 h in omega (arith, z)

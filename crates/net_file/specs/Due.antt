@@ -26,6 +26,11 @@ timed label earliest latest = record { label = label; earliest = earliest; lates
 unfoldable pub arcNext : ℕ → List ℕ → Bool
 arcNext kind rest = leb 4 (length rest) && arcDue kind (kindAt rest)
 
+-- an arc that is due and has nothing off stands at the start
+unfoldable pub arcRight : ℕ → Due → List ℕ → Bool
+arcRight count due rest = leb 8 (length rest) && (eqb (due .places) 0 && (leb takeArc (kindAt rest) && (arcNext (due .kind) rest
+    && (eqb (lengthAt rest) (lengthOf takeArc) && arcFine count (due .kind) (due .from) (arcAt rest)))))
+
 -- the kind that the next record has to have; 0 where all that must come has come
 unfoldable pub dueKind : Due → List ℕ → ℕ
 dueKind due rest =

@@ -7,7 +7,7 @@ ghost use lib.Dec.{eqb};
 ghost use Rattle.effbd.specs.Answers.{said};
 ghost use Rattle.effbd.specs.Nets.{arcFine, above as aboveOf, transitionFine, netHeadFault, readNet};
 ghost use Rattle.net_file.specs.Contents.{headFine};
-ghost use Rattle.net_file.specs.Due.{start as startOf, arcOf, timed, arcNext, dueKind, fieldsFine, faultIn, nextDue, ended as endedBy, placeRight, RightPlaces, wordsOf};
+ghost use Rattle.net_file.specs.Due.{start as startOf, arcOf, timed, arcNext, dueKind, arcRight, fieldsFine, faultIn, nextDue, ended as endedBy, placeRight, RightPlaces, wordsOf};
 
 // The kinds of net records, and the limits that a net's head has to keep.
 const HEAD: u16 = 32;
@@ -132,10 +132,37 @@ fn due_kind(due: Due, rest: &[u8]) -> u16
     0
 }
 
+// Does an arc stand at the start that is due and has nothing off? One look at each of its words, since most records behind the
+// places are such arcs.
+fn arc_right(count: u16, due: Due, rest: &[u8]) -> bool
+    ensures { λ r. ⌜ r ≡ arcRight count due (now (rest .entry)) ⌝ }
+{
+    if rest.len() < 8 {
+        return false;
+    }
+    if due.places != 0 {
+        return false;
+    }
+    let kind = words::word(rest, 2);
+    if kind < TAKE {
+        return false;
+    }
+    if !arc_next(due.kind, rest) {
+        return false;
+    }
+    if words::word(rest, 0) != words::kinds::length_of(TAKE) {
+        return false;
+    }
+    arc_fine(count, due, kind, words::word(rest, 4), words::word(rest, 6))
+}
+
 // The fault of the record at the start of `rest`, 0 for none.
 fn fault(count: u16, due: Due, rest: &[u8]) -> u16
     ensures { λ r. ⌜ r ≡ faultIn count due (now (rest .entry)) ⌝ }
 {
+    if arc_right(count, due, rest) {
+        return 0;
+    }
     let kind = due_kind(due, rest);
     if kind == 0 {
         return 6;
