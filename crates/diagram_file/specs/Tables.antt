@@ -12,6 +12,7 @@ use Rattle.effbd.specs.Layout.{places}
 use Rattle.effbd.specs.States.{freshWords}
 use Rattle.diagram_file.specs.declared.Diagram.{Diagram as Parse}
 use Rattle.diagram_file.specs.declared.Refusal.{Refusal}
+use Rattle.diagram_file.specs.Reading.{Tabled}
 
 -- a file's answer: the number of words of its diagram's state, 3N + M
 unfoldable pub stateLength : List ℕ → Outcome ℕ
@@ -62,6 +63,13 @@ pub record HoldsFile (file : List ℕ) (rows items : ℕ) (table : List ℕ) : T
   pub read : readDiagram file ≡ accepted diagram
   pub holds : Holds diagram rows items table
   pub uses : HoldsUses file diagram table
+
+-- a file's records and their nesting were judged: where nothing is refused, the table has the records' columns
+pub record Judged (file table : List ℕ) (r : Refusal) : Type 0 where
+  pub number : r .number ≡ refusalNumber (readDiagram file)
+  pub value : r .value ≡ refusalValue (readDiagram file)
+  pub tabled : r .number ≡ 0 → Tabled file table
+  pub read : (z : r .number ≡ 0) → readDiagram file ≡ accepted (tabled z .diagram)
 
 -- the table was filled from a file, or the file is refused (the table's words are then not fixed)
 pub record Filled (file table : List ℕ) (r : Refusal) : Type 0 where

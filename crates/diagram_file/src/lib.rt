@@ -3,7 +3,7 @@ ghost use mathlib.Core.Path.{_≡_};
 ghost use lib.ListN.{length};
 ghost use Rattle.effbd.specs.Answers.{said};
 ghost use Rattle.effbd.specs.Nesting.{usesPart};
-ghost use Rattle.diagram_file.specs.Tables.{stateLength, freshPut, Filled, Parsed, Freshened, partIn};
+ghost use Rattle.diagram_file.specs.Tables.{stateLength, freshPut, Judged, Filled, Parsed, Freshened, partIn};
 use effbd::Answer;
 
 mod nesting;
@@ -57,10 +57,10 @@ fn put_fresh(state: &mut [u16], rows: u16, items: u16, table: &[u16])
     }
 }
 
-// Fills a zeroed table from a file: its records, their nesting, the structure of its rows.
-fn fill(file: &[u8], table: &mut [u16]) -> Refusal
+// Judges a file, its records and then their nesting; a zeroed table is left with the records' columns.
+fn judge(file: &[u8], table: &mut [u16]) -> Refusal
     requires { ⌜ length (now table) ≡ 592 ⌝ }
-    ensures { λ r. ⌜ Filled (now (file .entry)) (now (table .exit)) r ⌝ }
+    ensures { λ r. ⌜ Judged (now (file .entry)) (now (table .exit)) r ⌝ }
 {
     let reached = records::read_records(file, table);
     if reached.fault != 0 {
@@ -77,11 +77,23 @@ fn fill(file: &[u8], table: &mut [u16]) -> Refusal
             value: judgement.row as u32,
         };
     }
-    structure::fill_structure(table, rows);
     Refusal {
         number: 0,
         value: 0,
     }
+}
+
+// Fills a zeroed table from a file: the columns of its records, and where nothing is refused the structure of its rows.
+fn fill(file: &[u8], table: &mut [u16]) -> Refusal
+    requires { ⌜ length (now table) ≡ 592 ⌝ }
+    ensures { λ r. ⌜ Filled (now (file .entry)) (now (table .exit)) r ⌝ }
+{
+    let refusal = judge(file, table);
+    if refusal.number != 0 {
+        return refusal;
+    }
+    structure::fill_structure(table, words::word(file, 6));
+    refusal
 }
 
 // Reads a diagram file.
@@ -99,15 +111,16 @@ pub fn parse(file: &[u8]) -> Diagram
     }
 }
 
-// Accepts a diagram file with the number of words of its state, or turns it away.
+// Accepts a diagram file with the number of words of its state, or turns it away. The verdict asks for no structure.
 pub fn read(file: &[u8]) -> Answer
     ensures { λ r. ⌜ said r ≡ stateLength (now (file .entry)) ⌝ }
 {
-    let diagram = parse(file);
-    if diagram.number != 0 {
-        return Answer::Refused(diagram.number, diagram.value);
+    let mut table = [0u16; 592];
+    let refusal = judge(file, &mut table[0..592]);
+    if refusal.number != 0 {
+        return Answer::Refused(refusal.number, refusal.value);
     }
-    Answer::Accepted(3 * diagram.rows as u32 + diagram.items as u32)
+    Answer::Accepted(3 * words::word(file, 6) as u32 + words::word(file, 8) as u32)
 }
 
 // The uses of a FUNCTION row, as the very bytes of the file; for a refused file or another row an empty part at the file's start.
