@@ -44,25 +44,34 @@ other false false false false false false false false true items r = refl
 other false false false false false false false false false items r = refl
 
 module _ (items : ℕ) (bytes : List ℕ) where
-  pub fine-function : kindAt bytes ≡ 16 → functionFine items bytes ≡ rowFine items (rowAt bytes)
-  unfolding rowFine rowAt kindOf functionFine
-  fine-function e = rw e
+  -- a row's fault, from what one look at its kind picks
+  fault-is : {r : ℕ} {due right fine : Bool} → due ≡ isRow (kindAt bytes) → right ≡ rowRight items bytes → fine ≡ rowFine items (rowAt bytes) → r ≡ faultAt bytes due right fine 5 → r ≡ rowFault items bytes
+  unfolding rowFault isRow
+  fault-is ed er ef e = e ∙ rw (ed, er, ef)
 
-  pub fine-count : kindAt bytes ≡ 22 → turnLimitFine (word bytes 4) ≡ rowFine items (rowAt bytes)
-  unfolding rowFine rowAt kindOf turnLimitFine
-  fine-count e = rw e
+  right-not : {size n : ℕ} → size ≡ lengthAt bytes → n ≡ lengthOf (kindAt bytes) → kindAt bytes ≢ 16 → eqb size n ≡ rowRight items bytes
+  unfolding rowRight
+  right-not es en ne = rw (es, en, ne-eqb (kindAt bytes) 16 ne)
 
-  pub fine-other : kindAt bytes ≢ 16 → kindAt bytes ≢ 22 → true ≡ rowFine items (rowAt bytes)
+  fine-other : kindAt bytes ≢ 16 → kindAt bytes ≢ 22 → true ≡ rowFine items (rowAt bytes)
   unfolding rowFine rowAt kindOf
   fine-other p q = rw (ne-eqb (kindAt bytes) 16 p, ne-eqb (kindAt bytes) 22 q) (sym (other (eqb (kindAt bytes) 17) (eqb (kindAt bytes) 18) (eqb (kindAt bytes) 19) (eqb (kindAt bytes) 20) (eqb (kindAt bytes) 21) (eqb (kindAt bytes) 23) (eqb (kindAt bytes) 24) (eqb (kindAt bytes) 25) (eqb (kindAt bytes) 26) items _))
 
-  pub right-function : kindAt bytes ≡ 16 → functionRight (lengthAt bytes) items ≡ rowRight items bytes
-  unfolding functionRight rowRight
-  right-function e = rw e
+  pub function-fault : {kind size r : ℕ} {right fine : Bool} → kind ≡ kindAt bytes → size ≡ lengthAt bytes → kind ≡ 16 → right ≡ functionRight size items → fine ≡ functionFine items bytes
+      → r ≡ faultAt bytes true right fine 5 → r ≡ rowFault items bytes
+  unfolding isRow functionRight rowRight rowFine rowAt kindOf functionFine
+  function-fault ek es e er ef e5 = let k : kindAt bytes ≡ 16 = sym ek ∙ e in fault-is (rw k) (er ∙ rw (k, es)) (ef ∙ rw k) e5
 
-  pub right-other : kindAt bytes ≢ 16 → eqb (lengthAt bytes) (lengthOf (kindAt bytes)) ≡ rowRight items bytes
-  unfolding rowRight
-  right-other e = rw (ne-eqb (kindAt bytes) 16 e)
+  pub limit-fault : {kind size n count r : ℕ} {fine : Bool} → kind ≡ kindAt bytes → size ≡ lengthAt bytes → kind ≡ 22 → n ≡ lengthOf 22 → count ≡ word bytes 4 → fine ≡ turnLimitFine count
+      → r ≡ faultAt bytes true (eqb size n) fine 5 → r ≡ rowFault items bytes
+  unfolding isRow rowFine rowAt kindOf turnLimitFine
+  limit-fault ek es e en ec ef e5 =
+      let k : kindAt bytes ≡ 22 = sym ek ∙ e in
+      fault-is (rw k) (right-not es (en ∙ ap lengthOf (sym k)) (λ q. let z : _≡_ {A = ℕ} 16 22 = sym q ∙ k in omega arith)) (ef ∙ rw (k, ec)) e5
+
+  pub other-fault : {kind size n r : ℕ} {due : Bool} → kind ≡ kindAt bytes → size ≡ lengthAt bytes → kind ≢ 16 → kind ≢ 22 → due ≡ isRow kind → n ≡ lengthOf kind
+      → r ≡ faultAt bytes due (eqb size n) true 5 → r ≡ rowFault items bytes
+  other-fault ek es p q ed en e5 = fault-is (ed ∙ ap isRow ek) (right-not es (en ∙ ap lengthOf ek) (λ x. p (ek ∙ x))) (fine-other (λ x. p (ek ∙ x)) (λ x. q (ek ∙ x))) e5
 
 module _ (items : ℕ) (bytes : List ℕ) where
   pub uses-stop : (from left item took gave : ℕ) → 0 < left → item ≡ word bytes 0 → took ≡ word bytes 2 → gave ≡ word bytes 4 → useFine items from item took gave ≡ false
@@ -90,16 +99,6 @@ module _ (items : ℕ) (bytes : List ℕ) where
   function-good second first size n t b eh el h et es en eb =
       let z : leb (word bytes 4) (word bytes 6) ≡ true = rw (← eh, ← el) (le-leb first second h) in
       rw (z, eb, et, en, es)
-
-  pub right-16 : (kind size : ℕ) (b : Bool) → kind ≡ word bytes 2 → size ≡ word bytes 0 → kind ≡ 16 → b ≡ functionRight size items → b ≡ rowRight items bytes
-  right-16 kind size b ek es e eb = eb ∙ (ap (λ x. functionRight x items) es ∙ right-function items bytes (sym ek ∙ e))
-
-  pub right-not : (kind size n : ℕ) → kind ≡ word bytes 2 → size ≡ word bytes 0 → kind ≢ 16 → n ≡ lengthOf kind → eqb size n ≡ rowRight items bytes
-  right-not kind size n ek es e en = rw (en, es, ek) (right-other items bytes (λ x. e (ek ∙ x)))
-
-  pub row-fault-is : (kind r : ℕ) (due right fine : Bool) → kind ≡ word bytes 2 → due ≡ isRow kind → right ≡ rowRight items bytes → fine ≡ rowFine items (rowAt bytes) → r ≡ faultAt bytes due right fine 5 → r ≡ rowFault items bytes
-  unfolding rowFault isRow
-  row-fault-is kind r due right fine ek ed er ef e = e ∙ rw (ed, er, ef, ek)
 
 module _ (bytes : List ℕ) where
   pub item-fault-is : (kind size n r : ℕ) → kind ≡ word bytes 2 → size ≡ word bytes 0 → n ≡ lengthOf 2 → r ≡ faultAt bytes (eqb kind 2) (eqb size n) true 5 → r ≡ itemFault bytes

@@ -5,7 +5,7 @@ ghost use Prim.Native.Nat.{_+_, _-_, _/_, _≤_, _<_};
 ghost use lib.ListN.{length};
 ghost use lib.Dec.{eqb};
 ghost use Rattle.effbd.specs.Records.{kindAt};
-ghost use Rattle.effbd.specs.Diagrams.{usesAt, usesFine, rowAt, rowRight, rowFine, headFault, itemFault, rowFault};
+ghost use Rattle.effbd.specs.Diagrams.{usesAt, usesFine, headFault, itemFault, rowFault};
 ghost use Rattle.diagram_file.specs.Fields.{useFine, functionRight, functionFine, turnLimitFine, headFine, isRow};
 ghost use Rattle.diagram_file.specs.Reading.{column, putRow, fillRow, ItemsRead, RowsRead, Recorded};
 use crate::Diagram;
@@ -70,18 +70,6 @@ fn function_right(length: u16, items: u16) -> bool
     8 <= length && ((length - 8) % 6 == 0 && (length - 8) / 6 <= items)
 }
 
-// Is the length right for the kind?
-fn row_right(bytes: &[u8], items: u16) -> bool
-    ensures { λ r. ⌜ r ≡ rowRight items (now (bytes .entry)) ⌝ }
-{
-    let kind = words::word(bytes, 2);
-    let length = words::word(bytes, 0);
-    if kind == 16 {
-        return function_right(length, items);
-    }
-    length == words::kinds::length_of(kind)
-}
-
 fn turn_limit_fine(count: u16) -> bool
     ensures { λ r. ⌜ r ≡ turnLimitFine count ⌝ }
 {
@@ -101,25 +89,29 @@ fn function_fine(bytes: &[u8], items: u16) -> bool
     )
 }
 
-// Are a row's fields right?
-fn row_fine(bytes: &[u8], items: u16) -> bool
-    ensures { λ r. ⌜ r ≡ rowFine items (rowAt (now (bytes .entry))) ⌝ }
-{
-    let kind = words::word(bytes, 2);
-    match kind {
-        16 => function_fine(bytes, items),
-        22 => turn_limit_fine(words::word(bytes, 4)),
-        _ => true,
-    }
-}
-
+// One look at the kind finds all that is asked of a row.
 fn row_fault(bytes: &[u8], items: u16) -> u16
     ensures { λ r. ⌜ r ≡ rowFault items (now (bytes .entry)) ⌝ }
 {
-    let due = is_row(words::word(bytes, 2));
-    let right = row_right(bytes, items);
-    let fine = row_fine(bytes, items);
-    words::record_fault(bytes, due, right, fine, 5)
+    let kind = words::word(bytes, 2);
+    let length = words::word(bytes, 0);
+    match kind {
+        16 => {
+            let right = function_right(length, items);
+            let fine = function_fine(bytes, items);
+            words::record_fault(bytes, true, right, fine, 5)
+        }
+        22 => {
+            let right = words::kinds::length_of(22);
+            let fine = turn_limit_fine(words::word(bytes, 4));
+            words::record_fault(bytes, true, length == right, fine, 5)
+        }
+        _ => {
+            let due = is_row(kind);
+            let right = words::kinds::length_of(kind);
+            words::record_fault(bytes, due, length == right, true, 5)
+        }
+    }
 }
 
 fn item_fault(bytes: &[u8]) -> u16

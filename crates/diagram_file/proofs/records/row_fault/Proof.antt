@@ -1,5 +1,4 @@
-use Rattle.diagram_file.proofs.Fields.{row-fault-is}
-use Rattle.effbd.specs.Records.{word}
+use Rattle.diagram_file.proofs.Fields.{function-fault, limit-fault, other-fault}
 use borrow.Author.Needs.{needs}
 use Rattle.diagram_file.proofs.records.row_fault.Statement.{statement}
 use Rattle.diagram_file.proofs.records.row_fault.Tie as tie
@@ -7,28 +6,64 @@ use Rattle.diagram_file.proofs.records.row_fault.Tie as tie
 word-requires : tie.Need-word-requires
 word-requires c κs = search needs
 
-is-row-requires : tie.Need-is-row-requires
-is-row-requires c κs = search needs
+word-requires-2 : tie.Need-word-requires-2
+word-requires-2 c κs = search needs
 
-row-right-requires : tie.Need-row-right-requires
-row-right-requires c κs = search needs
+function-right-requires : tie.Need-function-right-requires
+function-right-requires c κs = search needs
 
-row-fine-requires : tie.Need-row-fine-requires
-row-fine-requires c κs = search needs
+function-fine-requires : tie.Need-function-fine-requires
+function-fine-requires c κs = search needs
 
 record-fault-requires : tie.Need-record-fault-requires
 record-fault-requires c κs = search needs
 
+length-of-requires : tie.Need-length-of-requires
+length-of-requires c κs = search needs
+
+word-requires-3 : tie.Need-word-requires-3
+word-requires-3 c κs = search needs
+
+turn-limit-fine-requires : tie.Need-turn-limit-fine-requires
+turn-limit-fine-requires c κs = search needs
+
+record-fault-requires-2 : tie.Need-record-fault-requires-2
+record-fault-requires-2 c κs = search needs
+
+is-row-requires : tie.Need-is-row-requires
+is-row-requires c κs = search needs
+
+length-of-requires-2 : tie.Need-length-of-requires-2
+length-of-requires-2 c κs = search needs
+
+record-fault-requires-3 : tie.Need-record-fault-requires-3
+record-fault-requires-3 c κs = search needs
+
 returns : tie.Need-returns
-returns c = row-fault-is (c .before .before .before .before .before .before .args .items) (c .before .before .before .before .before .before .args .bytes .now) (c .before .before .before .before .word .result) (c .record-fault .result) (c .before .before .before .is-row .result) (c .before .before .row-right .result) (c .before .row-fine .result) (c .before .before .before .before .word .ensures) (c .before .before .before .is-row .ensures) (c .before .before .row-right .ensures) (c .before .row-fine .ensures) (c .record-fault .ensures)
+returns c = function-fault (c .before .before .before .before .before .before .before .args .items) (c .before .before .before .before .before .before .before .args .bytes .now) (c .before .before .before .before .before .word .ensures) (c .before .before .before .before .word2 .ensures) (c .before .before .before .match .keys1) (c .before .before .function-right .ensures) (c .before .function-fine .ensures) (c .record-fault .ensures)
+
+returns-2 : tie.Need-returns-2
+returns-2 c = limit-fault (c .before .before .before .before .before .before .before .before .args .items) (c .before .before .before .before .before .before .before .before .args .bytes .now) (c .before .before .before .before .before .before .word .ensures) (c .before .before .before .before .before .word2 .ensures) (c .before .before .before .before .match .keys2) (c .before .before .before .length-of .ensures) (c .before .before .word3 .ensures) (c .before .turn-limit-fine .ensures) (c .record-fault2 .ensures)
+
+returns-3 : tie.Need-returns-3
+returns-3 c = other-fault (c .before .before .before .before .before .before .before .args .items) (c .before .before .before .before .before .before .before .args .bytes .now) (c .before .before .before .before .before .word .ensures) (c .before .before .before .before .word2 .ensures) (c .before .before .before .match .rest .0 .1) (c .before .before .before .match .rest .1) (c .before .before .is-row .ensures) (c .before .length-of2 .ensures) (c .record-fault3 .ensures)
 
 pub row-fault-spec : {M : Type 1} → statement M
 row-fault-spec =
     tie.close
     (tie.spec
     word-requires
-    is-row-requires
-    row-right-requires
-    row-fine-requires
+    word-requires-2
+    function-right-requires
+    function-fine-requires
     record-fault-requires
-    returns)
+    length-of-requires
+    word-requires-3
+    turn-limit-fine-requires
+    record-fault-requires-2
+    is-row-requires
+    length-of-requires-2
+    record-fault-requires-3
+    returns
+    returns-2
+    returns-3)
