@@ -1,4 +1,4 @@
--- One record: its uses, its length, its fields, its fault.
+-- One record: its uses, its length, its fields, its fault, its columns.
 use Prim.Native.Nat.{ℕ, zero, suc, _+_, _-_, _/_, _≤_, _<_}
 use mathlib.Core.Path.{_≡_, refl, sym, _∙_, ap}
 use mathlib.Core.Logic.{_≢_}
@@ -11,6 +11,7 @@ use borrow.Author.Tests.{lt-ltb, le-leb, lt-leb, ne-eqb}
 use Rattle.effbd.specs.Records.{word, lengthAt, kindAt, lengthOf, faultAt}
 use Rattle.effbd.specs.Diagrams.{and-open, branch, and-close, or-open, or-close, it-open, it-close, lp-open, lp-close, loop-exit, end, Row, kindOf, headFault, itemFault, usesAt, usesFine, rowAt, rowRight, rowFineAs, rowFine, rowFault}
 use Rattle.diagram_file.specs.Fields.{useFine, isRow, functionRight, functionFine, turnLimitFine, headFine}
+use Rattle.diagram_file.specs.Reading.{column, putRow, fillRow}
 
 positive : (x : ℕ) → not (eqb x 0) ≡ ltb 0 x
 positive zero = refl
@@ -72,6 +73,21 @@ module _ (items : ℕ) (bytes : List ℕ) where
   pub other-fault : {kind size n r : ℕ} {due : Bool} → kind ≡ kindAt bytes → size ≡ lengthAt bytes → kind ≢ 16 → kind ≢ 22 → due ≡ isRow kind → n ≡ lengthOf kind
       → r ≡ faultAt bytes due (eqb size n) true 5 → r ≡ rowFault items bytes
   other-fault ek es p q ed en e5 = fault-is (ed ∙ ap isRow ek) (right-not es (en ∙ ap lengthOf ek) (λ x. p (ek ∙ x))) (fine-other (λ x. p (ek ∙ x)) (λ x. q (ek ∙ x))) e5
+
+-- a row's columns, likewise
+module _ (row at : ℕ) (bytes table : List ℕ) where
+  pub function-row : {kind first second size number : ℕ} {next : List ℕ} → kind ≡ kindAt bytes → kind ≡ 16 → first ≡ word bytes 4 → second ≡ word bytes 6 → size ≡ lengthAt bytes → number ≡ (size - 8) / 6
+      → next ≡ putRow row kind first second (at + 8) number table → next ≡ fillRow row at bytes table
+  unfolding fillRow column
+  function-row ek e ef es ez en f = let k : kindAt bytes ≡ 16 = sym ek ∙ e in f ∙ rw (e, ef, es, en, ez, k)
+
+  pub limit-row : {kind first : ℕ} {next : List ℕ} → kind ≡ kindAt bytes → kind ≡ 22 → first ≡ word bytes 4 → next ≡ putRow row kind first 0 0 0 table → next ≡ fillRow row at bytes table
+  unfolding fillRow column
+  limit-row ek e ef f = let k : kindAt bytes ≡ 22 = sym ek ∙ e in f ∙ rw (e, ef, k)
+
+  pub other-row : {kind : ℕ} {next : List ℕ} → kind ≡ kindAt bytes → kind ≢ 16 → kind ≢ 22 → next ≡ putRow row kind 0 0 0 0 table → next ≡ fillRow row at bytes table
+  unfolding fillRow column
+  other-row ek p q f = f ∙ rw (ek, ne-eqb (kindAt bytes) 16 (λ x. p (ek ∙ x)), ne-eqb (kindAt bytes) 22 (λ x. q (ek ∙ x)))
 
 module _ (items : ℕ) (bytes : List ℕ) where
   pub uses-stop : (from left item took gave : ℕ) → 0 < left → item ≡ word bytes 0 → took ≡ word bytes 2 → gave ≡ word bytes 4 → useFine items from item took gave ≡ false

@@ -1,13 +1,10 @@
 // Reads a diagram file's records by its tails, into one flat table: refusals 1 to 6.
 ghost use mathlib.Core.Path.{_≡_};
-ghost use mathlib.Core.Bool.{cond};
-ghost use Prim.Native.Nat.{_+_, _-_, _/_, _≤_, _<_};
+ghost use Prim.Native.Nat.{_-_, _/_, _≤_, _<_};
 ghost use lib.ListN.{length};
-ghost use lib.Dec.{eqb};
-ghost use Rattle.effbd.specs.Records.{kindAt};
 ghost use Rattle.effbd.specs.Diagrams.{usesAt, usesFine, headFault, itemFault, rowFault};
 ghost use Rattle.diagram_file.specs.Fields.{useFine, functionRight, functionFine, turnLimitFine, headFine, isRow};
-ghost use Rattle.diagram_file.specs.Reading.{column, putRow, fillRow, ItemsRead, RowsRead, Recorded};
+ghost use Rattle.diagram_file.specs.Reading.{putRow, fillRow, ItemsRead, RowsRead, Recorded};
 use crate::Diagram;
 
 // Where reading stopped, and the fault of the record there, 0 for none.
@@ -143,51 +140,6 @@ fn head_fault(bytes: &[u8]) -> u16
     words::record_fault(bytes, kind == 1, length == right, fine, 4)
 }
 
-// α of a FUNCTION, the count of an IT open.
-fn first_of(bytes: &[u8]) -> u16
-    ensures { λ r. ⌜ r ≡ column 0 1 (now (bytes .entry)) ⌝ }
-{
-    let kind = words::word(bytes, 2);
-    match kind {
-        16 => words::word(bytes, 4),
-        22 => words::word(bytes, 4),
-        _ => 0,
-    }
-}
-
-// β of a FUNCTION.
-fn second_of(bytes: &[u8]) -> u16
-    ensures { λ r. ⌜ r ≡ column 0 2 (now (bytes .entry)) ⌝ }
-{
-    let kind = words::word(bytes, 2);
-    if kind == 16 {
-        return words::word(bytes, 6);
-    }
-    0
-}
-
-// Where a FUNCTION's uses begin, its record beginning at byte `at`.
-fn uses_offset(bytes: &[u8], at: usize) -> u16
-    requires { ⌜ at < 60000 ⌝ }
-    ensures { λ r. ⌜ r ≡ cond (eqb (kindAt (now (bytes .entry))) 16) (at + 8) 0 ⌝ }
-{
-    let kind = words::word(bytes, 2);
-    if kind == 16 {
-        return (at + 8) as u16;
-    }
-    0
-}
-
-fn uses_number(bytes: &[u8]) -> u16
-    ensures { λ r. ⌜ r ≡ column 0 4 (now (bytes .entry)) ⌝ }
-{
-    let kind = words::word(bytes, 2);
-    if kind == 16 {
-        return use_count(words::word(bytes, 0));
-    }
-    0
-}
-
 fn put_row(
     table: &mut [u16],
     row: usize,
@@ -207,17 +159,27 @@ fn put_row(
     words::put(table, 256 + row, number);
 }
 
-// The columns of a row whose record begins `bytes`, at byte `at` of the file.
+// The columns of a row whose record begins `bytes`, at byte `at` of the file: α and β of a FUNCTION, where its uses begin and how many
+// they are; the count of an IT open.
 fn fill_row(table: &mut [u16], row: usize, bytes: &[u8], at: usize)
     requires { ⌜ (row < 64) × (at < 60000) ⌝ }
     ensures { λ _. ⌜ now (table .exit) ≡ fillRow row at (now (bytes .entry)) (now (table .entry)) ⌝ }
 {
     let kind = words::word(bytes, 2);
-    let first = first_of(bytes);
-    let second = second_of(bytes);
-    let offset = uses_offset(bytes, at);
-    let number = uses_number(bytes);
-    put_row(table, row, kind, first, second, offset, number);
+    match kind {
+        16 => {
+            let first = words::word(bytes, 4);
+            let second = words::word(bytes, 6);
+            let number = use_count(words::word(bytes, 0));
+            put_row(table, row, kind, first, second, (at + 8) as u16, number);
+        }
+        22 => {
+            put_row(table, row, kind, words::word(bytes, 4), 0, 0, 0);
+        }
+        _ => {
+            put_row(table, row, kind, 0, 0, 0, 0);
+        }
+    }
 }
 
 // Reads `count` item records from byte `from` on, their initial counts into the table.
