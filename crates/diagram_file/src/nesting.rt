@@ -176,13 +176,16 @@ fn loops(kind: u16, looped: bool) -> bool
     looped
 }
 
-// 9
+// 9. The depth comes first: few rows stand so deep.
 fn deep(kind: u16, depth: usize) -> bool
     ensures { λ r. ⌜ r ≡ deepOf kind depth ⌝ }
 {
+    if depth < 12 {
+        return false;
+    }
     let part = part_of(kind);
     match part {
-        Part::Opens => 12 <= depth,
+        Part::Opens => true,
         Part::Turns => false,
         Part::Closes => false,
         Part::Stays => false,
