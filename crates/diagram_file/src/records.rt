@@ -149,20 +149,21 @@ fn put_row(
     offset: u16,
     number: u16,
 )
-    requires { ⌜ row < 64 ⌝ }
+    requires { ⌜ (row < 64) × (length (now table) ≡ 592) ⌝ }
     ensures { λ _. ⌜ now (table .exit) ≡ putRow row kind first second offset number (now (table .entry)) ⌝ }
 {
-    words::put(table, row, kind);
-    words::put(table, 64 + row, first);
-    words::put(table, 128 + row, second);
-    words::put(table, 192 + row, offset);
-    words::put(table, 256 + row, number);
+    table[row] = kind;
+    table[64 + row] = first;
+    table[128 + row] = second;
+    table[192 + row] = offset;
+    table[256 + row] = number;
 }
 
 // The columns of a row whose record begins `bytes`, at byte `at` of the file: α and β of a FUNCTION, where its uses begin and how many
 // they are; the count of an IT open.
 fn fill_row(table: &mut [u16], row: usize, bytes: &[u8], at: usize)
     requires { ⌜ (row < 64) × (at < 60000) ⌝ }
+    requires { ⌜ length (now table) ≡ 592 ⌝ }
     ensures { λ _. ⌜ now (table .exit) ≡ fillRow row at (now (bytes .entry)) (now (table .entry)) ⌝ }
 {
     let kind = words::word(bytes, 2);

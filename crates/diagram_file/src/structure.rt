@@ -1,19 +1,20 @@
 // The structure of an accepted diagram's rows, in one pass over the table: each row's from the row before it.
 ghost use mathlib.Core.Path.{_≡_};
 ghost use Prim.Native.Nat.{_-_, _≤_, _<_};
+ghost use lib.ListN.{length};
 ghost use Rattle.diagram_file.specs.Structure.{putStructure, loopingIn, followed, structured};
 use crate::nesting;
 use crate::nesting::Part;
 
 // Owner, latest BRANCH and innermost LP of a row, and that it has no close: the number of rows stands for none.
 fn put_structure(table: &mut [u16], rows: u16, row: usize, owner: u16, latest: u16, looping: u16)
-    requires { ⌜ row < 64 ⌝ }
+    requires { ⌜ (row < 64) × (length (now table) ≡ 592) ⌝ }
     ensures { λ _. ⌜ now (table .exit) ≡ putStructure rows row owner latest looping (now (table .entry)) ⌝ }
 {
-    words::put(table, 320 + row, owner);
-    words::put(table, 384 + row, latest);
-    words::put(table, 448 + row, rows);
-    words::put(table, 512 + row, looping);
+    table[320 + row] = owner;
+    table[384 + row] = latest;
+    table[448 + row] = rows;
+    table[512 + row] = looping;
 }
 
 // The innermost LP in a construct that a row of this kind opens, `looping` being the one around it.
@@ -28,14 +29,14 @@ fn looping_in(kind: u16, row: u16, looping: u16) -> u16
 
 // The structure of the row after `row`; where `row` is a close, it is that of its owner.
 fn follow(table: &mut [u16], rows: u16, row: u16)
-    requires { ⌜ row < 63 ⌝ }
+    requires { ⌜ (row < 63) × (length (now table) ≡ 592) ⌝ }
     ensures { λ _. ⌜ now (table .exit) ≡ followed rows row (now (table .entry)) ⌝ }
 {
     let at = row as usize;
-    let kind = words::get(table, at);
-    let owner = words::get(table, 320 + at);
-    let latest = words::get(table, 384 + at);
-    let looping = words::get(table, 512 + at);
+    let kind = table[at];
+    let owner = table[320 + at];
+    let latest = table[384 + at];
+    let looping = table[512 + at];
     let part = nesting::part_of(kind);
     match part {
         Part::Opens => {
@@ -67,7 +68,7 @@ fn follow(table: &mut [u16], rows: u16, row: u16)
 
 // The structure of all rows.
 pub(crate) fn fill_structure(table: &mut [u16], rows: u16)
-    requires { ⌜ (1 ≤ rows) × (rows ≤ 64) ⌝ }
+    requires { ⌜ ((1 ≤ rows) × (rows ≤ 64)) × (length (now table) ≡ 592) ⌝ }
     ensures { λ _. ⌜ now (table .exit) ≡ structured rows (rows - 1) (putStructure rows 0 0 0 0 (now (table .entry))) ⌝ }
 {
     put_structure(table, rows, 0, 0, 0, 0);

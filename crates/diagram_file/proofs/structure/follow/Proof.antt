@@ -1,31 +1,44 @@
-use Rattle.diagram_file.proofs.Columns.{follow-opens, follow-turns, follow-closes, follow-stays}
-use Rattle.diagram_file.specs.Structure.{putStructure}
 use Prim.Native.Nat.{_+_}
-use mathlib.Core.Path.{_∙_, ap}
+use mathlib.Core.Path.{refl, _∙_, ap}
+use native.Mathlib.Omega.{arith}
+use Rattle.diagram_file.specs.Structure.{putStructure}
+use Rattle.diagram_file.proofs.Columns.{follow-opens, follow-turns, follow-closes, follow-stays}
 use borrow.Author.Needs.{needs}
 use Rattle.diagram_file.proofs.structure.follow.Statement.{statement}
 use Rattle.diagram_file.proofs.structure.follow.Tie as tie
 
-get-requires : tie.Need-get-requires
-get-requires c κs = search needs
+mul-kind : tie.Need-mul-kind
+mul-kind c = search needs
 
-add-get : tie.Need-add-get
-add-get c = search needs
+slice-read-kind : tie.Need-slice-read-kind
+slice-read-kind c = search needs
 
-get-requires-2 : tie.Need-get-requires-2
-get-requires-2 c κs = search needs
+add-owner : tie.Need-add-owner
+add-owner c = search needs
 
-add-get-2 : tie.Need-add-get-2
-add-get-2 c = search needs
+mul-owner : tie.Need-mul-owner
+mul-owner c = search needs
 
-get-requires-3 : tie.Need-get-requires-3
-get-requires-3 c κs = search needs
+slice-read-owner : tie.Need-slice-read-owner
+slice-read-owner c = search needs
 
-add-get-3 : tie.Need-add-get-3
-add-get-3 c = search needs
+add-latest : tie.Need-add-latest
+add-latest c = search needs
 
-get-requires-4 : tie.Need-get-requires-4
-get-requires-4 c κs = search needs
+mul-latest : tie.Need-mul-latest
+mul-latest c = search needs
+
+slice-read-latest : tie.Need-slice-read-latest
+slice-read-latest c = search needs
+
+add-looping : tie.Need-add-looping
+add-looping c = search needs
+
+mul-looping : tie.Need-mul-looping
+mul-looping c = search needs
+
+slice-read-looping : tie.Need-slice-read-looping
+slice-read-looping c = search needs
 
 part-of-requires : tie.Need-part-of-requires
 part-of-requires c κs = search needs
@@ -58,28 +71,28 @@ enum-told-3 : tie.Need-enum-told-3
 enum-told-3 c = search needs
 
 cast-own : tie.Need-cast-own
-cast-own c = search needs
+cast-own c = omega (arith, c .before .before .before .before .before .before .before .slice-known .given (320 + c .before .before .before .before .before .before .before .before .args .row))
 
-add-get-4 : tie.Need-add-get-4
-add-get-4 c = search needs
+add-get : tie.Need-add-get
+add-get c = omega (arith, c .before .before .before .before .before .before .before .before .slice-known .given (320 + c .before .before .before .before .before .before .before .before .before .args .row))
 
-get-requires-5 : tie.Need-get-requires-5
-get-requires-5 c κs = search needs
+get-requires : tie.Need-get-requires
+get-requires c κs = search needs
 
-add-get-5 : tie.Need-add-get-5
-add-get-5 c = search needs
+add-get-2 : tie.Need-add-get-2
+add-get-2 c = omega (arith, c .before .before .before .before .before .before .before .before .before .before .slice-known .given (320 + c .before .before .before .before .before .before .before .before .before .before .before .args .row))
 
-get-requires-6 : tie.Need-get-requires-6
-get-requires-6 c κs = search needs
+get-requires-2 : tie.Need-get-requires-2
+get-requires-2 c κs = search needs
 
-add-get-6 : tie.Need-add-get-6
-add-get-6 c = search needs
+add-get-3 : tie.Need-add-get-3
+add-get-3 c = omega (arith, c .before .before .before .before .before .before .before .before .before .before .before .before .slice-known .given (320 + c .before .before .before .before .before .before .before .before .before .before .before .before .before .args .row))
 
-get-requires-7 : tie.Need-get-requires-7
-get-requires-7 c κs = search needs
+get-requires-3 : tie.Need-get-requires-3
+get-requires-3 c κs = search needs
 
 add-put : tie.Need-add-put
-add-put c = search needs
+add-put c = omega (arith, c .before .before .before .before .before .before .before .before .before .before .before .before .before .before .slice-known .given (320 + c .before .before .before .before .before .before .before .before .before .before .before .before .before .before .before .args .row))
 
 put-requires : tie.Need-put-requires
 put-requires c κs = search needs
@@ -103,37 +116,42 @@ same-length : tie.Need-same-length
 same-length c = search needs
 
 returns : tie.Need-returns
-returns c = c .before .before .put-structure .ensures ∙ follow-opens (c .before .before .before .before .before .before .before .before .before .before .before .before .before .before .before .before .before .args .table .now) (c .before .before .before .before .before .before .before .before .before .before .before .before .before .before .before .before .before .args .rows) (c .before .before .before .before .before .before .before .before .before .before .before .before .before .before .before .before .before .args .row) (c .before .before .before .before .before .before .before .before .before .before .before .before .before .before .get .result) (c .before .before .before .before .before .before .before .before .before .before .before .before .get2 .result) (c .before .before .before .before .before .before .before .before .before .before .get3 .result) (c .before .before .before .before .before .before .before .before .get4 .result) (c .before .before .before .before .before .before .before .part-of .result) (c .before .before .before .before .before .before .before .before .before .before .before .before .before .before .get .ensures) (c .before .before .before .before .before .before .before .before .before .before .before .before .get2 .ensures) (c .before .before .before .before .before .before .before .before .before .before .get3 .ensures) (c .before .before .before .before .before .before .before .before .get4 .ensures) (c .before .before .before .before .before .before .before .part-of .ensures) (c .before .before .before .looping-in .result) (c .before .before .before .looping-in .ensures) (c .before .before .before .before .before .enum-told .given .1)
+returns c = c .before .before .put-structure .ensures ∙ follow-opens (c .before .before .before .before .before .before .before .before .before .before .before .before .before .args .table .now) (c .before .before .before .before .before .before .before .before .before .before .before .before .before .args .rows) (c .before .before .before .before .before .before .before .before .before .before .before .before .before .args .row) _ _ _ _ _ refl refl refl refl (c .before .before .before .before .before .before .before .part-of .ensures) _ (c .before .before .before .looping-in .ensures) (c .before .before .before .before .before .enum-told .given .1)
 
 same-length-2 : tie.Need-same-length-2
 same-length-2 c = search needs
 
 returns-2 : tie.Need-returns-2
-returns-2 c = c .before .before .put-structure2 .ensures ∙ follow-turns (c .before .before .before .before .before .before .before .before .before .before .before .before .before .before .before .before .args .table .now) (c .before .before .before .before .before .before .before .before .before .before .before .before .before .before .before .before .args .rows) (c .before .before .before .before .before .before .before .before .before .before .before .before .before .before .before .before .args .row) (c .before .before .before .before .before .before .before .before .before .before .before .before .before .get .result) (c .before .before .before .before .before .before .before .before .before .before .before .get2 .result) (c .before .before .before .before .before .before .before .before .before .get3 .result) (c .before .before .before .before .before .before .before .get4 .result) (c .before .before .before .before .before .before .part-of .result) (c .before .before .before .before .before .before .before .before .before .before .before .before .before .get .ensures) (c .before .before .before .before .before .before .before .before .before .before .before .get2 .ensures) (c .before .before .before .before .before .before .before .before .before .get3 .ensures) (c .before .before .before .before .before .before .before .get4 .ensures) (c .before .before .before .before .before .before .part-of .ensures) (c .before .before .before .before .enum-told2 .given .1)
+returns-2 c = c .before .before .put-structure2 .ensures ∙ follow-turns (c .before .before .before .before .before .before .before .before .before .before .before .before .args .table .now) (c .before .before .before .before .before .before .before .before .before .before .before .before .args .rows) (c .before .before .before .before .before .before .before .before .before .before .before .before .args .row) _ _ _ _ _ refl refl refl refl (c .before .before .before .before .before .before .part-of .ensures) (c .before .before .before .before .enum-told2 .given .1)
 
 same-length-3 : tie.Need-same-length-3
 same-length-3 c = search needs
 
 returns-3 : tie.Need-returns-3
-returns-3 c = c .before .before .put-structure3 .ensures ∙ (ap (putStructure (c .before .before .before .before .before .before .before .before .before .before .before .before .before .before .before .before .before .before .before .before .before .before .before .before .before .before .args .rows) (c .before .before .before .before .before .before .before .before .before .before .before .before .before .before .before .before .before .before .before .before .before .before .before .before .before .before .args .row + 1) (c .before .before .before .before .before .before .before .before .before .before .before .before .get5 .result) (c .before .before .before .before .before .before .before .before .before .before .get6 .result) (c .before .before .before .before .before .before .before .before .get7 .result)) (c .before .before .before .before .before .before .put .ensures) ∙ follow-closes (c .before .before .before .before .before .before .before .before .before .before .before .before .before .before .before .before .before .before .before .before .before .before .before .before .before .before .args .table .now) (c .before .before .before .before .before .before .before .before .before .before .before .before .before .before .before .before .before .before .before .before .before .before .before .before .before .before .args .rows) (c .before .before .before .before .before .before .before .before .before .before .before .before .before .before .before .before .before .before .before .before .before .before .before .before .before .before .args .row) (c .before .before .before .before .before .before .before .before .before .before .before .before .before .before .before .before .before .before .before .before .before .before .before .get .result) (c .before .before .before .before .before .before .before .before .before .before .before .before .before .before .before .before .before .before .before .before .before .get2 .result) (c .before .before .before .before .before .before .before .before .before .before .before .before .before .before .before .before .before .before .before .get3 .result) (c .before .before .before .before .before .before .before .before .before .before .before .before .before .before .before .before .before .get4 .result) (c .before .before .before .before .before .before .before .before .before .before .before .before .before .before .before .before .part-of .result) (c .before .before .before .before .before .before .before .before .before .before .before .before .before .before .before .before .before .before .before .before .before .before .before .get .ensures) (c .before .before .before .before .before .before .before .before .before .before .before .before .before .before .before .before .before .before .before .before .before .get2 .ensures) (c .before .before .before .before .before .before .before .before .before .before .before .before .before .before .before .before .before .before .before .get3 .ensures) (c .before .before .before .before .before .before .before .before .before .before .before .before .before .before .before .before .before .get4 .ensures) (c .before .before .before .before .before .before .before .before .before .before .before .before .before .before .before .before .part-of .ensures) (c .before .before .before .before .before .before .before .before .before .before .before .before .get5 .result) (c .before .before .before .before .before .before .before .before .before .before .get6 .result) (c .before .before .before .before .before .before .before .before .get7 .result) (c .before .before .before .before .before .before .before .before .before .before .before .before .get5 .ensures) (c .before .before .before .before .before .before .before .before .before .before .get6 .ensures) (c .before .before .before .before .before .before .before .before .get7 .ensures) (c .before .before .before .before .before .before .before .before .before .before .before .before .before .before .enum-told3 .given .1))
+returns-3 c = c .before .before .put-structure3 .ensures ∙ (ap (putStructure (c .before .before .before .before .before .before .before .before .before .before .before .before .before .before .before .before .before .before .before .before .before .before .args .rows) (c .before .before .before .before .before .before .before .before .before .before .before .before .before .before .before .before .before .before .before .before .before .before .args .row + 1) (c .before .before .before .before .before .before .before .before .before .before .before .before .get .result) (c .before .before .before .before .before .before .before .before .before .before .get2 .result) (c .before .before .before .before .before .before .before .before .get3 .result)) (c .before .before .before .before .before .before .put .ensures)
+    ∙ follow-closes (c .before .before .before .before .before .before .before .before .before .before .before .before .before .before .before .before .before .before .before .before .before .before .args .table .now) (c .before .before .before .before .before .before .before .before .before .before .before .before .before .before .before .before .before .before .before .before .before .before .args .rows) (c .before .before .before .before .before .before .before .before .before .before .before .before .before .before .before .before .before .before .before .before .before .before .args .row) _ _ _ _ _ refl refl refl refl (c .before .before .before .before .before .before .before .before .before .before .before .before .before .before .before .before .part-of .ensures) _ _ _ (c .before .before .before .before .before .before .before .before .before .before .before .before .get .ensures) (c .before .before .before .before .before .before .before .before .before .before .get2 .ensures) (c .before .before .before .before .before .before .before .before .get3 .ensures) (c .before .before .before .before .before .before .before .before .before .before .before .before .before .before .enum-told3 .given .1))
 
 same-length-4 : tie.Need-same-length-4
 same-length-4 c = search needs
 
 returns-4 : tie.Need-returns-4
-returns-4 c = c .before .before .put-structure4 .ensures ∙ follow-stays (c .before .before .before .before .before .before .before .before .before .before .before .before .before .before .before .before .args .table .now) (c .before .before .before .before .before .before .before .before .before .before .before .before .before .before .before .before .args .rows) (c .before .before .before .before .before .before .before .before .before .before .before .before .before .before .before .before .args .row) (c .before .before .before .before .before .before .before .before .before .before .before .before .before .get .result) (c .before .before .before .before .before .before .before .before .before .before .before .get2 .result) (c .before .before .before .before .before .before .before .before .before .get3 .result) (c .before .before .before .before .before .before .before .get4 .result) (c .before .before .before .before .before .before .part-of .result) (c .before .before .before .before .before .before .before .before .before .before .before .before .before .get .ensures) (c .before .before .before .before .before .before .before .before .before .before .before .get2 .ensures) (c .before .before .before .before .before .before .before .before .before .get3 .ensures) (c .before .before .before .before .before .before .before .get4 .ensures) (c .before .before .before .before .before .before .part-of .ensures) (c .before .before .before .before .enum-told4 .given .1)
+returns-4 c = c .before .before .put-structure4 .ensures ∙ follow-stays (c .before .before .before .before .before .before .before .before .before .before .before .before .args .table .now) (c .before .before .before .before .before .before .before .before .before .before .before .before .args .rows) (c .before .before .before .before .before .before .before .before .before .before .before .before .args .row) _ _ _ _ _ refl refl refl refl (c .before .before .before .before .before .before .part-of .ensures) (c .before .before .before .before .enum-told4 .given .1)
 
 pub follow-spec : {M : Type 1} → statement M
 follow-spec =
     tie.close
     (tie.spec
-    get-requires
-    add-get
-    get-requires-2
-    add-get-2
-    get-requires-3
-    add-get-3
-    get-requires-4
+    mul-kind
+    slice-read-kind
+    add-owner
+    mul-owner
+    slice-read-owner
+    add-latest
+    mul-latest
+    slice-read-latest
+    add-looping
+    mul-looping
+    slice-read-looping
     part-of-requires
     enum-told
     add-put-structure
@@ -145,12 +163,12 @@ follow-spec =
     put-structure-requires-2
     enum-told-3
     cast-own
-    add-get-4
-    get-requires-5
-    add-get-5
-    get-requires-6
-    add-get-6
-    get-requires-7
+    add-get
+    get-requires
+    add-get-2
+    get-requires-2
+    add-get-3
+    get-requires-3
     add-put
     put-requires
     add-put-structure-4
