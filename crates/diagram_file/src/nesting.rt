@@ -2,6 +2,7 @@
 // runs inside it; they call each other, and the call stack is the stack of what is open. The rows left and the depth left fall together.
 ghost use mathlib.Core.Path.{_≡_};
 ghost use Prim.Native.Nat.{_≤_, _<_};
+ghost use lib.ListN.{length};
 ghost use Rattle.diagram_file.specs.Runs.{partOf, kindIn, beforeIn, topIn, isAndOr, standsOf, followsOf, brokenOf, exitFits, misplacedOf, loopsIn, deepOf, faultIn, RunRead, ConstructRead, NestingRead};
 
 // What a row does to the constructs that are open: adds one, turns the innermost to its next branch, takes it off, or nothing.
@@ -58,16 +59,18 @@ pub(crate) fn part_of(kind: u16) -> Part
 
 // The kind of a row; behind the last row an END.
 fn kind_in(table: &[u16], rows: usize, row: usize) -> u16
+    requires { ⌜ rows ≤ length (now table) ⌝ }
     ensures { λ r. ⌜ r ≡ kindIn (now (table .entry)) rows row ⌝ }
 {
     if row < rows {
-        return words::get(table, row);
+        return table[row];
     }
     27
 }
 
 // The kind of the row before, 0 before the first.
 fn before_in(table: &[u16], rows: usize, row: usize) -> u16
+    requires { ⌜ rows ≤ length (now table) ⌝ }
     ensures { λ r. ⌜ r ≡ beforeIn (now (table .entry)) rows row ⌝ }
 {
     if row == 0 {
@@ -78,6 +81,7 @@ fn before_in(table: &[u16], rows: usize, row: usize) -> u16
 
 // The kind of the innermost open construct's open row, 0 where nothing is open.
 fn top_in(table: &[u16], rows: usize, around: Open) -> u16
+    requires { ⌜ rows ≤ length (now table) ⌝ }
     ensures { λ r. ⌜ r ≡ topIn (now (table .entry)) rows around ⌝ }
 {
     if around.depth == 0 {
@@ -196,6 +200,7 @@ fn deep(kind: u16, depth: usize) -> bool
 fn fault_in(table: &[u16], rows: usize, row: usize, around: Open) -> u16
     requires { ⌜ (row < rows) × (rows ≤ 64) ⌝ }
     requires { ⌜ around .opened ≤ 64 ⌝ }
+    requires { ⌜ rows ≤ length (now table) ⌝ }
     ensures { λ r. ⌜ r ≡ faultIn (now (table .entry)) rows row around ⌝ }
 {
     let kind = kind_in(table, rows, row);
@@ -219,6 +224,7 @@ fn fault_in(table: &[u16], rows: usize, row: usize, around: Open) -> u16
 fn read_run(table: &[u16], rows: usize, from: usize, around: Open) -> Run
     requires { ⌜ (from ≤ rows) × (rows ≤ 64) ⌝ }
     requires { ⌜ (around .depth ≤ 12) × (around .opened ≤ 64) ⌝ }
+    requires { ⌜ rows ≤ length (now table) ⌝ }
     ensures { λ r. ⌜ RunRead (now (table .entry)) rows from around r ⌝ }
 {
     let mut row = from;
@@ -258,6 +264,7 @@ fn read_run(table: &[u16], rows: usize, from: usize, around: Open) -> Run
 fn read_construct(table: &[u16], rows: usize, opened: usize, around: Open) -> Construct
     requires { ⌜ (opened < rows) × (rows ≤ 64) ⌝ }
     requires { ⌜ around .depth < 12 ⌝ }
+    requires { ⌜ rows ≤ length (now table) ⌝ }
     ensures { λ r. ⌜ ConstructRead (now (table .entry)) rows opened around r ⌝ }
 {
     let looped = loops(kind_in(table, rows, opened), around.looped);
@@ -289,6 +296,7 @@ fn read_construct(table: &[u16], rows: usize, opened: usize, around: Open) -> Co
 // Judges the nesting of all rows.
 pub(crate) fn read_nesting(table: &[u16], rows: usize) -> Judgement
     requires { ⌜ rows ≤ 64 ⌝ }
+    requires { ⌜ rows ≤ length (now table) ⌝ }
     ensures { λ r. ⌜ NestingRead (now (table .entry)) rows r ⌝ }
 {
     let nothing = Open {
