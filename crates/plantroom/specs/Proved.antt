@@ -1,6 +1,8 @@
 -- The table of examples holds: computed.
 use mathlib.Core.Path.{_≡_, refl}
 use mathlib.Core.Bool.{true}
+use native.Mathlib.Omega.{arith}
+use Rattle.effbd.specs.Answers.{accepted}
 use Rattle.effbd.specs.Records.{areBytes, kindTable, entryIn, lengthOf, fieldsOf, faultAt, readMany}
 use Rattle.effbd.specs.Diagrams.{kindOf, headFault, itemFault, usesAt, usesFine, rowAt, rowRight, rowFine, rowFault}
 use Rattle.effbd.specs.Nesting.{stack, owner, close, branchOf, loop, nestingBroken, exitMisplaced, thirteenthOpen, nestingFault, firstFaulty, nested, afterRows, afterItems, readDiagram}
@@ -11,8 +13,10 @@ use Rattle.effbd.specs.Nets.{arcBytes, transitionBytes, markBytes, netBytes, ar
 use Rattle.effbd.specs.Firing.{weightAt, clearedAt, effectOf, covers, takenAndCleared, firedState, overflows, fire, fireLowest, letsPass, tickedState, netWait, netMove, checkedNetMove, stepNet, freshNetWords}
 use Rattle.effbd.specs.Patterns.{names, arcsOf, rangesFrom, transitionOf, netOf}
 use Rattle.effbd.specs.Annex.{digits, number, numbers, arcLines, transitionLines, netLines, printed, annexIn}
-use Rattle.effbd.specs.BusEnds.{telegram, taken}
-use Rattle.plantroom.specs.Table.{fileOf, sameWords, plays, holds, allHold, examples, annexOfA, followerSays, followerHolds, tableHolds}
+use Rattle.effbd.specs.BusEnds.{telegram, isOurs, offered, taken}
+use Rattle.effbd.specs.History.{freshEnds, run, seen, runAll, seenAll, offers, wrote-before, foreign, MayBeHanded}
+use Rattle.plantroom.specs.Table.{fileOf, fileA, sameWords, plays, holds, allHold, examples, annexOfA, followerSays, followerHolds, tableHolds}
+use Rattle.plantroom.specs.Calls.{diagramA, calls, accepting, callsHold}
 
 -- THEOREM: document 01's examples A to I, with every number that it gives
 pub examples-hold : tableHolds ≡ true
@@ -25,3 +29,15 @@ unfolding areBytes kindTable entryIn lengthOf fieldsOf faultAt readMany
     names arcsOf rangesFrom transitionOf netOf digits number numbers arcLines transitionLines netLines printed annexIn telegram taken
     fileOf sameWords plays holds allHold examples annexOfA followerSays followerHolds tableHolds
 examples-hold = refl
+
+-- THEOREM: the list of calls is one that demand 3 speaks of, and ends as said
+pub calls-hold : (readDiagram (fileA 3) ≡ accepted diagramA) × MayBeHanded (fileA 3) diagramA 9 calls × (callsHold ≡ true)
+unfolding areBytes kindTable entryIn lengthOf fieldsOf faultAt readMany
+    kindOf headFault itemFault usesAt usesFine rowAt rowRight rowFine rowFault
+    stack owner close branchOf loop nestingBroken exitMisplaced thirteenthOpen nestingFault firstFaulty nested afterRows afterItems readDiagram
+    placeOf stateWords stateOf enteredRow branchEntries freshWords moveOf wordsOutcome moveWords checkedMove stepDiagram
+    arcBytes transitionBytes markBytes netBytes arcDue arcFine above transitionFine netHeadFault markFault arcFault transitionFault readTail afterPlaces readNet
+    weightAt clearedAt effectOf covers takenAndCleared firedState overflows fire fireLowest letsPass tickedState netWait netMove checkedNetMove stepNet freshNetWords
+    names arcsOf rangesFrom transitionOf netOf telegram isOurs offered taken freshEnds run seen runAll seenAll
+    fileOf sameWords diagramA calls accepting callsHold
+calls-hold = (refl, (offers, (offers, (offers, (wrote-before 1 (omega arith) refl, (wrote-before 0 (omega arith) refl, (wrote-before 0 (omega arith) refl, (offers, (foreign refl, (foreign refl, (wrote-before 1 (omega arith) refl, tt)))))))))), refl)
