@@ -3,12 +3,13 @@ use Prim.Native.Nat.{ℕ, suc, _+_, _-_, _≤_, _<_}
 use mathlib.Core.Path.{_≡_, refl, ap, sym, _∙_}
 use mathlib.Core.Bool.{Bool, true, false, cond}
 use mathlib.Core.List.{List, [], _∷_, _++_, append-nil}
-use native.Mathlib.Nat.{le-of-eq}
+use native.Mathlib.Nat.{sub-zero}
 use native.Mathlib.Omega.{arith}
-use borrow.Author.Tests.{eq-eqb, ne-eqb, lt-ltb, le-ltb}
+use borrow.Author.Tests.{eq-eqb, ne-eqb, lt-ltb, le-ltb, le-leb}
 use borrow.Rule.Slice.PartMut.{putMid, midOf as partOf, post-is}
-use lib.ListN.{length, take, drop, getD, drop-of-length-le}
-use lib.Seq.{take-all, drop-at, length-take-le, drop-length, getD-drop}
+use lib.ListN.{length, take, drop, getD, length-append, drop-of-length-le}
+use lib.Seq.{drop-at, length-take-le, drop-length, getD-drop}
+use Rattle.words.specs.Stores.{copied}
 use Rattle.effbd.specs.Answers.{Outcome, accepted, refused, afterwards, returningZero}
 use Rattle.effbd.specs.declared.Answer.{Answer}
 use Rattle.effbd.specs.declared.Answer.the-variants.{Accepted, Refused}
@@ -35,14 +36,21 @@ answered-as {answer} {before} r e = record { says = r .says ∙ ap returningZero
 pub tail-put : (p : ℕ) (state clocks : List ℕ) → p ≤ length state → putMid p (length state - p) state clocks ≡ take p state ++ clocks
 tail-put p state clocks l = rw (post-is p (length state) state l, drop-length state, append-nil clocks)
 
+-- marks over the front of a state
+over : (p : ℕ) (marks state clocks : List ℕ) → length marks ≡ p → p ≤ length state → copied marks (take p state ++ clocks) ≡ marks ++ clocks
+over p marks state clocks lm l =
+    let e = length-append (take p state) clocks in
+    let f = length-take-le p state l in
+    rw (le-leb (length marks) (length (take p state ++ clocks)) (omega arith), lm) (ap (λ (q : List ℕ). marks ++ q) (drop-at (take p state) clocks p f))
+
 -- new clocks, then new marks over them
 pub written : (p : ℕ) (f : ℕ → Transition → ℕ → ℕ) (ts : List Transition) (state clocks marks out : List ℕ) → p ≤ length state → length marks ≡ p
-    → clocks ≡ clocksBy f 0 ts (partOf p (length state - p) state) → out ≡ take p marks ++ drop p (putMid p (length state - p) state clocks) → out ≡ marks ++ clocksBy f 0 ts (drop p state)
+    → clocks ≡ clocksBy f 0 ts (partOf p (length state - p) state) → out ≡ copied marks (putMid p (length state - p) state clocks) → out ≡ marks ++ clocksBy f 0 ts (drop p state)
 written p f ts state clocks marks out l lm ec eo =
     eo
-    ∙ ap (λ (q : List ℕ). take p marks ++ drop p q) (tail-put p state clocks l)
-    ∙ ap (λ (q : List ℕ). q ++ drop p (take p state ++ clocks)) (take-all p marks (le-of-eq lm))
-    ∙ ap (λ (q : List ℕ). marks ++ q) (drop-at (take p state) clocks p (length-take-le p state l) ∙ ec ∙ ap (λ (q : List ℕ). clocksBy f 0 ts q) (tail-is p state))
+    ∙ ap (copied marks) (tail-put p state clocks l)
+    ∙ over p marks state clocks lm l
+    ∙ ap (λ (q : List ℕ). marks ++ q) (ec ∙ ap (λ (q : List ℕ). clocksBy f 0 ts q) (tail-is p state))
 
 pub fired-clocks : (j : ℕ) (marks : List ℕ) (ts : List Transition) (clocks : List ℕ) → clocksBy (renewedClock (Fired j) marks) 0 ts clocks ≡ clocksBy (keptClock j marks) 0 ts clocks
 unfolding renewedClock
@@ -129,5 +137,7 @@ pub move-none : (ts : List Transition) (code argument : ℕ) (marks clocks : Lis
 unfolding movedWords
 move-none ts code argument marks clocks a b = rw (ne-eqb code 1 a, ne-eqb code 2 b)
 
-pub copied : (p : ℕ) (marks state out : List ℕ) → length marks ≡ p → out ≡ take p state ++ drop p marks → out ≡ take p state
-copied p marks state out lm e = let h : length marks ≤ p = omega arith in e ∙ rw (drop-of-length-le marks h, append-nil (take p state))
+pub marks-are : (p : ℕ) (marks state out : List ℕ) → length marks ≡ p → p ≤ length state → out ≡ copied (take (p - 0) state) marks → out ≡ take p state
+marks-are p marks state out lm l e =
+    let f = length-take-le p state l in
+    e ∙ rw (sub-zero p, le-leb (length (take p state)) (length marks) (omega arith), drop-of-length-le marks (let h : length marks ≤ length (take p state) = omega arith in h), append-nil (take p state))

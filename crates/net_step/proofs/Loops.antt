@@ -1,4 +1,4 @@
--- The turns of copies, clocks and waits.
+-- The turns of fresh words, clocks and waits.
 use Prim.Native.Nat.{ℕ, zero, suc, _+_, _-_, _≤_, _<_}
 use mathlib.Core.Path.{_≡_, refl, ap, sym, _∙_}
 use mathlib.Core.Bool.{Bool, true, false, cond, _||_}
@@ -27,14 +27,6 @@ front-more to f n h = rw add-one (front-suc to f n h)
 
 pub front-all : (to : List ℕ) (f : ℕ → ℕ) (n : ℕ) → n ≡ length to → tabulate n f ++ drop n to ≡ tabulate (length to) f
 front-all to f n e = let h : length to ≤ n = omega arith in rw (drop-of-length-le to h, append-nil (tabulate n f), e)
-
-abbrev pub elements : List ℕ → ℕ → ℕ
-elements from i = getD from i 0
-
-pub front-take : (from : List ℕ) (n : ℕ) → n ≤ length from → tabulate n (elements from) ≡ take n from
-front-take from zero h = refl
-front-take [] (suc n) h = absurd (not-suc-le-zero h)
-front-take (x ∷ from) (suc n) h = ap (λ (l : List ℕ). x ∷ l) (front-take from n (le-of-suc-le-suc h))
 
 pub tail-is : (n : ℕ) (l : List ℕ) → take (length l - n) (drop n l) ≡ drop n l
 tail-is n l = take-all (length l - n) (drop n l) (le-of-eq (length-drop n l))

@@ -23,18 +23,6 @@ pub enum Renewal {
     Waited(u16),
 }
 
-// The first n words of `from` into `to`.
-fn copy(to: &mut [u16], from: &[u16], n: usize)
-    requires { ⌜ (n ≤ length (now to)) × (n ≤ length (now from)) ⌝ }
-    ensures { λ _. ⌜ now (to .exit) ≡ take n (now (from .entry)) ++ drop n (now (to .entry)) ⌝ }
-{
-    let mut i: usize = 0;
-    while i < n {
-        to[i] = from[i];
-        i += 1;
-    }
-}
-
 // The clock of transition number x after number j fired: kept if it is enabled after takes and clears, which `marks` are.
 fn kept(j: u16, marks: &[u16], x: u16, rest: &[u8], running: u16) -> u16
     ensures { λ r. ⌜ r ≡ keptClock j (now (marks .entry)) x (transitionIn (now (rest .entry))) running ⌝ }
@@ -140,7 +128,7 @@ fn finish(marks: &mut [u16], state: &mut [u16], arcs: &[u8], transitions: &[u8],
         count,
     );
     net_walk::apply(marks, GIVE, arcs);
-    copy(state, marks, places);
+    words::copy(state, marks);
 }
 
 // Transition number j, which `part` begins with, fires if its clock and the sums allow it.
@@ -233,7 +221,7 @@ fn move_by(
     ensures { λ r. ⌜ Answered r (now (state .entry)) (now (state .exit)) (movedWords (transitionsIn count (now (transitions .entry))) code argument (take (length (now (marks .entry))) (now (state .entry))) (drop (length (now (marks .entry))) (now (state .entry)))) ⌝ }
 {
     let places = marks.len();
-    copy(marks, state, places);
+    words::copy(marks, &state[0..places]);
     match code {
         1 => step_label(marks, state, transitions, count, argument),
         2 => wait_ticks(marks, state, transitions, count, argument),
