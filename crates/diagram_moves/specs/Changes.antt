@@ -86,10 +86,6 @@ module _ (table : List ℕ) where
     unfoldable pub moveChange : (code argument : ℕ) → List ℕ → List ℕ
     moveChange code argument words = cond (eqb code 1) (rowChange argument words) (fold rows (tickTurn argument) words)
 
--- copying words over a state
-unfoldable pub copyTurn : (source : List ℕ) → ℕ → List ℕ → List ℕ
-copyTurn source i words = set words i (getD source i 0)
-
 -- the outcome of a move that was told `verdict`, and has `words` written where it stands
 abbrev pub outcomeOf : (verdict : Outcome ℕ) (words : List ℕ) → Outcome (List ℕ)
 outcomeOf (accepted value) words = accepted words

@@ -1,12 +1,11 @@
 // The diagram's stepper: the file is read once, the move is decided, then it is written.
 ghost use mathlib.Core.Path.{_≡_};
 ghost use mathlib.Core.Bool.{true, false};
-ghost use lib.ListN.{length};
 ghost use Rattle.effbd.specs.Answers.{said, returningZero, afterwards};
 ghost use Rattle.effbd.specs.Moves.{stepDiagram, freshDiagram};
 ghost use Prim.Native.Nat.{_+_};
 ghost use Rattle.diagram_moves.specs.Cells.{ownerIn, closeIn};
-ghost use Rattle.diagram_moves.specs.Changes.{rowSet, entered, branchesTurned, itOpenChange, exitChange, functionChange, rowChange, moveChange, tableOutcome, copyTurn, fold};
+ghost use Rattle.diagram_moves.specs.Changes.{rowSet, entered, branchesTurned, itOpenChange, exitChange, functionChange, rowChange, moveChange, tableOutcome};
 use diagram_decide::cells;
 use diagram_decide::kinds;
 use effbd::Answer;
@@ -143,14 +142,6 @@ pub fn step(file: &[u8], state: &mut [u16], code: u16, argument: u16) -> Answer
     )
 }
 
-fn copy(source: &[u16], state: &mut [u16])
-    ensures { λ r. ⌜ now (state .exit) ≡ fold (length (now (state .entry))) (copyTurn (now (source .entry))) (now (state .entry)) ⌝ }
-{
-    for at in 0..state.len() {
-        words::put(state, at, words::get(source, at));
-    }
-}
-
 // The fresh state of a diagram, in the place of `state`.
 pub fn fresh(file: &[u8], state: &mut [u16]) -> Answer
     ensures { λ r. ⌜ said r ≡ returningZero (freshDiagram (now (file .entry)) (now (state .entry))) ⌝ }
@@ -160,10 +151,11 @@ pub fn fresh(file: &[u8], state: &mut [u16]) -> Answer
     if diagram.number != 0 {
         return Answer::Refused(diagram.number, diagram.value);
     }
-    if state.len() != 3 * diagram.rows as usize + diagram.items as usize {
+    let size = state.len();
+    if size != 3 * diagram.rows as usize + diagram.items as usize {
         return Answer::Refused(20, 0);
     }
-    let words = diagram.fresh();
-    copy(&words, state);
+    let fresh = diagram.fresh();
+    words::copy(state, &fresh[0..size]);
     Answer::Accepted(0)
 }

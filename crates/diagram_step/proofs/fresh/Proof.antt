@@ -1,8 +1,6 @@
 use Rattle.diagram_step.proofs.Laws.{told-accepted, told-refused, fresh-turned}
 use Rattle.diagram_moves.specs.Files.{fresh-short, fresh-copied}
 use Rattle.effbd.specs.Moves.{freshDiagram}
-use Rattle.effbd.specs.Answers.{accepted}
-use mathlib.Core.Path.{sym, _∙_, ap}
 use borrow.Author.Needs.{needs}
 use Rattle.diagram_step.proofs.fresh.Statement.{statement}
 use Rattle.diagram_step.proofs.fresh.Tie as tie
@@ -31,8 +29,14 @@ returns-2 c = told-refused (c .before .before .before .before .before .before .b
 fresh-requires : tie.Need-fresh-requires
 fresh-requires c κs = search needs
 
-slice-aggregate-copy : tie.Need-slice-aggregate-copy
-slice-aggregate-copy c = search needs
+sub-copy : tie.Need-sub-copy
+sub-copy c = search needs
+
+part-copy-start : tie.Need-part-copy-start
+part-copy-start c = search needs
+
+part-copy-end : tie.Need-part-copy-end
+part-copy-end c = let held = c .before .before .before .before .before .before .before .before .parse .ensures .holds (c .before .before .before .before .before .before .if1 .left) .holds in let a = held .fewRows in let b = held .fewItems in let e = c .before .before .before .if2 .left in search needs
 
 copy-requires : tie.Need-copy-requires
 copy-requires c κs = search needs
@@ -41,7 +45,11 @@ same-length : tie.Need-same-length
 same-length c = search needs
 
 returns-3 : tie.Need-returns-3
-returns-3 c = let held = c .before .before .before .before .before .before .before .before .before .before .before .parse .ensures .holds (c .before .before .before .before .before .before .before .before .before .if1 .left) in told-accepted (c .before .before .before .before .before .before .before .before .before .before .before .before .before .before .args .state .now) _ (freshDiagram (c .before .before .before .before .before .before .before .before .before .before .before .before .before .before .args .file .now) (c .before .before .before .before .before .before .before .before .before .before .before .before .before .before .args .state .now)) (fresh-copied (c .before .before .before .before .before .before .before .before .before .before .before .before .before .before .args .file .now) (c .before .before .before .before .before .before .before .before .before .before .before .before .before .before .args .state .now) (c .before .before .before .before .before .before .before .before .before .before .before .parse .result .rows) (c .before .before .before .before .before .before .before .before .before .before .before .parse .result .items) (c .before .before .before .before .before .before .before .before .before .before .before .parse .result .table) (c .before .before .before .before .before .fresh .result) held (c .before .before .before .before .before .fresh .ensures .of (held .diagram) (held .holds)) (c .before .before .before .before .before .before .if2 .left) ∙ ap accepted (sym (c .before .before .copy .ensures)))
+returns-3 c =
+    let held = c .before .before .before .before .before .before .before .before .before .before .before .before .parse .ensures .holds (c .before .before .before .before .before .before .before .before .before .before .if1 .left) in
+    told-accepted (c .before .before .before .before .before .before .before .before .before .before .before .before .before .before .before .args .state .now) _ (freshDiagram (c .before .before .before .before .before .before .before .before .before .before .before .before .before .before .before .args .file .now) (c .before .before .before .before .before .before .before .before .before .before .before .before .before .before .before .args .state .now))
+    (fresh-copied (c .before .before .before .before .before .before .before .before .before .before .before .before .before .before .before .args .file .now) (c .before .before .before .before .before .before .before .before .before .before .before .before .before .before .before .args .state .now) (c .before .before .before .before .before .before .before .before .before .before .before .before .parse .result .rows) (c .before .before .before .before .before .before .before .before .before .before .before .before .parse .result .items) (c .before .before .before .before .before .before .before .before .before .before .before .before .parse .result .table) (c .before .before .before .before .before .before .fresh .result) (c .before .before .copy .last .0) held
+    (c .before .before .before .before .before .before .fresh .ensures .of (held .diagram) (held .holds)) (c .before .before .before .before .before .before .before .if2 .left) (c .before .before .copy .ensures))
 
 pub fresh-spec : {M : Type 1} → statement M
 fresh-spec =
@@ -55,7 +63,9 @@ fresh-spec =
     add-if2
     returns-2
     fresh-requires
-    slice-aggregate-copy
+    sub-copy
+    part-copy-start
+    part-copy-end
     copy-requires
     same-length
     returns-3)
