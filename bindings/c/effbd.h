@@ -3,6 +3,7 @@
  * Link target/staticlib/libeffbd_c.a (rt staticlib effbd_c). A list is a pointer and its number of ELEMENTS: bytes of files, areas and
  * telegrams, 16-bit words of states. An answer is number * 2^32 + value; the number is 0 where the call was accepted, else the refusal of
  * document 01's table, whose value is then "Returned". A refusal alters nothing that was lent.
+ * Lists that are lent to one call must not overlap where one of them is written.
  */
 #ifndef EFFBD_H
 #define EFFBD_H

@@ -1,5 +1,7 @@
-//! Document 01's examples A to I, through the proved functions: every length, answer, mark and clock that it gives.
+//! Document 01's examples, through the proved functions: every length, answer, mark and clock that it gives of A to I; and the others, compared
+//! with the model.
 
+use compare::told;
 use effbd::{
     fresh_diagram, fresh_net, read_diagram, read_net, step_diagram, step_net, take, translate,
     Answer, Refusal,
@@ -145,4 +147,50 @@ fn i_takes_only_the_next_number() {
         assert_eq!(take(&plant.net, &mut marks, 4, 7, &telegram), answer);
         assert_eq!(marks, plant.marks);
     }
+}
+
+/// The same answer of a file and the same net, both with the model's.
+fn compare_file(file: &[u8], answer: Answer) {
+    assert_eq!(read_diagram(file), answer);
+    assert_eq!(told(model::diagram::read(file)), answer);
+    let mut nets = (vec![7; 65_536], vec![7; 65_536]);
+    assert_eq!(
+        translate(file, &mut nets.0),
+        told(model::translate::translate(file, &mut nets.1))
+    );
+    assert!(nets.0 == nets.1);
+}
+
+#[test]
+fn sixty_four_rows_and_no_more() {
+    compare_file(&examples::many_rows(64), Ok(192));
+    compare_file(&examples::many_rows(65), refused(4, 0));
+}
+
+#[test]
+fn twelve_open_and_no_more() {
+    compare_file(&examples::many_open(12), Ok(75));
+    compare_file(&examples::many_open(13), refused(9, 12));
+}
+
+/// A step of row 0 at both ends, the proved ones and the model's.
+fn compare_step(plant: &mut Plant, diagram: Answer, net: Answer) {
+    let (mut state, mut marks) = (plant.diagram.clone(), plant.marks.clone());
+    plant.offer(STEP, 0, diagram, net);
+    let told_of_diagram = model::diagram_step::step(&plant.file, &mut state, STEP, 0);
+    let told_of_net = model::net_step::step(&plant.net, &mut marks, STEP, 0);
+    assert_eq!((told(told_of_diagram), told(told_of_net)), (diagram, net));
+    assert_eq!((&state, &marks), (&plant.diagram, &plant.marks));
+}
+
+#[test]
+fn an_item_given_one_fills_up_to_65_535() {
+    let mut below = Plant::fresh(examples::item_given_one(65_534), 34, 110);
+    compare_step(&mut below, Ok(0), Ok(0));
+    compare_step(&mut below, Ok(0), Ok(0));
+    assert_eq!((below.diagram[6], below.marks[6]), (65_535, 65_535));
+    let mut full = Plant::fresh(examples::item_given_one(65_535), 34, 110);
+    compare_step(&mut full, Ok(0), Ok(0));
+    compare_step(&mut full, refused(25, 0), refused(25, 6));
+    assert_eq!((full.diagram[6], full.marks[6]), (65_535, 65_535));
 }

@@ -161,7 +161,9 @@ module _ (d : Diagram) (acc : nested d ≡ accepted d) (some : 0 < rowCount d) w
           behind = λ i l. put-behind i (omega arith);
         }
 
-pub fresh-is : (rows items : ℕ) (table zeros state : List ℕ) → state ≡ freshPut rows items table zeros → length zeros ≡ 208 → allZero zeros ≡ true → Freshened rows items table (state ++ [])
-fresh-is rows items table zeros state es n e = record {
+pub fresh-is : (rows items : ℕ) (table zeros state : List ℕ) → state ≡ freshPut rows items table zeros → length zeros ≡ 208 → allZero zeros ≡ true → zeros ≡ tabulate 208 (λ i. 0)
+    → Freshened rows items table (state ++ [])
+fresh-is rows items table zeros state es n e z = record {
+  is = append-nil state ∙ (es ∙ ap (freshPut rows items table) z);
   of = λ d h. subst (FreshOf d) (sym (append-nil state ∙ es)) (fresh-put d (h .nests) (omega (arith, h .someRow, h .rowsAre)) rows items table zeros h n e);
 }

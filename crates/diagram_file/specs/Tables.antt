@@ -4,6 +4,7 @@ use mathlib.Core.Path.{_≡_}
 use mathlib.Core.Bool.{true, _||_}
 use mathlib.Core.List.{List}
 use lib.ListN.{length, getD, take, drop, set}
+use Rattle.effbd.specs.Ranges.{tabulate}
 use Rattle.effbd.specs.Answers.{Outcome, accepted, refused, andThen}
 use Rattle.effbd.specs.Records.{word}
 use Rattle.effbd.specs.Diagrams.{and-open, or-open, it-open, lp-open, Diagram, numberOf, rowCount, countTotal, initialCount, row, kind, isKind, usesAt}
@@ -102,5 +103,7 @@ pub record FreshOf (d : Diagram) (state : List ℕ) : Type 0 where
   pub words : take (places d) state ≡ freshWords d
   pub behind : (i : ℕ) → places d ≤ i → getD state i 0 ≡ 0
 
+-- a fresh state was made, of whatever the table holds
 pub record Freshened (rows items : ℕ) (table state : List ℕ) : Type 0 where
+  pub is : state ≡ freshPut rows items table (tabulate 208 (λ i. 0))
   pub of : (d : Diagram) → Holds d rows items table → FreshOf d state

@@ -89,7 +89,7 @@ fn step_row(table: &[u16], rows: u32, file: &[u8], state: &mut [u16], row: u16)
 }
 
 // Writes a move that crate diagram_decide accepted.
-pub fn write(table: &[u16], rows: u32, file: &[u8], state: &mut [u16], code: u16, argument: u16)
+fn write(table: &[u16], rows: u32, file: &[u8], state: &mut [u16], code: u16, argument: u16)
     ensures { λ _. ⌜ now (state .exit) ≡ moveChange (now (table .entry)) rows (now (file .entry)) code argument (now (state .entry)) ⌝ }
 {
     if code == 1 {

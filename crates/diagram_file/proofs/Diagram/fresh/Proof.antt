@@ -17,7 +17,7 @@ put-fresh-requires : tie.Need-put-fresh-requires
 put-fresh-requires c κs = search needs
 
 returns : tie.Need-returns
-returns c = let d = c .before .before .before .before .before .before .args .t1 in fresh-is (d .rows) (d .items) (d .table) _ (c .before .put-fresh .last .0) (c .before .put-fresh .ensures) refl refl
+returns c = let d = c .before .before .before .before .before .before .args .t1 in fresh-is (d .rows) (d .items) (d .table) _ (c .before .put-fresh .last .0) (c .before .put-fresh .ensures) refl refl refl
 
 pub fresh-spec : {M : Type 1} → statement M
 fresh-spec =
