@@ -136,6 +136,16 @@ pub not-not : (b : Bool) → not (not b) ≡ b
 not-not true = refl
 not-not false = refl
 
+-- the least number that passes
+pub least-is : (n : ℕ) (f : ℕ → Bool) (i : ℕ) → i < n → f i ≡ true → ((j : ℕ) → j < i → f j ≡ false) → least n f ≡ i
+least-is zero f i l e h = absurd (omega arith)
+least-is (suc n) f zero l e h = rw (least, e)
+least-is (suc n) f (suc i) l e h = rw (least, h 0 (omega arith)) (ap suc (least-is n (λ j. f (suc j)) i (omega arith) e (λ j z. h (suc j) (omega arith))))
+
+pub least-none : (n : ℕ) (f : ℕ → Bool) → ((j : ℕ) → j < n → f j ≡ false) → least n f ≡ n
+least-none zero f h = refl
+least-none (suc n) f h = rw (least, h 0 (omega arith)) (ap suc (least-none n (λ j. f (suc j)) (λ j z. h (suc j) (omega arith))))
+
 pub least-ext : (n : ℕ) (f g : ℕ → Bool) → ((i : ℕ) → i < n → f i ≡ g i) → least n f ≡ least n g
 least-ext zero f g h = refl
 least-ext (suc n) f g h =

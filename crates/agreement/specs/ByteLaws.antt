@@ -7,10 +7,10 @@ use native.Mathlib.Omega.{arith}
 use lib.ListN.{length, getD, drop}
 use lib.Seq.{drop-cons}
 use lib.Dec.{ltb}
-use borrow.Author.Tests.{ltb-true, ltb-false, le-ltb}
+use borrow.Author.Tests.{ltb-true, ltb-false, lt-ltb, le-ltb}
 use Rattle.effbd.specs.Answers.{Outcome, accepted, andThen, refused, unless}
 use Rattle.effbd.specs.Records.{Got, adding, areBytes, faultAt, lengthAt, word, wordBytes}
-use Rattle.agreement.specs.Basics.{and-left, and-right}
+use Rattle.agreement.specs.Basics.{and-left, and-right, and-intro}
 
 pub byte-at : (l : List ℕ) → areBytes l ≡ true → (i : ℕ) → getD l i 0 < 256
 unfolding areBytes
@@ -18,6 +18,11 @@ byte-at [] h zero = omega arith
 byte-at [] h (suc i) = omega arith
 byte-at (b ∷ l) h zero = ltb-true b 256 (and-left (ltb b 256) (areBytes l) h)
 byte-at (b ∷ l) h (suc i) = byte-at l (and-right (ltb b 256) (areBytes l) h) i
+
+pub bytes-are : (l : List ℕ) → ((i : ℕ) → getD l i 0 < 256) → areBytes l ≡ true
+unfolding areBytes
+bytes-are [] h = refl
+bytes-are (b ∷ l) h = and-intro (lt-ltb b 256 (h zero)) (bytes-are l (λ i. h (suc i)))
 
 pub bytes-drop : (n : ℕ) (l : List ℕ) → areBytes l ≡ true → areBytes (drop n l) ≡ true
 unfolding areBytes

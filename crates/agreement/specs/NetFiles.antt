@@ -172,11 +172,11 @@ pub record Back (P k from label more : ℕ) (l : List ℕ) (t : Tail) : Type 0 w
   pub transitions : transitionsFine P label (t .transitions) ≡ true
   pub many : length (t .transitions) ≡ more
 
-withArc-inv : (x : Arc) (a : Outcome Tail) (t : Tail) → withArc x a ≡ accepted t → (u : Tail) × (a ≡ accepted u) × (record { arcs = x ∷ u .arcs; transitions = u .transitions } ≡ t)
+pub withArc-inv : (x : Arc) (a : Outcome Tail) (t : Tail) → withArc x a ≡ accepted t → (u : Tail) × (a ≡ accepted u) × (record { arcs = x ∷ u .arcs; transitions = u .transitions } ≡ t)
 withArc-inv x (accepted u) t e = (u, refl, cc)
 withArc-inv x (refused n v) t e = never e
 
-withTrans-inv : (x : Transition) (a : Outcome Tail) (t : Tail) → withTransition x a ≡ accepted t
+pub withTrans-inv : (x : Transition) (a : Outcome Tail) (t : Tail) → withTransition x a ≡ accepted t
     → (u : Tail) × (a ≡ accepted u) × (record { arcs = []; transitions = record { label = x .label; earliest = x .earliest; latest = x .latest; arcs = u .arcs } ∷ u .transitions } ≡ t)
 withTrans-inv x (accepted u) t e = (u, refl, cc)
 withTrans-inv x (refused n v) t e = never e
@@ -338,9 +338,9 @@ marks-back (suc m) total l g b e =
     let w = adding-inv (word l 4) _ g (a .1) in
     subst (MarksBack (suc m) l) (w .2) (mark-back m l (w .0) b (a .0) (marks-back m total (drop (lengthAt l) l) (w .0) (bytes-drop (lengthAt l) l b) (w .1)))
 
-tableWith-inv : (ms : List ℕ) (a : Outcome Tail) (n : Net) → netWith ms a ≡ accepted n → (u : Tail) × (a ≡ accepted u) × (record { marks = ms; transitions = u .transitions } ≡ n)
-tableWith-inv ms (accepted u) n e = (u, refl, cc)
-tableWith-inv ms (refused x v) n e = never e
+pub netWith-inv : (ms : List ℕ) (a : Outcome Tail) (n : Net) → netWith ms a ≡ accepted n → (u : Tail) × (a ≡ accepted u) × (record { marks = ms; transitions = u .transitions } ≡ n)
+netWith-inv ms (accepted u) n e = (u, refl, cc)
+netWith-inv ms (refused x v) n e = never e
 
 pub record NetBack (l : List ℕ) (n : Net) : Type 0 where
   pub written : netBytes n ≡ l
@@ -362,7 +362,7 @@ unfolding readNet netBytes wellFormed afterPlaces netHeadFault lengthOf entryIn 
 net-back l n b e =
     let a = next-inv (netHeadFault l) 0 _ n e in
     let w = bind-inv (readMany markFault (λ l. word l 4) (length l) (word l 4) (drop 8 l)) (afterPlaces l) n (a .1) in
-    let u = tableWith-inv (w .0 .value) _ n (w .2) in
+    let u = netWith-inv (w .0 .value) _ n (w .2) in
     let m = marks-back (word l 4) (length l) (drop 8 l) (w .0) (bytes-drop 8 l b) (w .1) in
     let k = tail-back (word l 4) (length l) (suc (length (w .0 .rest))) (word l 6) 38 0 0 (w .0 .rest) (u .0) (omega arith) (omega arith) (m .rest) (u .1) in
     subst (NetBack l) (u .2) (whole (w .0) (u .0) m k (none-clean l (eqb (kindAt l) 32) (eqb (lengthAt l) 8) (leb 1 (word l 4) && (leb (word l 4) 208 && leb (word l 6) 128)) 3 (a .0)))

@@ -38,6 +38,11 @@ pub length-map : {A B : Type 0} (f : A → B) (l : List A) → length (map f l) 
 length-map f [] = refl
 length-map f (x ∷ xs) = ap suc (length-map f xs)
 
+pub getD-map : {A B : Type 0} (f : A → B) (l : List A) (x : ℕ) (a : A) (b : B) → x < length l → getD (map f l) x b ≡ f (getD l x a)
+getD-map f [] x a b l = absurd (omega arith)
+getD-map f (y ∷ ys) zero a b l = refl
+getD-map f (y ∷ ys) (suc x) a b l = getD-map f ys x a b (omega arith)
+
 pub all-ext : (n : ℕ) (f g : ℕ → Bool) → ((i : ℕ) → i < n → f i ≡ g i) → allBelow n f ≡ allBelow n g
 all-ext zero f g h = refl
 all-ext (suc n) f g h = ap₂ _&&_ (h n (omega arith)) (all-ext n f g (λ i l. h i (omega arith)))
@@ -147,11 +152,6 @@ module _ (d : Diagram) where
 
       row : List (Name d)
       row = tabulate (length (patterns d n)) at′
-
-  getD-map : {A B : Type 0} (f : A → B) (l : List A) (x : ℕ) (a : A) (b : B) → x < length l → getD (map f l) x b ≡ f (getD l x a)
-  getD-map f [] x a b l = absurd (omega arith)
-  getD-map f (y ∷ ys) zero a b l = refl
-  getD-map f (y ∷ ys) (suc x) a b l = getD-map f ys x a b (omega arith)
 
   pub map-tab : {A B : Type 0} (f : A → B) (l : List A) (a : A) → map f l ≡ tabulate (length l) (λ x. f (getD l x a))
   map-tab f [] a = refl
