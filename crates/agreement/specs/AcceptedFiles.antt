@@ -173,9 +173,6 @@ module _ (d : Diagram) where
       go true f z = never z
       go false f z = (cc, none f)
 
-pub nest-same : (d e : Diagram) → nested d ≡ accepted e → d ≡ e
-nest-same d e h = nest-clean d e h .0
-
 -- THEOREM: what an accepted file gives
 pub held : (file : List ℕ) (d : Diagram) → areBytes file ≡ true → readDiagram file ≡ accepted d → Held d
 unfolding readDiagram afterItems afterRows

@@ -8,7 +8,7 @@ use native.Mathlib.Nat.{zero-add, suc-add}
 use lib.ListN.{List·getD-eq-default}
 use lib.Dec.{ltb, eqb}
 use borrow.Author.Tests.{ltb-true, ltb-false, eqb-true, eqb-false, eq-eqb}
-use Rattle.effbd.specs.Diagrams.{Diagram, Kind, Row, and-close, and-open, branch, end, function, it-close, it-open, kind, loop-exit, lp-close, lp-open, numberOf, or-close, or-open, plain, rowCount, sameKind}
+use Rattle.effbd.specs.Diagrams.{Diagram, Kind, Row, and-close, and-open, branch, end, function, it-close, it-open, kind, kindOf, loop-exit, lp-close, lp-open, numberOf, or-close, or-open, plain, rowCount, sameKind}
 use Rattle.effbd.specs.Ranges.{allBelow, least, only}
 
 -- a test, with its equation
@@ -55,12 +55,8 @@ pub cond-same : {A : Type 0} (b : Bool) (x : A) → cond b x x ≡ x
 cond-same true x = refl
 cond-same false x = refl
 
-ofCode : ℕ → Kind
-ofCode n = cond (eqb n 16) function (cond (eqb n 17) and-open (cond (eqb n 18) branch (cond (eqb n 19) and-close (cond (eqb n 20) or-open (cond (eqb n 21) or-close
-    (cond (eqb n 22) it-open (cond (eqb n 23) it-close (cond (eqb n 24) lp-open (cond (eqb n 25) lp-close (cond (eqb n 26) loop-exit end))))))))))
-
-of-code : (k : Kind) → ofCode (numberOf k) ≡ k
-unfolding ofCode
+of-code : (k : Kind) → kindOf (numberOf k) ≡ k
+unfolding kindOf
 of-code function = refl
 of-code and-open = refl
 of-code branch = refl
@@ -75,7 +71,7 @@ of-code loop-exit = refl
 of-code end = refl
 
 pub same-eq : (k j : Kind) → sameKind k j ≡ true → k ≡ j
-same-eq k j e = sym (of-code k) ∙ (ap ofCode (eqb-true (numberOf k) (numberOf j) e) ∙ of-code j)
+same-eq k j e = sym (of-code k) ∙ (ap kindOf (eqb-true (numberOf k) (numberOf j) e) ∙ of-code j)
 
 pub eq-same : (k j : Kind) → k ≡ j → sameKind k j ≡ true
 eq-same k j e = eq-eqb (numberOf k) (numberOf j) (ap numberOf e)

@@ -58,9 +58,6 @@ module _ (file : List ℕ) (d : Diagram) (b : areBytes file ≡ true) (e : readD
       as-due : saw ≡ want
 
     module _ (p : History) (c : Ends) (v : True p c) where
-      n : ℕ
-      n = length (p .states)
-
       module _ (s : List ℕ) (code argument : ℕ) (area : List ℕ) (z : moveWords d (moveOf code argument) (lastState d station p) ≡ accepted s) where
         p′ : History
         p′ = record { states = p .states ++ (s ∷ []); t = p .t }

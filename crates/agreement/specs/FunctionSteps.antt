@@ -1,4 +1,4 @@
--- FUNCTION, IT open and LE: the steps that do more than move tokens.
+-- FUNCTION: its start and its end.
 use Prim.Native.Nat.{_*_, ℕ, suc, _+_, _-_, _≤_, _<_, zero-le}
 use mathlib.Core.Path.{_≡_, refl}
 use mathlib.Core.Logic.{_≢_}
@@ -85,9 +85,6 @@ module _ (d : Diagram) where
     ended = enter d (suc r) (makeIdle (only r) (setCounts (λ x. s .count x + gives d r x) s))
 
     module _ (a : s .activity r ≡ 2) (h : (q : ℕ) → only r q ≡ false → only (enteredRow d (suc r)) q ≡ true → s .activity q ≡ 0) where
-      E : ℕ → Bool
-      E = only (enteredRow d (suc r))
-
       ended-marks : (p : Place) → imageMark d ended p ≡ after t₂ (imageMark d s) p + t₂ .give p
       unfolding ended t₂
       ended-marks (P q) = decide (only r q)

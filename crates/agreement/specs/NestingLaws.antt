@@ -20,7 +20,7 @@ module _ (d : Diagram) where
   -- the frames of a stack at row q: each stands on the stack of its own open row
   pub record Ok (q : ℕ) (f : Frame) (fs : List Frame) : Type 0 where
     pub below : f .opened < q
-    pub readTail : fs ≡ stack d (f .opened)
+    pub tail : fs ≡ stack d (f .opened)
     pub opener : opens d (f .opened) ≡ true
     pub sided : isKind d and-open (f .opened) ≡ true → (kind d (f .latest) ≡ branch) × (owner d (f .latest) ≡ f .opened) × (f .opened < f .latest) × (f .latest ≤ q)
 
@@ -34,7 +34,7 @@ module _ (d : Diagram) where
       let b : f .opened < q = g .0 .below in (
         record {
           below = omega arith;
-          readTail = g .0 .readTail;
+          tail = g .0 .tail;
           opener = g .0 .opener;
           sided = λ e. let w = g .0 .sided e in let x : f .latest ≤ q = w .3 in (w .0, w .1, w .2, omega arith);
         },
@@ -55,7 +55,7 @@ module _ (d : Diagram) where
     pushed q fs e o b g = (
       record {
         below = omega arith;
-        readTail = e;
+        tail = e;
         opener = o;
         sided = λ a. (b a, own a, omega arith, omega arith);
       },
@@ -71,7 +71,7 @@ module _ (d : Diagram) where
     turned q (f ∷ fs) e k g = (
       record {
         below = omega (arith, g .0 .below);
-        readTail = g .0 .readTail;
+        tail = g .0 .tail;
         opener = g .0 .opener;
         sided = λ a. (k, own, g .0 .below, omega arith);
       },
@@ -189,7 +189,7 @@ module _ (d : Diagram) where
       own = topIs-owner r o h .1;
       opener = rw (owner-top r t) (t .ok .opener);
       earlier = rw (owner-top r t) (t .ok .below);
-      after = rw (e, owner-top r t) (p (stack d r) ∙ (ap pop (t .here) ∙ t .ok .readTail));
+      after = rw (e, owner-top r t) (p (stack d r) ∙ (ap pop (t .here) ∙ t .ok .tail));
     }
       where
         t : Top r
@@ -215,7 +215,7 @@ module _ (d : Diagram) where
       fork = rw (owner-top b t) (subst (λ fs. inAndOr d fs ≡ true) (t .here) (ruled b branch e refl));
       opener = rw (owner-top b t) (t .ok .opener);
       earlier = rw (owner-top b t) (t .ok .below);
-      after = rw (e, owner-top b t) (ap (turnTo b) (t .here) ∙ ap (λ fs. record { opened = t .frame .opened; latest = b } ∷ fs) (t .ok .readTail));
+      after = rw (e, owner-top b t) (ap (turnTo b) (t .here) ∙ ap (λ fs. record { opened = t .frame .opened; latest = b } ∷ fs) (t .ok .tail));
     }
       where
         go : (fs : List Frame) → inAndOr d fs ≡ true → noneOpen d fs ≡ false
@@ -375,7 +375,7 @@ module _ (d : Diagram) where
         (λ e. rw e)
 
     top-stack : (q : ℕ) (t : Top q) → stack d q ≡ record { opened = owner d q; latest = t .frame .latest } ∷ stack d (owner d q)
-    top-stack q t = rw (owner-top q t) (t .here ∙ ap (λ fs. t .frame ∷ fs) (t .ok .readTail))
+    top-stack q t = rw (owner-top q t) (t .here ∙ ap (λ fs. t .frame ∷ fs) (t .ok .tail))
 
     not-open : (q : ℕ) {k : Kind} → kind d q ≡ k → (sameKind k and-open || (sameKind k or-open || (sameKind k it-open || sameKind k lp-open))) ≡ false → opens d q ≡ false
     not-open q e h = rw e h
@@ -388,7 +388,7 @@ module _ (d : Diagram) where
 
     -- the row that entering q changes stands where q is read
     in-branch : (q X : ℕ) → (t : Top q) → kind d (owner d q) ≡ and-open → side d X (latestBranch (stack d q)) ≡ sideIn d X (stack d q)
-    in-branch q X t k = rw (t .here) (side-else b X (not-open b (w .0) refl) ∙ ap (sideIn d X) (branched b (w .0) .after ∙ (rw (w .1) (ap (λ fs. t .frame ∷ fs) (sym (t .ok .readTail))))))
+    in-branch q X t k = rw (t .here) (side-else b X (not-open b (w .0) refl) ∙ ap (sideIn d X) (branched b (w .0) .after ∙ (rw (w .1) (ap (λ fs. t .frame ∷ fs) (sym (t .ok .tail))))))
       where
         b : ℕ
         b = t .frame .latest
@@ -558,7 +558,7 @@ module _ (d : Diagram) where
     nestAs o Y q (f ∷ fs) g h y = or-split (only o (f .opened)) (has o fs) h
         (λ e. let z : f .opened ≡ o = eqb-true (f .opened) o e in
         let l = has-below o Y (stack d o) (good o) y in
-        rw (ne-eqb (f .opened) Y (λ w. let v : o ≡ Y = sym z ∙ w in absurd (omega arith)), g .0 .readTail, z))
+        rw (ne-eqb (f .opened) Y (λ w. let v : o ≡ Y = sym z ∙ w in absurd (omega arith)), g .0 .tail, z))
         (λ n e. let l = has-below o Y (stack d o) (good o) y in
         let m = has-below (f .opened) o fs (g .1) e in
         rw (ne-eqb (f .opened) Y (λ w. absurd (omega arith))) (nestAs o Y (f .opened) fs (g .1) e y))
@@ -669,16 +669,16 @@ module _ (d : Diagram) where
     exitAs Y q [] g h = clash h refl
     exitAs Y q (f ∷ fs) g h = decide (isKind d lp-open (f .opened))
         (λ e. let k = same-eq (kind d (f .opened)) lp-open e in
-        inl (rw e (subst (λ gs. sideIn d Y (f ∷ gs) ≡ sideIn d Y (stack d (f .opened))) (sym (g .0 .readTail)) (drop-frame Y (f .opened) (f .latest) (rw k)))))
+        inl (rw e (subst (λ gs. sideIn d Y (f ∷ gs) ≡ sideIn d Y (stack d (f .opened))) (sym (g .0 .tail)) (drop-frame Y (f .opened) (f .latest) (rw k)))))
         (λ e. decide (only Y (f .opened))
-        (λ y. inr (rw (e, ← eqb-true (f .opened) Y y, ← g .0 .readTail) (loopAs (f .opened) fs (g .1) (rw e at h) .1)))
+        (λ y. inr (rw (e, ← eqb-true (f .opened) Y y, ← g .0 .tail) (loopAs (f .opened) fs (g .1) (rw e at h) .1)))
         (λ y. rw (e, y) (exitAs Y (f .opened) fs (g .1) (rw e at h))))
 
     has-trans : (X Y q : ℕ) (fs : List Frame) → Good q fs → has Y fs ≡ true → has X (stack d Y) ≡ true → has X fs ≡ true
     unfolding has
     has-trans X Y q [] g y x = y
     has-trans X Y q (f ∷ fs) g y x = or-right (only X (f .opened)) (or-split (only Y (f .opened)) (has Y fs) y
-        (λ e. rw (g .0 .readTail, eqb-true (f .opened) Y e) x)
+        (λ e. rw (g .0 .tail, eqb-true (f .opened) Y e) x)
         (λ n e. has-trans X Y (f .opened) fs (g .1) e x))
 
     exit : (r x Y : ℕ) → kind d r ≡ loop-exit → inLoop d r x ≡ false → side d Y r ≢ 0 → side d Y x ≢ 0 → side d Y r ≡ side d Y (loop d r)

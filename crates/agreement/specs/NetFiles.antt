@@ -1,16 +1,15 @@
 -- A net file and its table: reading the bytes of a table gives it back; an accepted file is the bytes of its table.
 use Prim.Native.Nat.{ℕ, zero, suc, _-_, _≤_, _<_}
 use mathlib.Core.Path.{_≡_, refl, sym, _∙_, ap, ap₂, subst}
-use mathlib.Core.Logic.{_≢_}
 use mathlib.Core.Bool.{Bool, true, false, cond, _&&_}
 use mathlib.Core.List.{List, [], _∷_, _++_}
 use native.Mathlib.Omega.{arith}
 use lib.ListN.{length, drop, length-drop}
 use lib.Dec.{leb, ltb, eqb}
-use borrow.Author.Tests.{leb-true, eqb-true, eqb-false, lt-ltb, le-leb, lt-leb, eq-eqb, ne-eqb}
+use borrow.Author.Tests.{leb-true, eqb-true, eqb-false, le-leb, lt-leb, eq-eqb, ne-eqb}
 use Rattle.effbd.specs.Answers.{Outcome, accepted, refused, unless}
 use Rattle.effbd.specs.Nets.{Arc, Net, Tail, Transition, above, afterPlaces, arcAt, arcBytes, arcDue, arcFault, arcFine, markBytes, markFault, netBytes, netHeadFault, netWith, readNet, readTail, transitionAt, transitionBytes, transitionFault, transitionFine, withArc, withTransition, noTail}
-use Rattle.effbd.specs.Records.{entryIn, kindTable, Got, areBytes, faultAt, kindAt, lengthAt, lengthOf, readMany, word, wordBytes}
+use Rattle.effbd.specs.Records.{entryIn, kindTable, Got, areBytes, kindAt, lengthAt, lengthOf, readMany, word, wordBytes}
 use Rattle.agreement.specs.Basics.{and-intro, and-left, and-right, decide}
 use Rattle.agreement.specs.ByteLaws.{Clean, adding-inv, bind-inv, bytes-drop, clean-none, never, next-inv, none-clean, of-two, two-at, word-fits}
 use Rattle.agreement.specs.Formed.{arcsFine, fitsWord, marksFine, transitionsFine, wellFormed}
@@ -346,7 +345,7 @@ pub record NetBack (l : List ℕ) (n : Net) : Type 0 where
   pub written : netBytes n ≡ l
   pub fine : wellFormed n ≡ true
 
--- before the first transition there is no arc: noTail of kind 38 or more is due
+-- before the first transition there is no arc: none of kind 38 or more is due
 no-arcs : (P : ℕ) (xs : List Arc) → arcsFine P 38 0 xs ≡ true → xs ≡ []
 unfolding arcsFine arcDue
 no-arcs P [] e = refl
@@ -388,44 +387,3 @@ net-back l n b e =
 
         tailed : transitionBytes (u .transitions) ≡ g .rest
         tailed = ap (λ (x : List Arc). arcBytes x ++ transitionBytes (u .transitions)) (sym (no-arcs (word l 4) (u .arcs) (k .arcs))) ∙ k .written
-
--- the fuel does not matter where it suffices: laws of the reader for a loop that reads record after record
-module _ (P total : ℕ) where
-  no-head : (label : ℕ) (l : List ℕ) → length l ≡ 0 → transitionFault P total label l ≡ 1
-  unfolding transitionFault faultAt
-  no-head label l e = rw (lt-ltb (length l) 4 (omega arith))
-
-  tail-fuel : (f f′ more k from label : ℕ) (l : List ℕ) → length l < f → length l < f′ → readTail P total f more k from label l ≡ readTail P total f′ more k from label l
-  unfolding readTail
-  tail-fuel zero f′ more k from label l h h′ = absurd (omega arith)
-  tail-fuel (suc f) zero more k from label l h h′ = absurd (omega arith)
-  tail-fuel (suc f) (suc f′) zero k from label l h h′ = decide (eqb (length l) 0) (λ e. rw e)
-      (λ e. let z : length l ≢ 0 = eqb-false (length l) 0 e in
-      rw (e, tail-fuel f f′ zero (kindAt l) (above (arcAt l)) label (drop 8 l) (rw (length-drop 8 l) (omega arith)) (rw (length-drop 8 l) (omega arith))))
-  tail-fuel (suc f) (suc f′) (suc m) k from label l h h′ = decide (eqb (length l) 0)
-      (λ e. let z = eqb-true (length l) 0 e in rw (lt-leb 4 (length l) (omega arith), no-head label l z))
-      (λ e. let z : length l ≢ 0 = eqb-false (length l) 0 e in
-      rw (
-        tail-fuel f f′ (suc m) (kindAt l) (above (arcAt l)) label (drop 8 l) (rw (length-drop 8 l) (omega arith)) (rw (length-drop 8 l) (omega arith)),
-        tail-fuel f f′ m 35 0 (word l 4) (drop 10 l) (rw (length-drop 10 l) (omega arith)) (rw (length-drop 10 l) (omega arith)),
-      ))
-
-  -- the tail, with fuel enough
-  unfoldable pub tailOf : (more k from label : ℕ) → List ℕ → Outcome Tail
-  tailOf more k from label l = readTail P total (suc (length l)) more k from label l
-
-  pub tail-end : (k from label : ℕ) → tailOf 0 k from label [] ≡ accepted noTail
-  unfolding tailOf readTail
-  tail-end k from label = refl
-
-  pub tail-arc : (more k from label : ℕ) (l : List ℕ) → 35 ≤ k → 8 ≤ length l → lengthAt l ≡ 8 → arcDue k (kindAt l) ≡ true → arcFine P k from (arcAt l) ≡ true
-      → tailOf more k from label l ≡ withArc (arcAt l) (tailOf more (kindAt l) (above (arcAt l)) label (drop 8 l))
-  unfolding tailOf
-  tail-arc more k from label l h n s due fine = arc-turn P total (length l) more k from label l h n s due fine
-      ∙ ap (withArc (arcAt l)) (tail-fuel (length l) (suc (length (drop 8 l))) more (kindAt l) (above (arcAt l)) label (drop 8 l) (rw (length-drop 8 l) (omega arith)) (omega arith))
-
-  pub tail-trans : (more k from label : ℕ) (l : List ℕ) → 35 ≤ k → 10 ≤ length l → lengthAt l ≡ 10 → kindAt l ≡ 34 → transitionFine label (transitionAt l) ≡ true
-      → tailOf (suc more) k from label l ≡ withTransition (transitionAt l) (tailOf more 35 0 (word l 4) (drop 10 l))
-  unfolding tailOf
-  tail-trans more k from label l h n s q fine = trans-turn P total (length l) more k from label l h n s q fine
-      ∙ ap (withTransition (transitionAt l)) (tail-fuel (length l) (suc (length (drop 10 l))) more 35 0 (word l 4) (drop 10 l) (rw (length-drop 10 l) (omega arith)) (omega arith))

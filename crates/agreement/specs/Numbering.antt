@@ -48,12 +48,6 @@ all-ext zero f g h = refl
 all-ext (suc n) f g h = ap₂ _&&_ (h n (omega arith)) (all-ext n f g (λ i l. h i (omega arith)))
 
 module _ (d : Diagram) where
-  N : ℕ
-  N = rowCount d
-
-  total : ℕ
-  total = 3 * rowCount d + countTotal d
-
   pub place-P : (r : ℕ) → r < rowCount d → placeOf d (3 * r) ≡ P r
   unfolding placeOf
   place-P r l = rw (lt-ltb (3 * r) (3 * rowCount d) (omega arith), eq-eqb ((3 * r) % 3) 0 (omega arith)) (ap P (omega arith))

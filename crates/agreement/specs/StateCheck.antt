@@ -13,9 +13,6 @@ use Rattle.agreement.specs.Basics.{all-intro, and-intro, clash, decide, 
 use Rattle.agreement.specs.Matching.{Valid}
 
 module _ (d : Diagram) (s : State) (v : Valid d s) (q : ℕ) where
-  a : ℕ
-  a = s .activity q
-
   no2 : {k : Kind} → kind d q ≡ k → sameKind k function ≡ false → s .activity q ≢ 2
   no2 e n z = not-kind d q e function n (v .runs q z)
 
@@ -23,12 +20,12 @@ module _ (d : Diagram) (s : State) (v : Valid d s) (q : ℕ) where
   no3 e n z = not-kind d q e branch n (v .done q z)
 
   -- idle or ready
-  wordBytes : {k : Kind} → kind d q ≡ k → sameKind k function ≡ false → sameKind k branch ≡ false → leb (s .activity q) 1 ≡ true
-  wordBytes e m n = let x = no2 e m in let y = no3 e n in let z = v .small q in le-leb (s .activity q) 1 (omega arith)
+  idle-or-ready : {k : Kind} → kind d q ≡ k → sameKind k function ≡ false → sameKind k branch ≡ false → leb (s .activity q) 1 ≡ true
+  idle-or-ready e m n = let x = no2 e m in let y = no3 e n in let z = v .small q in le-leb (s .activity q) 1 (omega arith)
 
   acts : (k : Kind) (b : Bool) → kind d q ≡ k → isKind d and-open (owner d q) ≡ b → activityFine d k b (s .activity q) ≡ true
   acts function b e f = let y = no3 e refl in let z = v .small q in le-leb (s .activity q) 2 (omega arith)
-  acts and-open b e f = wordBytes e refl refl
+  acts and-open b e f = idle-or-ready e refl refl
   acts branch true e f = decide (eqb (s .activity q) 3) (λ z. or-right (eqb (s .activity q) 0) z)
       (λ z. or-left (eqb (s .activity q) 3) (let x = no2 e refl in let y = eqb-false (s .activity q) 3 z in let w = v .small q in
       let u : s .activity q ≢ 1 = λ h. v .readies q h e in eq-eqb (s .activity q) 0 (omega arith)))
@@ -37,14 +34,14 @@ module _ (d : Diagram) (s : State) (v : Valid d s) (q : ℕ) where
       let y : s .activity q ≢ 3 = λ h. clash (eq-same (kind d (owner d q)) and-open (v .forked q h)) f in eq-eqb (s .activity q) 0 (omega arith)
   acts and-close b e f = let x = no2 e refl in let y = no3 e refl in let w = v .small q in
       let u : s .activity q ≢ 1 = λ h. v .opened q h e in eq-eqb (s .activity q) 0 (omega arith)
-  acts or-open b e f = wordBytes e refl refl
-  acts or-close b e f = wordBytes e refl refl
-  acts it-open b e f = wordBytes e refl refl
-  acts it-close b e f = wordBytes e refl refl
-  acts lp-open b e f = wordBytes e refl refl
-  acts lp-close b e f = wordBytes e refl refl
-  acts loop-exit b e f = wordBytes e refl refl
-  acts end b e f = wordBytes e refl refl
+  acts or-open b e f = idle-or-ready e refl refl
+  acts or-close b e f = idle-or-ready e refl refl
+  acts it-open b e f = idle-or-ready e refl refl
+  acts it-close b e f = idle-or-ready e refl refl
+  acts lp-open b e f = idle-or-ready e refl refl
+  acts lp-close b e f = idle-or-ready e refl refl
+  acts loop-exit b e f = idle-or-ready e refl refl
+  acts end b e f = idle-or-ready e refl refl
 
   turns-ok : cond (isKind d it-open q) (leb (s .turns q) (row d q .first)) (eqb (s .turns q) 0) ≡ true
   turns-ok = decide (isKind d it-open q) (λ e. rw e (le-leb (s .turns q) (row d q .first) (v .turned q)))

@@ -3,12 +3,12 @@ use Prim.Native.Nat.{ℕ, _+_, _*_, _<_, zero-le}
 use mathlib.Core.Path.{_≡_, refl, sym, _∙_, ap, subst, fun-ext}
 use mathlib.Core.Logic.{_≢_}
 use mathlib.Core.Bool.{true, cond}
-use mathlib.Core.List.{List, [], _∷_, map}
+use mathlib.Core.List.{List, map}
 use native.Mathlib.Omega.{arith}
 use lib.ListN.{length, getD}
 use lib.Dec.{ltb}
 use borrow.Author.Tests.{ltb-true, lt-ltb}
-use Rattle.effbd.specs.Answers.{Outcome, accepted, afterwards, refused}
+use Rattle.effbd.specs.Answers.{Outcome, accepted, refused}
 use Rattle.effbd.specs.Diagrams.{Diagram, countTotal, rowCount}
 use Rattle.effbd.specs.Firing.{NetState, netMove}
 use Rattle.effbd.specs.Image.{imageMark, image}
@@ -21,7 +21,7 @@ use Rattle.agreement.specs.Basics.{decide}
 use Rattle.agreement.specs.Invariant.{Inv}
 use Rattle.agreement.specs.Matching.{Agree, Valid}
 use Rattle.agreement.specs.Moves.{Words, fresh-image, fresh-inv, moves-agree, rowAsked}
-use Rattle.agreement.specs.Named.{NamedState, behaviour, flatNet, movesFrom, namedFresh, namedImage, namedMove}
+use Rattle.agreement.specs.Named.{NamedState, behaviour, flatNet, namedFresh, namedImage, namedMove}
 use Rattle.agreement.specs.Nested.{wellNested}
 use Rattle.agreement.specs.Numbering.{none, ans, getD-tab, map-tab, name-at, place-I, place-P, place-Q, place-R, place-real, step-flat, tab-ext, wait-flat, length-tab}
 use Rattle.agreement.specs.Tokens.{Real}
@@ -145,21 +145,6 @@ module _ (d : Diagram) where
       where
         image-is : image d l ≡ flatNet d (namedImage d (stateOf d l))
         image-is = unfold image flatNet in refl
-
-    -- what a list of moves leaves
-    settled : (r : ℕ) (l : List ℕ) → Kept l → (a : Outcome (List ℕ)) (b : Outcome NetState) → WordsAgree r a b
-        → (afterwards (image d l) b ≡ image d (afterwards l a)) × Kept (afterwards l a)
-    settled r l i (accepted x) (accepted y) h = (h .0, h .1)
-    settled r l i (accepted x) (refused a b) h = absurd h
-    settled r l i (refused a b) (accepted y) h = absurd h
-    settled r l i (refused a b) (refused u v) h = (refl, i)
-
-    pub follow : (ms : List Move) (l : List ℕ) → Kept l → (movesFrom (netMove (behaviour d)) ms (image d l) ≡ image d (movesFrom (moveWords d) ms l)) × Kept (movesFrom (moveWords d) ms l)
-    follow [] l i = (refl, i)
-    follow (m ∷ ms) l i =
-        let a = settled (rowAsked m) l i (moveWords d m l) (netMove (behaviour d) m (image d l)) (words-agree m l i) in
-        let r = follow ms (afterwards l (moveWords d m l)) (a .1) in
-        (ap (movesFrom (netMove (behaviour d)) ms) (a .0) ∙ r .0, r .1)
 
     pub start-kept : Kept (stateWords d (fresh d))
     unfolding Kept

@@ -10,14 +10,14 @@ use lib.ListN.{getD, length}
 use lib.Dec.{leb, ltb, eqb}
 use borrow.Author.Tests.{ltb-true, ltb-false, leb-true, eqb-true, eqb-false, lt-ltb, le-leb, ne-eqb}
 use Rattle.effbd.specs.Diagrams.{Diagram, Kind, and-close, and-open, branch, countTotal, end, function, gives, isKind, it-close, it-open, kind, loop-exit, lp-close, lp-open, or-close, or-open, row, rowCount, sameKind, takes}
-use Rattle.effbd.specs.Image.{imageMark, readyOrDone, running}
+use Rattle.effbd.specs.Image.{imageMark, readyOrDone}
 use Rattle.effbd.specs.Layout.{Count, P, Place, Q, R, byPlace}
 use Rattle.effbd.specs.Moves.{allDone, enough, holdsAs, passTicks, wait}
 use Rattle.effbd.specs.Nesting.{branchOf, close, owner}
 use Rattle.effbd.specs.Patterns.{Pattern, atOnce, entryRow, marksP, noPattern, none, nowhere, oneAt, patterns, patternsAs}
 use Rattle.effbd.specs.Ranges.{allBelow, only}
-use Rattle.effbd.specs.States.{State, setRunning}
-use Rattle.agreement.specs.Basics.{all-elim, all-fail, all-find, all-intro, and-intro, and-left, and-right, clash, cond-same, decide, kind-in, not-false, not-kind, not-true, only-refl, or-left, or-right, or-split, same-eq}
+use Rattle.effbd.specs.States.{State}
+use Rattle.agreement.specs.Basics.{all-elim, all-fail, all-find, all-intro, and-intro, and-left, and-right, clash, decide, kind-in, not-false, not-kind, not-true, only-refl, or-left, or-right, or-split, same-eq}
 use Rattle.agreement.specs.Invariant.{Inv}
 use Rattle.agreement.specs.Matching.{Agree, Valid, second-enabled}
 use Rattle.agreement.specs.Named.{NamedState, enabled, namedImage, namedLets, namedTick, namedWait}
@@ -26,10 +26,6 @@ use Rattle.agreement.specs.TokenSteps.{branch-in, branch-kind, live-zero
 use Rattle.agreement.specs.Tokens.{Real, enabled-yes, places-elim}
 
 module _ (d : Diagram) where
-  -- a clock off a running row is 0
-  kept : (a c : ℕ) → (a ≢ 2 → c ≡ 0) → c ≡ cond (leb 1 (running a - 0)) c 0
-  kept a c g = decide (eqb a 2) (λ e. rw e) (λ e. rw (g (eqb-false a 2 e)) (simp cond-same))
-
   module _ (L : Laws d) (n : ℕ) (some : 0 < n) (s : State) (i : Inv d s) where
     v : Valid d s
     v = i .valid
@@ -180,7 +176,7 @@ module _ (d : Diagram) where
         (and-intro (ready-by t₁ q inside (not-kind d q e branch refl) refl f)
         (all-intro (countTotal d) (λ x. leb (takes d q x) (s .count x)) (λ x lx. le-leb (takes d q x) (s .count x) (gives-on t₁ (Count x) f lx)))))
         (λ h₂. let-yes (timed q) [] 1 q h₂
-        (λ f l. or-right (eqb (s .activity q) 1 && enough d q s) (and-intro (setRunning f) (lt-ltb (row d q .second) (s .clock q + n) (rw e at l)))) (λ z. clash refl z)))
+        (λ f l. or-right (eqb (s .activity q) 1 && enough d q s) (and-intro (runs f) (lt-ltb (row d q .second) (s .clock q + n) (rw e at l)))) (λ z. clash refl z)))
       where
         t₁ : Pattern
         t₁ = atOnce (byPlace (oneAt (only q)) none none (takes d q)) nowhere (byPlace none (oneAt (only q)) none none)
@@ -188,8 +184,8 @@ module _ (d : Diagram) where
         inside : q < rowCount d
         inside = kind-in d q (not-kind d q e end refl)
 
-        setRunning : enabled d (timed q) (imageMark d s) ≡ true → eqb (s .activity q) 2 ≡ true
-        setRunning f = decide (eqb (s .activity q) 2) (λ z. z)
+        runs : enabled d (timed q) (imageMark d s) ≡ true → eqb (s .activity q) 2 ≡ true
+        runs f = decide (eqb (s .activity q) 2) (λ z. z)
             (λ z. let l = rw (only-refl q, e, z) at (gives-on (timed q) (Q q) f inside) in absurd (omega arith))
     holds and-open q e h = hold and-open q e refl (single q (hd and-open q) refl (not-kind d q e end refl) (not-kind d q e branch refl) h)
     holds branch q e h = decide (isKind d or-open (owner d q))
