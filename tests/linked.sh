@@ -8,7 +8,7 @@ program=$(mktemp)
 gcc -O2 -Wall -Wextra -Werror -o "$program" bindings/c/example.c target/staticlib/libeffbd_c.a
 "$program" | diff bindings/c/example.txt -
 rm -f "$program"
-(cd bindings/rust && cargo run --offline --quiet --example pump_down) | diff bindings/rust/examples/pump_down.txt -
+(cd bindings/rust && cargo run --offline --quiet --example example_a) | diff bindings/rust/examples/example_a.txt -
 cd compare
 cargo test --offline --release --quiet
 cargo run --offline --release --quiet --bin compare -- "$(date +%s)" "$1"

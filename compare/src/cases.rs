@@ -7,7 +7,7 @@ use model::generate::{
     bus_list, damaged_diagram, damaged_net, diagram, foreign_net, net_state, odd_state,
     passing_state, walk, Random,
 };
-use model::history::{moves_to_try, net_of, Call};
+use model::history::{moves_to_try, net_of, Call, History};
 
 /// What a case found: nothing, or how the two differ.
 pub type Verdict = Result<(), String>;
@@ -312,6 +312,24 @@ fn bus_ends(random: &mut Random) -> Verdict {
     Ok(())
 }
 
+/// The area that each offer of a list leaves: its telegram in the first 14 bytes where it added a state, else as it was lent.
+fn areas_due(calls: &[Call], history: &History) -> Vec<Vec<u8>> {
+    let mut telegrams = history.telegrams.iter();
+    let mut areas = Vec::new();
+    for (call, counted) in calls.iter().zip(&history.counted) {
+        let Call::Offer { area, .. } = call else {
+            continue;
+        };
+        let mut due = area.clone();
+        if *counted {
+            let telegram = telegrams.next().map(Telegram::encode).unwrap_or_default();
+            due[..telegram.len()].copy_from_slice(&telegram);
+        }
+        areas.push(due);
+    }
+    areas
+}
+
 /// A list of calls on both ends, the proved ones beside the model's; and demand 3 on the model's history.
 fn call_list(random: &mut Random) -> Verdict {
     let file = diagram(random);
@@ -335,7 +353,7 @@ fn call_list(random: &mut Random) -> Verdict {
         &Ok(0),
         &effbd::fresh_net(&net, &mut follower),
     )?;
-    let mut seen = Vec::new();
+    let (mut seen, mut areas) = (Vec::new(), Vec::new());
     for call in &calls {
         match call {
             Call::Offer {
@@ -355,6 +373,7 @@ fn call_list(random: &mut Random) -> Verdict {
                 );
                 sent = answer.unwrap_or(sent);
                 seen.push(answer.is_ok());
+                areas.push(lent);
             }
             Call::Hand { bytes } => {
                 let answer = effbd::take(&net, &mut follower, taken, STATION, bytes);
@@ -366,6 +385,11 @@ fn call_list(random: &mut Random) -> Verdict {
     let history = model::history::history(&file, STATION, &calls)
         .map_err(|refusal| format!("{refusal:?}"))?;
     equal("accepted and taken, call by call", &history.counted, &seen)?;
+    equal(
+        "the areas of the offers",
+        &areas_due(&calls, &history),
+        &areas,
+    )?;
     equal("the leader's last state", &history.last().to_vec(), &leader)?;
     equal("the leader's count", &history.added(), &sent)?;
     equal("the follower's count", &history.taken, &taken)?;

@@ -1,7 +1,7 @@
 //! The proved functions against the plain model, through the static library.
 //!
-//! Every case makes one call of both on the same input, with guard elements round all memory that is lent to the proved one, and asks that
-//! the answers, the lent memory afterwards and the guards are the same.
+//! A case makes calls of both on the same input and asks that the answers and the lent memory afterwards are the same. Single calls lend the
+//! proved one its memory between guard elements, which have to stay as they are.
 
 pub mod cases;
 pub mod guard;

@@ -1,4 +1,4 @@
--- A net file and its table: reading the bytes of a table gives it back; an accepted file is the bytes of its table.
+-- A net file and its net: reading the bytes of a net gives it back; an accepted file is the bytes of its net.
 use Prim.Native.Nat.{ℕ, zero, suc, _-_, _≤_, _<_}
 use mathlib.Core.Path.{_≡_, refl, sym, _∙_, ap, ap₂, subst}
 use mathlib.Core.Bool.{Bool, true, false, cond, _&&_}
@@ -144,7 +144,7 @@ read-at : (l ms r : List ℕ) (P T : ℕ) (t : Tail) → netHeadFault l ≡ 0 �
 unfolding readNet afterPlaces
 read-at l ms r P T t c p q m e = rw (c, p, m, q, p, e)
 
--- THEOREM: reading the bytes of a well-formed table gives it back
+-- THEOREM: reading the bytes of a well-formed net gives it back
 pub read-back : (n : Net) → wellFormed n ≡ true → readNet (netBytes n) ≡ accepted n
 unfolding netBytes wellFormed Reads
 read-back n h = read-at l (n .marks) (transitionBytes (n .transitions)) P (length (n .transitions)) (record { arcs = []; transitions = n .transitions })
@@ -355,7 +355,7 @@ no-arcs P (x ∷ xs) e =
     let b = leb-true (x .kind) 37 (and-right (leb 38 (x .kind)) (leb (x .kind) 37) d) in
     absurd (omega arith)
 
--- THEOREM: an accepted net file is the bytes of the table that it reads to, which is well-formed
+-- THEOREM: an accepted net file is the bytes of the net that it reads to, which is well-formed
 pub net-back : (l : List ℕ) (n : Net) → areBytes l ≡ true → readNet l ≡ accepted n → NetBack l n
 unfolding readNet netBytes wellFormed afterPlaces netHeadFault lengthOf entryIn kindTable arcBytes
 net-back l n b e =

@@ -1,4 +1,4 @@
--- The table of an accepted diagram's net is well-formed.
+-- The net of an accepted diagram is well-formed.
 use Prim.Native.Nat.{ℕ, zero, suc, _*_, _≤_, _<_, zero-le}
 use mathlib.Core.Path.{_≡_, refl, sym, _∙_, ap, subst}
 use mathlib.Core.Bool.{Bool, true, false, cond, _&&_}
@@ -200,7 +200,7 @@ module _ (d : Diagram) (h : Held d) where
   fresh-small = at-small (oneAt (entryRow d 0)) none (λ q. cond (isKind d it-open q) (row d q .first) 0) (λ k. getD (d .items) k 0)
       (unit-small (entryRow d 0)) nil (λ q. cond-small (isKind d it-open q) (row d q .first) (h .each q .first)) (h .stocks)
 
-  -- THEOREM: the table of an accepted diagram's net is well-formed
+  -- THEOREM: the net of an accepted diagram is well-formed
   pub well-made : wellFormed (netOf d) ≡ true
   unfolding wellFormed
   well-made = rw (many-marks d) (and-intro (and-intro (le-leb 1 (places d) (let a = h .some in omega arith)) (and-intro (le-leb (places d) 208 (let a = h .rows in let b = h .items in omega arith))

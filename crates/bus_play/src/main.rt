@@ -1,6 +1,6 @@
 // Plays a list of calls on example A, its first call, its first two and so on, and prints both ends after each: moves sent, moves taken,
 // the words of the leader's state and of the follower's. Standard input is the diagram's file and the list: offers that are accepted or
-// refused, telegrams handed over once, twice, too early, late, of another station, and bytes that are no telegram.
+// refused, telegrams handed over once, twice, too early, late, of another station, one that is lost, and bytes that are no telegram.
 
 // Writes a byte, where there is room; answers the next place.
 fn put(text: &mut [u8], at: usize, byte: u8) -> usize {

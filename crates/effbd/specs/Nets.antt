@@ -51,7 +51,7 @@ markBytes (m ∷ ms) = wordBytes 6 ++ (wordBytes 33 ++ (wordBytes m ++ markBytes
 unfoldable pub netBytes : Net → List ℕ
 netBytes n = wordBytes 8 ++ (wordBytes 32 ++ (wordBytes (length (n .marks)) ++ (wordBytes (length (n .transitions)) ++ (markBytes (n .marks) ++ transitionBytes (n .transitions)))))
 
--- "The net's limits: places (1 to 208), transitions (0 to 128), label below 64"
+-- the net's limits: "places (1 to 208), transitions (0 to 128)", "label below 64"
 abbrev pub mostPlaces : ℕ
 mostPlaces = 208
 

@@ -1,4 +1,4 @@
--- The table of examples holds: computed.
+-- The table of examples holds, and so does the list of calls: computed.
 use mathlib.Core.Path.{_≡_, refl}
 use mathlib.Core.Bool.{true}
 use native.Mathlib.Omega.{arith}
