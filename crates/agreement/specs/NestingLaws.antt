@@ -2,7 +2,7 @@
 use Prim.Native.Nat.{ℕ, zero, suc, _+_, _-_, _≤_, _<_}
 use mathlib.Core.Path.{_≡_, refl, sym, _∙_, ap, subst}
 use mathlib.Core.Logic.{_≢_, _⊎_, inl, inr}
-use mathlib.Core.Bool.{Bool, true, false, _&&_, _||_}
+use mathlib.Core.Bool.{Bool, true, false, not, _&&_, _||_}
 use mathlib.Core.List.{List, [], _∷_}
 use native.Mathlib.Omega.{arith}
 use native.Mathlib.Nat.{add-zero, add-suc}
@@ -46,7 +46,7 @@ module _ (d : Diagram) where
     rule = all-elim (rowCount d) (λ q. mayStand d (kind d q) q (stack d q))
         (and-left (allBelow (rowCount d) (λ q. mayStand d (kind d q) q (stack d q))) (ltb 0 (rowCount d) && isKind d end (rowCount d - 1)) acc)
 
-    ruled : (q : ℕ) (k : Kind) → kind d q ≡ k → sameKind k end ≡ false → mayStand d k q (stack d q) ≡ true
+    pub ruled : (q : ℕ) (k : Kind) → kind d q ≡ k → sameKind k end ≡ false → mayStand d k q (stack d q) ≡ true
     ruled q k e n = subst (λ j. mayStand d j q (stack d q) ≡ true) e (rule q (kind-in d q (not-kind d q e end n)))
 
     pushed : (q : ℕ) (fs : List Frame) → fs ≡ stack d q → opens d q ≡ true → (isKind d and-open q ≡ true → kind d (suc q) ≡ branch) → Good q fs
@@ -105,7 +105,7 @@ module _ (d : Diagram) where
     good (suc q) = passed (kind d q) q (stack d q) refl refl (good q)
 
     -- membership
-    has : ℕ → List Frame → Bool
+    unfoldable pub has : ℕ → List Frame → Bool
     has X [] = false
     has X (f ∷ fs) = only X (f .opened) || has X fs
 
@@ -116,7 +116,7 @@ module _ (d : Diagram) where
         (λ e. rw (← eqb-true (f .opened) X e) (g .0 .below))
         (λ n e. let l = has-below (f .opened) X fs (g .1) e in let b : f .opened < q = g .0 .below in omega arith)
 
-    absent : (q X : ℕ) → q ≤ X → has X (stack d q) ≡ false
+    pub absent : (q X : ℕ) → q ≤ X → has X (stack d q) ≡ false
     absent q X l = decide (has X (stack d q)) (λ e. let b = has-below q X (stack d q) (good q) e in absurd (omega arith)) (λ e. e)
 
     side-absent : (X : ℕ) (fs : List Frame) → has X fs ≡ false → sideIn d X fs ≡ 0
@@ -148,14 +148,17 @@ module _ (d : Diagram) where
       pub here : stack d q ≡ frame ∷ rest
       pub ok : Ok q frame rest
 
-    top : (q : ℕ) → noneOpen d (stack d q) ≡ false → Top q
-    top q h = go (stack d q) refl h (good q)
+    pub top-by : (q : ℕ) (T : List Frame → Bool) → T [] ≡ false → T (stack d q) ≡ true → Top q
+    top-by q T n h = go (stack d q) refl h (good q)
       where
-        go : (fs : List Frame) → stack d q ≡ fs → noneOpen d fs ≡ false → Good q fs → Top q
-        go [] e n g = clash refl n
-        go (f ∷ fs) e n g = record { frame = f; rest = fs; here = e; ok = g .0 }
+        go : (fs : List Frame) → stack d q ≡ fs → T fs ≡ true → Good q fs → Top q
+        go [] e t g = clash t n
+        go (f ∷ fs) e t g = record { frame = f; rest = fs; here = e; ok = g .0 }
 
-    owner-top : (q : ℕ) (t : Top q) → owner d q ≡ t .frame .opened
+    top : (q : ℕ) → noneOpen d (stack d q) ≡ false → Top q
+    top q h = top-by q (λ fs. not (noneOpen d fs)) refl (rw h)
+
+    pub owner-top : (q : ℕ) (t : Top q) → owner d q ≡ t .frame .opened
     unfolding owner
     owner-top q t = rw (t .here)
 
@@ -279,7 +282,7 @@ module _ (d : Diagram) where
         (λ e. let w = lostAs (kind d (q + n)) o (q + n) (stack d (q + n)) e (rw add-suc at g) in (q + n, omega arith, w .0, w .1))
         (λ e. let w = lost o q n h e in let l : w .0 < q + n = w .1 in (w .0, omega arith, w .2, w .3))
 
-    gone : (o q n : ℕ) → has o (stack d q) ≡ false → o < q → has o (stack d (q + n)) ≡ false
+    pub gone : (o q n : ℕ) → has o (stack d q) ≡ false → o < q → has o (stack d (q + n)) ≡ false
     unfolding stack
     gone o q zero h l = rw add-zero h
     gone o q (suc n) h l = rw add-suc (gainedAs (kind d (q + n)) o (q + n) (stack d (q + n)) (gone o q n h l) (omega arith))
