@@ -76,7 +76,6 @@ pub record Held (d : Diagram) : Type 0 where
   pub rows : rowCount d ≤ 64
   pub items : countTotal d ≤ 16
   pub acc : wellNested d ≡ true
-  pub shallow : (q : ℕ) → q < rowCount d → thirteenthOpen d q ≡ false
   pub each : (q : ℕ) → RowOk (countTotal d) (row d q)
   pub stocks : (k : ℕ) → getD (d .items) k 0 ≤ 65535
 
@@ -92,7 +91,6 @@ module _ (d : Diagram) where
     pub stand : standsAs d (kind d q) q (stack d q) ≡ true
     pub ends : (not (eqb (suc q) (rowCount d)) || isKind d end q) ≡ true
     pub exits : exitMisplaced d q ≡ false
-    pub depth : thirteenthOpen d q ≡ false
 
   stands : (q : ℕ) → nestingFault d q ≡ 0 → Stands q
   unfolding nestingFault nestingBroken
@@ -105,7 +103,6 @@ module _ (d : Diagram) where
         stand = and-left (standsAs d (kind d q) q (stack d q)) _ b;
         ends = and-right (standsAs d (kind d q) q (stack d q)) _ b;
         exits = z .1;
-        depth = z .2;
       }
 
   module _ (all : (q : ℕ) → q < rowCount d → Stands q) where
@@ -193,7 +190,6 @@ held file d b e =
           rows = rw n (leb-true (word file 6) 64 (and-left (leb (word file 6) 64) _ (and-right (leb 1 (word file 6)) _ f)));
           items = rw m (leb-true (word file 8) 16 (and-right (leb (word file 6) 64) _ (and-right (leb 1 (word file 6)) _ f)));
           acc = nested-accepted d′ (λ q l. stands d′ q (z .1 q l)) (rw n (leb-true 1 (word file 6) (and-left (leb 1 (word file 6)) _ f)));
-          shallow = λ q l. stands d′ q (z .1 q l) .depth;
           each = λ q. subst (λ M. RowOk M (row d′ q)) (sym m) (all-at (RowOk (word file 8)) rows (plain end) r (plain-ok (word file 8)) q);
           stocks = λ k. all-at (λ (x : ℕ). x ≤ 65535) items 0 i zero-le k;
         })
