@@ -7,4 +7,3 @@ pub mod Walks
 pub mod Accepted
 pub mod Standing
 pub mod Places
-pub mod Offsets

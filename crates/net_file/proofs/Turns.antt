@@ -76,9 +76,6 @@ right-arc count due rest h =
     (eqb-true (lengthAt rest) (lengthOf 35) (and-left (eqb (lengthAt rest) (lengthOf 35)) _ t) ∙ arc-length 35 (record { least = omega arith; most = omega arith }))
     (and-right (eqb (lengthAt rest) (lengthOf 35)) _ t)
 
-less-one : (n : ℕ) → eqb n 0 ≡ false → n ≡ suc (n - 1)
-less-one n h = let z = eqb-false n 0 h in omega (arith, z)
-
 module _ (count total : ℕ) where
   -- the fault that each way gives
   pub fault-place : (due : Due) (rest : List ℕ) → eqb (due .places) 0 ≡ false → faultIn count due rest ≡ markFault rest

@@ -105,9 +105,6 @@ module _ (count : ℕ) where
     pub fit : s ≡ Fit → allBelow count (λ p. not (f p)) ≡ true
     pub over : (p : ℕ) → s ≡ Over p → (allBelow count (λ q. not (f q)) ≡ false) × (least count f ≡ p)
 
-  not-high : (xs : List Arc) (marks : List ℕ) (p : ℕ) → getD marks p 0 + weightAt giveArc xs p ≤ 65535 → high xs marks p ≡ false
-  not-high xs marks p l = rw (le-leb (getD marks p 0 + weightAt giveArc xs p) mostWord l)
-
   sums-step : (f g : ℕ → Bool) (s : Sums) → ((p : ℕ) → p < count → f p ≡ g p) → SumsAre g s → SumsAre f s
   sums-step f g s h r = record {
     fit = λ e. all-same count (λ p. not (f p)) (λ p. not (g p)) (λ p l. ap not (h p l)) ∙ r .fit e;
