@@ -2,7 +2,7 @@
 use Prim.Native.Nat.{ℕ, zero, suc, _+_, _-_, _*_, _≤_, _<_}
 use mathlib.Core.Path.{_≡_, refl, sym, _∙_, ap, ap₂, subst, fun-ext}
 use mathlib.Core.Bool.{Bool, true, false, _&&_}
-use mathlib.Core.List.{List, [], _∷_, _++_}
+use mathlib.Core.List.{List, [], _∷_}
 use native.Mathlib.Omega.{arith}
 use lib.ListN.{length, drop, length-drop}
 use lib.Seq.{drop-drop}
@@ -11,13 +11,12 @@ use borrow.Author.Tests.{leb-true, eqb-true, eqb-false, le-leb}
 use Rattle.words.proofs.Tests.{decide, and-left, and-right, and-both}
 use Rattle.effbd.specs.Ranges.{tabulate}
 use Rattle.effbd.specs.Answers.{Outcome, accepted, refused}
-use Rattle.effbd.specs.Records.{word, wordBytes, areBytes, lengthAt, kindAt, lengthOf, kindTable, entryIn, Got, readMany}
-use Rattle.effbd.specs.Nets.{Arc, Transition, Net, arcBytes, transitionBytes, markBytes, netBytes, takeArc, arcDue, above, arcAt, transitionFine, transitionAt, markAt, markFault, netHeadFault, Tail, noTail, withArc, withTransition, arcFault, transitionFault, readTail, netWith, afterPlaces, readNet}
+use Rattle.effbd.specs.Records.{word, lengthAt, kindAt, lengthOf, kindTable, entryIn, Got, readMany}
+use Rattle.effbd.specs.Nets.{Arc, Transition, Net, takeArc, arcDue, above, arcAt, transitionFine, transitionAt, markAt, markFault, netHeadFault, Tail, noTail, withArc, withTransition, arcFault, transitionFault, readTail, netWith, afterPlaces, readNet}
 use Rattle.effbd.specs.Firing.{netWordCount}
 use Rattle.net_file.specs.Due.{arcNext}
 use Rattle.net_file.specs.Contents.{arcHere, arcsIn, pastArcs, transitionIn, afterTransition, transitionsIn, behindPlaces, arcsFine, transitionsFine}
 use Rattle.net_file.proofs.Lists.{length-tabulate}
-use Rattle.net_file.proofs.Bytes.{bytes-drop, word-at}
 use Rattle.agreement.specs.ByteLaws.{none-clean, never}
 use Rattle.net_file.proofs.Records.{unless-inv, then-inv, adding-inv}
 use Rattle.net_file.proofs.Tails.{ArcRead, arc-read, TransitionRead, transition-read, tail-arc, tail-end, tail-over, tail-transition}
@@ -42,20 +41,16 @@ pub record TailRead (count k from label more : ℕ) (rest : List ℕ) (t : Tail)
   pub transitions : t .transitions ≡ transitionsIn more (pastArcs rest)
   pub rising : arcsFine count k from (t .arcs) ≡ true
   pub fine : transitionsFine count label (t .transitions) ≡ true
-  pub bytes : areBytes rest ≡ true → arcBytes (t .arcs) ++ transitionBytes (t .transitions) ≡ rest
 
 module _ (count total : ℕ) where
   read-arc : (k from label more : ℕ) (rest : List ℕ) (u : Tail) → ArcRead count total k from rest → TailRead count (kindAt rest) (above (arcAt rest)) label more (drop 8 rest) u
       → TailRead count k from label more rest (record { arcs = arcAt rest ∷ u .arcs; transitions = u .transitions })
-  unfolding arcHere arcDue arcsFine arcBytes
+  unfolding arcHere arcDue arcsFine
   read-arc k from label more rest u r ih = record {
     arcs = ap (λ (xs : List Arc). arcAt rest ∷ xs) (ih .arcs) ∙ sym (arcs-more rest here);
     transitions = ih .transitions ∙ ap (transitionsIn more) (sym (past-more rest here));
     rising = and-both (and-both (le-leb k (kindAt rest) (r .rising)) (le-leb (kindAt rest) 37 (r .kinds .most))) (and-both (r .fine) (ih .rising));
     fine = ih .fine;
-    bytes = λ b. ap (λ (l : List ℕ). wordBytes 8 ++ (wordBytes (word rest 2) ++ (wordBytes (word rest 4) ++ (wordBytes (word rest 6) ++ l)))) (ih .bytes (bytes-drop 8 rest b))
-        ∙ (ap (λ (x : ℕ). wordBytes x ++ (wordBytes (word rest 2) ++ (wordBytes (word rest 4) ++ (wordBytes (word rest 6) ++ drop 8 rest)))) (sym (r .eight))
-        ∙ (let n = r .whole in rw (word-at rest 6 (omega arith) b, word-at rest 4 (omega arith) b, word-at rest 2 (omega arith) b) (word-at rest 0 (omega arith) b)));
   }
     where
       here : arcHere rest ≡ true
@@ -71,25 +66,18 @@ module _ (count total : ℕ) where
 
   read-transition : (k from label more : ℕ) (rest : List ℕ) (u : Tail) → TransitionRead count total label rest → TailRead count takeArc 0 (word rest 4) more (drop 10 rest) u
       → TailRead count k from label (suc more) rest (record { arcs = []; transitions = whole (transitionAt rest) u ∷ u .transitions })
-  unfolding arcsFine transitionsFine transitionsIn transitionIn afterTransition transitionFine arcBytes transitionBytes
+  unfolding arcsFine transitionsFine transitionsIn transitionIn afterTransition transitionFine
   read-transition k from label more rest u r ih = record {
     arcs = sym (arcs-done rest (no-arc rest (r .kind)));
     transitions = rw (past-done rest (no-arc rest (r .kind)), ih .arcs, ih .transitions);
     rising = refl;
     fine = and-both (r .fine) (and-both (ih .rising) (ih .fine));
-    bytes = λ b. ap (λ (l : List ℕ). wordBytes 10 ++ (wordBytes 34 ++ (wordBytes (word rest 4) ++ (wordBytes (word rest 6) ++ (wordBytes (word rest 8) ++ l))))) (ih .bytes (bytes-drop 10 rest b))
-        ∙ (ap₂ (λ (x y : ℕ). wordBytes x ++ (wordBytes y ++ (wordBytes (word rest 4) ++ (wordBytes (word rest 6) ++ (wordBytes (word rest 8) ++ drop 10 rest))))) (sym (r .ten)) (sym (r .kind))
-        ∙ (let n = r .whole in rw (word-at rest 8 (omega arith) b, word-at rest 6 (omega arith) b, word-at rest 4 (omega arith) b, word-at rest 2 (omega arith) b) (word-at rest 0 (omega arith) b)));
   }
 
-  empty : (rest : List ℕ) → length rest ≡ 0 → rest ≡ []
-  empty [] e = refl
-  empty (x ∷ rest) e = absurd (omega arith)
-
   read-end : (k from label : ℕ) (rest : List ℕ) (t : Tail) → length rest ≡ 0 → accepted noTail ≡ accepted t → TailRead count k from label 0 rest t
-  unfolding arcsFine transitionsFine transitionsIn arcHere arcBytes transitionBytes
+  unfolding arcsFine transitionsFine transitionsIn arcHere
   read-end k from label rest t e z = subst (TailRead count k from label 0 rest) (let y : noTail ≡ t = cc in y)
-      (record { arcs = sym (arcs-done rest (rw e)); transitions = refl; rising = refl; fine = refl; bytes = λ b. sym (empty rest e) })
+      (record { arcs = sym (arcs-done rest (rw e)); transitions = refl; rising = refl; fine = refl })
 
   pub tail-read : (fuel more k from label : ℕ) (rest : List ℕ) (t : Tail) → 35 ≤ k → length rest < fuel
       → readTail count total fuel more k from label rest ≡ accepted t → TailRead count k from label more rest t
@@ -121,11 +109,10 @@ module _ (count total : ℕ) where
 pub record MarksRead (n : ℕ) (rest : List ℕ) (got : Got (List ℕ)) : Type 0 where
   pub marks : got .value ≡ tabulate n (λ i. word (drop (6 * i) rest) 4)
   pub left : got .rest ≡ drop (6 * n) rest
-  pub bytes : areBytes rest ≡ true → markBytes (got .value) ++ got .rest ≡ rest
 
 pub marks-read : (n total : ℕ) (rest : List ℕ) (got : Got (List ℕ)) → readMany markFault markAt total n rest ≡ accepted got → MarksRead n rest got
-unfolding readMany markBytes
-marks-read zero total rest got e = subst (MarksRead zero rest) (let y : record { value = []; rest = rest } ≡ got = cc in y) (record { marks = refl; left = refl; bytes = λ b. refl })
+unfolding readMany
+marks-read zero total rest got e = subst (MarksRead zero rest) (let y : record { value = []; rest = rest } ≡ got = cc in y) (record { marks = refl; left = refl })
 marks-read (suc n) total rest got e =
     let u = unless-inv (markFault rest) (total - length rest) _ got e in
     let w = adding-inv (markAt rest) _ got (u .1) in
@@ -137,9 +124,6 @@ marks-read (suc n) total rest got e =
     (record {
       marks = ap (λ (l : List ℕ). markAt rest ∷ l) (m .marks ∙ rw six (later n rest));
       left = m .left ∙ rw (six, drop-drop (6 * n) 6 rest, z);
-      bytes = λ b. ap (λ (l : List ℕ). wordBytes 6 ++ (wordBytes 33 ++ (wordBytes (word rest 4) ++ l))) (m .bytes (bytes-drop (lengthAt rest) rest b))
-          ∙ (rw six (ap₂ (λ (x y : ℕ). wordBytes x ++ (wordBytes y ++ (wordBytes (word rest 4) ++ drop 6 rest))) (sym six) (sym (p .kind))
-          ∙ (let w = p .whole in rw (word-at rest 4 (omega arith) b, word-at rest 2 (omega arith) b) (word-at rest 0 (omega arith) b))));
     })
   where
     later : (n : ℕ) (rest : List ℕ) → tabulate n (λ i. word (drop (6 * i) (drop 6 rest)) 4) ≡ tabulate n (λ i. word (drop (6 * suc i) rest) 4)
@@ -166,9 +150,6 @@ net-with-inv marks (refused x v) n e = never e
 -- what a file's head says
 pub record HeadRead (file : List ℕ) : Type 0 where
   pub long : 8 ≤ length file
-  pub eight : lengthAt file ≡ 8
-  pub kind : kindAt file ≡ 32
-  pub some : 1 ≤ word file 4
   pub places : word file 4 ≤ 208
   pub transitions : word file 6 ≤ 128
 
@@ -181,9 +162,6 @@ head-read file e =
     let f = and-right (leb 1 (word file 4)) (leb (word file 4) 208 && leb (word file 6) 128) (c .isFine) in
     record {
       long = omega arith;
-      eight = s;
-      kind = eqb-true (kindAt file) 32 (c .isDue);
-      some = leb-true 1 (word file 4) (and-left (leb 1 (word file 4)) (leb (word file 4) 208 && leb (word file 6) 128) (c .isFine));
       places = leb-true (word file 4) 208 (and-left (leb (word file 4) 208) (leb (word file 6) 128) f);
       transitions = leb-true (word file 6) 128 (and-right (leb (word file 4) 208) (leb (word file 6) 128) f);
     }
@@ -194,11 +172,10 @@ pub record NetRead (file : List ℕ) (n : Net) : Type 0 where
   pub marks : n .marks ≡ tabulate (word file 4) (λ i. word (drop (6 * i) (drop 8 file)) 4)
   pub transitions : n .transitions ≡ transitionsIn (word file 6) (behindPlaces (word file 4) file)
   pub fine : transitionsFine (word file 4) 0 (n .transitions) ≡ true
-  pub bytes : areBytes file ≡ true → netBytes n ≡ file
 
--- THEOREM: the net of an accepted file is what its bytes say, and well-formed; the file is the net's bytes
+-- THEOREM: the net of an accepted file is what its bytes say, and well-formed
 pub net-read : (file : List ℕ) (n : Net) → readNet file ≡ accepted n → NetRead file n
-unfolding readNet afterPlaces behindPlaces netBytes arcBytes
+unfolding readNet afterPlaces behindPlaces
 net-read file n e =
     let u = unless-inv (netHeadFault file) 0 _ n e in
     let g = then-inv (readMany markFault markAt (length file) (word file 4) (drop 8 file)) (afterPlaces file) n (u .1) in
@@ -207,25 +184,14 @@ net-read file n e =
     let t = tail-read (word file 4) (length file) (suc (length (g .0 .rest))) (word file 6) 38 0 0 (g .0 .rest) (w .0) (omega arith) (omega arith) (w .1) in
     let none = no-arcs (word file 4) (w .0 .arcs) (t .rising) in
     let p = past-none (g .0 .rest) (sym (t .arcs) ∙ none) in
-    let h = head-read file (u .0) in
     let z : w .0 .transitions ≡ transitionsIn (word file 6) (behindPlaces (word file 4) file) = t .transitions ∙ ap (transitionsIn (word file 6)) (p ∙ (m .left ∙ drop-drop (6 * word file 4) 8 file)) in
     subst (NetRead file) (w .2)
     (record {
-      head = h;
+      head = head-read file (u .0);
       marks = m .marks;
       transitions = z;
       fine = t .fine;
-      bytes = λ b. whole-file (g .0 .value) (w .0 .transitions) (g .0 .rest) h b
-          (ap length (m .marks) ∙ length-tabulate (word file 4) _) (ap length z ∙ length-transitions (word file 6) (behindPlaces (word file 4) file))
-          (m .bytes (bytes-drop 8 file b))
-          (ap (λ (xs : List Arc). arcBytes xs ++ transitionBytes (w .0 .transitions)) (sym none) ∙ t .bytes (rw (m .left) (bytes-drop (6 * word file 4) (drop 8 file) (bytes-drop 8 file b))));
     })
-  where
-    whole-file : (ms : List ℕ) (ts : List Transition) (rest : List ℕ) → HeadRead file → areBytes file ≡ true → length ms ≡ word file 4 → length ts ≡ word file 6
-        → markBytes ms ++ rest ≡ drop 8 file → transitionBytes ts ≡ rest → netBytes (record { marks = ms; transitions = ts }) ≡ file
-    whole-file ms ts rest h b lm lt em et = rw (lm, lt, et, em)
-        (ap₂ (λ (x y : ℕ). wordBytes x ++ (wordBytes y ++ (wordBytes (word file 4) ++ (wordBytes (word file 6) ++ drop 8 file)))) (sym (h .eight)) (sym (h .kind))
-        ∙ (let l = h .long in rw (word-at file 6 (omega arith) b, word-at file 4 (omega arith) b, word-at file 2 (omega arith) b) (word-at file 0 (omega arith) b)))
 
 -- how many places and transitions an accepted net has, and words its state
 pub place-count : (file : List ℕ) (n : Net) → NetRead file n → length (n .marks) ≡ word file 4

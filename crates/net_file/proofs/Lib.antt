@@ -1,5 +1,4 @@
 pub mod Lists
-pub mod Bytes
 pub mod Records
 pub mod Tails
 pub mod Turns
