@@ -17,8 +17,7 @@ use Rattle.effbd.specs.Firing.{netWordCount}
 use Rattle.net_file.specs.Due.{arcNext}
 use Rattle.net_file.specs.Contents.{arcHere, arcsIn, pastArcs, transitionIn, afterTransition, transitionsIn, behindPlaces, arcsFine, transitionsFine}
 use Rattle.net_file.proofs.Lists.{length-tabulate}
-use Rattle.agreement.specs.ByteLaws.{none-clean, never}
-use Rattle.net_file.proofs.Records.{unless-inv, then-inv, adding-inv}
+use Rattle.agreement.specs.ByteLaws.{none-clean, never, next-inv, bind-inv, adding-inv}
 use Rattle.net_file.proofs.Tails.{ArcRead, arc-read, TransitionRead, transition-read, tail-arc, tail-end, tail-over, tail-transition}
 use Rattle.net_file.proofs.Turns.{place-read}
 use Rattle.net_file.proofs.Walks.{arcs-more, arcs-done, past-more, past-done, length-transitions}
@@ -84,7 +83,7 @@ module _ (count total : ℕ) where
   tail-read zero more k from label rest t h l e = absurd (omega arith)
   tail-read (suc fuel) more k from label rest t h l e = decide (arcNext k rest)
       (λ a.
-      let u = unless-inv (arcFault count total k from rest) (total - length rest) _ t (sym (tail-arc count total fuel more k from label rest a) ∙ e) in
+      let u = next-inv (arcFault count total k from rest) (total - length rest) _ t (sym (tail-arc count total fuel more k from label rest a) ∙ e) in
       let r = arc-read count total k from rest h a (u .0) in
       let w = with-arc-inv (arcAt rest) _ t (u .1) in
       let n = r .whole in
@@ -99,7 +98,7 @@ module _ (count total : ℕ) where
           (λ z. let q = eqb-true (length rest) 0 z in read-end k from label rest t q (sym (tail-end count total fuel k from label rest q) ∙ e))
           (λ z. never (sym (tail-over count total fuel k from label rest (eqb-false (length rest) 0 z) a) ∙ e))
       go (suc n) a e ih =
-          let u = unless-inv (transitionFault count total label rest) (total - length rest) _ t (sym (tail-transition count total fuel n k from label rest a) ∙ e) in
+          let u = next-inv (transitionFault count total label rest) (total - length rest) _ t (sym (tail-transition count total fuel n k from label rest a) ∙ e) in
           let r = transition-read count total label rest (u .0) in
           let w = with-transition-inv (transitionAt rest) _ t (u .1) in
           let m = r .whole in
@@ -114,7 +113,7 @@ pub marks-read : (n total : ℕ) (rest : List ℕ) (got : Got (List ℕ)) → re
 unfolding readMany
 marks-read zero total rest got e = subst (MarksRead zero rest) (let y : record { value = []; rest = rest } ≡ got = cc in y) (record { marks = refl; left = refl })
 marks-read (suc n) total rest got e =
-    let u = unless-inv (markFault rest) (total - length rest) _ got e in
+    let u = next-inv (markFault rest) (total - length rest) _ got e in
     let w = adding-inv (markAt rest) _ got (u .1) in
     let p = place-read rest (u .0) in
     let six = p .six in
@@ -177,8 +176,8 @@ pub record NetRead (file : List ℕ) (n : Net) : Type 0 where
 pub net-read : (file : List ℕ) (n : Net) → readNet file ≡ accepted n → NetRead file n
 unfolding readNet afterPlaces behindPlaces
 net-read file n e =
-    let u = unless-inv (netHeadFault file) 0 _ n e in
-    let g = then-inv (readMany markFault markAt (length file) (word file 4) (drop 8 file)) (afterPlaces file) n (u .1) in
+    let u = next-inv (netHeadFault file) 0 _ n e in
+    let g = bind-inv (readMany markFault markAt (length file) (word file 4) (drop 8 file)) (afterPlaces file) n (u .1) in
     let w = net-with-inv (g .0 .value) _ n (g .2) in
     let m = marks-read (word file 4) (length file) (drop 8 file) (g .0) (g .1) in
     let t = tail-read (word file 4) (length file) (suc (length (g .0 .rest))) (word file 6) 38 0 0 (g .0 .rest) (w .0) (omega arith) (omega arith) (w .1) in

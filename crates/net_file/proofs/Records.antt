@@ -1,8 +1,7 @@
--- What a record without fault is; how outcomes follow one another.
+-- How outcomes follow one another.
 use Prim.Native.Nat.{ℕ, zero, suc}
 use mathlib.Core.Path.{_≡_, refl}
-use mathlib.Core.List.{List, _∷_}
-use Rattle.agreement.specs.ByteLaws.{never}
+use mathlib.Core.List.{List}
 use Rattle.effbd.specs.Answers.{Outcome, accepted, refused, unless, andThen}
 use Rattle.effbd.specs.Records.{Got, adding}
 
@@ -13,19 +12,6 @@ unless-none f v on e = rw e
 pub unless-some : {A : Type 0} (f v : ℕ) (on : Outcome A) → (f ≡ 0 → ⊥) → unless f v on ≡ refused f v
 unless-some zero v on h = absurd (h refl)
 unless-some (suc f) v on h = refl
-
-pub unless-inv : {A : Type 0} (f v : ℕ) (on : Outcome A) (x : A) → unless f v on ≡ accepted x → (f ≡ 0) × (on ≡ accepted x)
-unless-inv zero v on x e = (refl, e)
-unless-inv (suc f) v on x e = never e
-
-pub then-inv : {A B : Type 0} (o : Outcome A) (f : A → Outcome B) (y : B) → andThen o f ≡ accepted y → (x : A) × (o ≡ accepted x) × (f x ≡ accepted y)
-then-inv (accepted x) f y e = (x, refl, e)
-then-inv (refused n v) f y e = never e
-
-pub adding-inv : {A : Type 0} (a : A) (o : Outcome (Got (List A))) (got : Got (List A)) → adding a o ≡ accepted got
-    → (g : Got (List A)) × (o ≡ accepted g) × (record { value = a ∷ g .value; rest = g .rest } ≡ got)
-adding-inv a (accepted g) got e = (g, refl, cc)
-adding-inv a (refused n v) got e = never e
 
 -- where there is no fault what follows counts, where there is one it does not
 pub unless-same : {A : Type 0} (f v : ℕ) (o p : Outcome A) → (f ≡ 0 → o ≡ p) → unless f v o ≡ unless f v p

@@ -17,8 +17,7 @@ use Rattle.effbd.specs.Nets.{Net, readNet}
 use Rattle.effbd.specs.Firing.{netWordCount, checkedNetMove, stepNet, freshNetWords, freshNet}
 use Rattle.net_file.specs.Due.{wordsOf}
 use Rattle.net_file.specs.Contents.{transitionsIn, behindPlaces, transitionsFine}
-use Rattle.agreement.specs.ByteLaws.{never}
-use Rattle.net_file.proofs.Records.{then-inv}
+use Rattle.agreement.specs.ByteLaws.{never, bind-inv}
 use Rattle.net_file.proofs.Lists.{tabulate-same}
 use Rattle.net_file.proofs.Accepted.{NetRead, net-read, place-count, transition-count, word-count}
 use Rattle.net_walk.proofs.Effects.{Words}
@@ -53,7 +52,7 @@ pub record Read (file : List ℕ) (size : ℕ) : Type 0 where
 pub read-of : (file : List ℕ) (size : ℕ) → accepted size ≡ wordsOf (readNet file) → Read file size
 unfolding wordsOf
 read-of file size e =
-    let i = then-inv (readNet file) (λ n. accepted (netWordCount n)) size (sym e) in
+    let i = bind-inv (readNet file) (λ n. accepted (netWordCount n)) size (sym e) in
     let r = net-read file (i .0) (i .1) in
     let c : netWordCount (i .0) ≡ size = same (i .2) in
     record { net = i .0; says = i .1; holds = r; counts = c; adds = sym c ∙ word-count file (i .0) r }
