@@ -10,29 +10,21 @@ use lib.Dec.{leb, eqb}
 use borrow.Author.Tests.{leb-true, eqb-true, eqb-false, le-leb}
 use Rattle.words.proofs.Tests.{decide, and-left, and-right, and-both}
 use Rattle.effbd.specs.Ranges.{tabulate}
-use Rattle.effbd.specs.Answers.{Outcome, accepted, refused}
+use Rattle.effbd.specs.Answers.{accepted}
 use Rattle.effbd.specs.Records.{word, lengthAt, kindAt, lengthOf, kindTable, entryIn, Got, readMany}
-use Rattle.effbd.specs.Nets.{Arc, Transition, Net, takeArc, arcDue, above, arcAt, transitionFine, transitionAt, markAt, markFault, netHeadFault, Tail, noTail, withArc, withTransition, arcFault, transitionFault, readTail, netWith, afterPlaces, readNet}
+use Rattle.effbd.specs.Nets.{Arc, Transition, Net, takeArc, arcDue, above, arcAt, transitionFine, transitionAt, markAt, markFault, netHeadFault, Tail, noTail, arcFault, transitionFault, readTail, afterPlaces, readNet}
 use Rattle.effbd.specs.Firing.{netWordCount}
 use Rattle.net_file.specs.Due.{arcNext}
 use Rattle.net_file.specs.Contents.{arcHere, arcsIn, pastArcs, transitionIn, afterTransition, transitionsIn, behindPlaces, arcsFine, transitionsFine}
 use Rattle.net_file.proofs.Lists.{length-tabulate}
 use Rattle.agreement.specs.ByteLaws.{none-clean, never, next-inv, bind-inv, adding-inv}
+use Rattle.agreement.specs.NetFiles.{withArc-inv, withTrans-inv, netWith-inv}
 use Rattle.net_file.proofs.Tails.{ArcRead, arc-read, TransitionRead, transition-read, tail-arc, tail-end, tail-over, tail-transition}
 use Rattle.net_file.proofs.Turns.{place-read}
 use Rattle.net_file.proofs.Walks.{arcs-more, arcs-done, past-more, past-done, length-transitions}
 
-with-arc-inv : (x : Arc) (o : Outcome Tail) (t : Tail) → withArc x o ≡ accepted t → (u : Tail) × (o ≡ accepted u) × (record { arcs = x ∷ u .arcs; transitions = u .transitions } ≡ t)
-with-arc-inv x (accepted u) t e = (u, refl, cc)
-with-arc-inv x (refused n v) t e = never e
-
 abbrev whole : Transition → Tail → Transition
 whole x u = record { label = x .label; earliest = x .earliest; latest = x .latest; arcs = u .arcs }
-
-with-transition-inv : (x : Transition) (o : Outcome Tail) (t : Tail) → withTransition x o ≡ accepted t
-    → (u : Tail) × (o ≡ accepted u) × (record { arcs = []; transitions = whole x u ∷ u .transitions } ≡ t)
-with-transition-inv x (accepted u) t e = (u, refl, cc)
-with-transition-inv x (refused n v) t e = never e
 
 -- what an accepted tail holds
 pub record TailRead (count k from label more : ℕ) (rest : List ℕ) (t : Tail) : Type 0 where
@@ -85,7 +77,7 @@ module _ (count total : ℕ) where
       (λ a.
       let u = next-inv (arcFault count total k from rest) (total - length rest) _ t (sym (tail-arc count total fuel more k from label rest a) ∙ e) in
       let r = arc-read count total k from rest h a (u .0) in
-      let w = with-arc-inv (arcAt rest) _ t (u .1) in
+      let w = withArc-inv (arcAt rest) _ t (u .1) in
       let n = r .whole in
       subst (TailRead count k from label more rest) (w .2)
       (read-arc k from label more rest (w .0) r (tail-read fuel more (kindAt rest) (above (arcAt rest)) label (drop 8 rest) (w .0) (r .kinds .least) (rw (length-drop 8 rest) (omega arith)) (w .1))))
@@ -100,7 +92,7 @@ module _ (count total : ℕ) where
       go (suc n) a e ih =
           let u = next-inv (transitionFault count total label rest) (total - length rest) _ t (sym (tail-transition count total fuel n k from label rest a) ∙ e) in
           let r = transition-read count total label rest (u .0) in
-          let w = with-transition-inv (transitionAt rest) _ t (u .1) in
+          let w = withTrans-inv (transitionAt rest) _ t (u .1) in
           let m = r .whole in
           subst (TailRead count k from label (suc n) rest) (w .2) (read-transition k from label n rest (w .0) r (ih n (w .0) (rw (length-drop 10 rest) (omega arith)) (w .1)))
 
@@ -142,10 +134,6 @@ past-none : (rest : List ℕ) → arcsIn rest ≡ [] → pastArcs rest ≡ rest
 unfolding pastArcs
 past-none rest e = rw e
 
-net-with-inv : (marks : List ℕ) (o : Outcome Tail) (n : Net) → netWith marks o ≡ accepted n → (u : Tail) × (o ≡ accepted u) × (record { marks = marks; transitions = u .transitions } ≡ n)
-net-with-inv marks (accepted u) n e = (u, refl, cc)
-net-with-inv marks (refused x v) n e = never e
-
 -- what a file's head says
 pub record HeadRead (file : List ℕ) : Type 0 where
   pub long : 8 ≤ length file
@@ -178,17 +166,16 @@ unfolding readNet afterPlaces behindPlaces
 net-read file n e =
     let u = next-inv (netHeadFault file) 0 _ n e in
     let g = bind-inv (readMany markFault markAt (length file) (word file 4) (drop 8 file)) (afterPlaces file) n (u .1) in
-    let w = net-with-inv (g .0 .value) _ n (g .2) in
+    let w = netWith-inv (g .0 .value) _ n (g .2) in
     let m = marks-read (word file 4) (length file) (drop 8 file) (g .0) (g .1) in
     let t = tail-read (word file 4) (length file) (suc (length (g .0 .rest))) (word file 6) 38 0 0 (g .0 .rest) (w .0) (omega arith) (omega arith) (w .1) in
     let none = no-arcs (word file 4) (w .0 .arcs) (t .rising) in
     let p = past-none (g .0 .rest) (sym (t .arcs) ∙ none) in
-    let z : w .0 .transitions ≡ transitionsIn (word file 6) (behindPlaces (word file 4) file) = t .transitions ∙ ap (transitionsIn (word file 6)) (p ∙ (m .left ∙ drop-drop (6 * word file 4) 8 file)) in
     subst (NetRead file) (w .2)
     (record {
       head = head-read file (u .0);
       marks = m .marks;
-      transitions = z;
+      transitions = t .transitions ∙ ap (transitionsIn (word file 6)) (p ∙ (m .left ∙ drop-drop (6 * word file 4) 8 file));
       fine = t .fine;
     })
 
