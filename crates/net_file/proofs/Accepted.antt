@@ -16,7 +16,7 @@ use Rattle.effbd.specs.Nets.{Arc, Transition, Net, takeArc, arcDue, above, arcA
 use Rattle.effbd.specs.Firing.{netWordCount}
 use Rattle.net_file.specs.Due.{arcNext}
 use Rattle.net_file.specs.Contents.{arcHere, arcsIn, pastArcs, transitionIn, afterTransition, transitionsIn, behindPlaces, arcsFine, transitionsFine}
-use Rattle.net_file.proofs.Lists.{length-tabulate}
+use Rattle.agreement.specs.Numbering.{length-tab}
 use Rattle.agreement.specs.ByteLaws.{none-clean, never, next-inv, bind-inv, adding-inv}
 use Rattle.agreement.specs.NetFiles.{withArc-inv, withTrans-inv, netWith-inv}
 use Rattle.net_file.proofs.Tails.{ArcRead, arc-read, TransitionRead, transition-read, tail-arc, tail-end, tail-over, tail-transition}
@@ -181,7 +181,7 @@ net-read file n e =
 
 -- how many places and transitions an accepted net has, and words its state
 pub place-count : (file : List ℕ) (n : Net) → NetRead file n → length (n .marks) ≡ word file 4
-place-count file n r = ap length (r .marks) ∙ length-tabulate (word file 4) _
+place-count file n r = ap length (r .marks) ∙ length-tab (word file 4) _
 
 pub transition-count : (file : List ℕ) (n : Net) → NetRead file n → length (n .transitions) ≡ word file 6
 transition-count file n r = ap length (r .transitions) ∙ length-transitions (word file 6) (behindPlaces (word file 4) file)

@@ -1,4 +1,3 @@
-pub mod Lists
 pub mod Records
 pub mod Tails
 pub mod Turns

@@ -17,8 +17,8 @@ use Rattle.effbd.specs.Nets.{Net, readNet}
 use Rattle.effbd.specs.Firing.{netWordCount, checkedNetMove, stepNet, freshNetWords, freshNet}
 use Rattle.net_file.specs.Due.{wordsOf}
 use Rattle.net_file.specs.Contents.{transitionsIn, behindPlaces, transitionsFine}
+use Rattle.agreement.specs.Numbering.{tab-ext}
 use Rattle.agreement.specs.ByteLaws.{never, bind-inv}
-use Rattle.net_file.proofs.Lists.{tabulate-same}
 use Rattle.net_file.proofs.Accepted.{NetRead, net-read, place-count, transition-count, word-count}
 use Rattle.net_walk.proofs.Effects.{Words}
 use Rattle.net_step.specs.Stepping.{movedWords, freshWord}
@@ -96,7 +96,7 @@ module _ (file words : List ℕ) (size : ℕ) (read : Read file size) where
 
 -- a fresh state
 tabulate-append : (a b : ℕ) (f g h : ℕ → ℕ) → ((i : ℕ) → i < a → f i ≡ h i) → ((i : ℕ) → i < b → g i ≡ h (a + i)) → tabulate a f ++ tabulate b g ≡ tabulate (a + b) h
-tabulate-append zero b f g h p q = tabulate-same b g h (λ i l. q i l ∙ ap h (zero-add i)) ∙ rw (zero-add b)
+tabulate-append zero b f g h p q = tab-ext b g h (λ i l. q i l ∙ ap h (zero-add i)) ∙ rw (zero-add b)
 tabulate-append (suc a) b f g h p q =
     let z : suc a + b ≡ suc (a + b) = omega arith in
     rw z (ap₂ (λ (x : ℕ) (l : List ℕ). x ∷ l) (p zero (omega arith))

@@ -15,7 +15,7 @@ use Rattle.effbd.specs.Moves.{step-row, wait-ticks, no-move, moveOf}
 use Rattle.effbd.specs.Nets.{Transition, takeArc, giveArc, transitionFine}
 use Rattle.effbd.specs.Firing.{Effect, noEffect, Behaviour, NetState, effectOf, covers, takenAndCleared, firedState, overflows, fire, fireLowest, letsPass, tickedState, netWait, netMove, netWordsOutcome}
 use Rattle.net_file.specs.Contents.{arcsFine, transitionsFine}
-use Rattle.net_file.proofs.Lists.{tabulate-same, all-same}
+use Rattle.agreement.specs.Numbering.{tab-ext, all-ext, getD-map}
 use Rattle.net_walk.specs.Walked.{covered, applied, reduced, sums, stands, lowest}
 use Rattle.net_walk.specs.declared.Sums.{Sums}
 use Rattle.net_walk.specs.declared.Sums.the-variants.{Fit, Over}
@@ -33,12 +33,12 @@ unfolding clocksBy
 clocks-from f x [] clocks none = refl
 clocks-from f x (t ∷ ts) clocks none = ap₂ (λ (a : ℕ) (l : List ℕ). a ∷ l)
     (let z : x ≡ x + 0 = omega arith in ap (λ (y : ℕ). f y t (getD clocks y 0)) z)
-    (clocks-from f (x + 1) ts clocks none ∙ tabulate-same (length ts) _ _ (λ i l. let z : x + 1 + i ≡ x + suc i = omega arith in ap (λ (y : ℕ). f y (getD ts i none) (getD clocks y 0)) z))
+    (clocks-from f (x + 1) ts clocks none ∙ tab-ext (length ts) _ _ (λ i l. let z : x + 1 + i ≡ x + suc i = omega arith in ap (λ (y : ℕ). f y (getD ts i none) (getD clocks y 0)) z))
 
 clocks-are : (f : ℕ → Transition → ℕ → ℕ) (ts : List Transition) (clocks : List ℕ) (none : Transition)
     → clocksBy f 0 ts clocks ≡ tabulate (length ts) (λ i. f i (getD ts i none) (getD clocks i 0))
 clocks-are f ts clocks none = clocks-from f 0 ts clocks none
-    ∙ tabulate-same (length ts) _ _ (λ i l. ap (λ (y : ℕ). f y (getD ts i none) (getD clocks y 0)) (zero-add i))
+    ∙ tab-ext (length ts) _ _ (λ i l. ap (λ (y : ℕ). f y (getD ts i none) (getD clocks y 0)) (zero-add i))
 
 held-from : (ticks : ℕ) (marks : List ℕ) (x : ℕ) (ts : List Transition) (clocks : List ℕ) (none : Transition)
     → not (waitHeld ticks marks x ts clocks) ≡ allBelow (length ts) (λ i. not (holdsWait ticks marks (getD ts i none) (getD clocks (x + i) 0)))
@@ -48,17 +48,12 @@ held-from ticks marks x (t ∷ ts) clocks none =
     apart (holdsWait ticks marks t (getD clocks x 0)) (waitHeld ticks marks (x + 1) ts clocks)
     ∙ (ap₂ (λ (a b : Bool). a && b)
     (let z : x ≡ x + 0 = omega arith in ap (λ (y : ℕ). not (holdsWait ticks marks t (getD clocks y 0))) z)
-    (held-from ticks marks (x + 1) ts clocks none ∙ all-same (length ts) _ _ (λ i l. let z : x + 1 + i ≡ x + suc i = omega arith in ap (λ (y : ℕ). not (holdsWait ticks marks (getD ts i none) (getD clocks y 0))) z))
+    (held-from ticks marks (x + 1) ts clocks none ∙ all-ext (length ts) _ _ (λ i l. let z : x + 1 + i ≡ x + suc i = omega arith in ap (λ (y : ℕ). not (holdsWait ticks marks (getD ts i none) (getD clocks y 0))) z))
     ∙ sym (all-front (length ts) (λ i. not (holdsWait ticks marks (getD (t ∷ ts) i none) (getD clocks (x + i) 0)))))
   where
     apart : (a b : Bool) → not (a || b) ≡ (not a && not b)
     apart true b = refl
     apart false b = refl
-
-getD-map : {A B : Type 0} (f : A → B) (l : List A) (i : ℕ) (y : A) (z : B) → i < length l → getD (map f l) i z ≡ f (getD l i y)
-getD-map f [] i y z h = absurd (not-suc-le-zero h)
-getD-map f (x ∷ l) zero y z h = refl
-getD-map f (x ∷ l) (suc i) y z h = getD-map f l i y z (le-of-suc-le-suc h)
 
 -- a well-formed net: the arcs of each transition are fine
 pub fine-at : (count label : ℕ) (ts : List Transition) (i : ℕ) (none : Transition) → i < length ts → transitionsFine count label ts ≡ true → arcsFine count takeArc 0 (getD ts i none .arcs) ≡ true
@@ -94,7 +89,7 @@ module _ (places : ℕ) (ts : List Transition) (fine : (i : ℕ) → i < length 
     fired-clocks : firedState net j (effectOf t) state .clocks ≡ clocksBy (keptClock j mid) 0 ts clocks
     unfolding firedState keptClock
     fired-clocks = ap (λ (n : ℕ). tabulate n (λ x. cond (only j x) 0 (cond (covers net (getD (map effectOf ts) x noEffect) (takenAndCleared net (effectOf t) marks)) (getD clocks x 0) 0))) (length-map ts effectOf)
-        ∙ (tabulate-same (length ts) _ _ (λ x l. ap (λ (b : Bool). cond (only j x) 0 (cond b (getD clocks x 0) 0)) (ap (covers net (getD (map effectOf ts) x noEffect)) reached ∙ enabled-at x mid l))
+        ∙ (tab-ext (length ts) _ _ (λ x l. ap (λ (b : Bool). cond (only j x) 0 (cond b (getD clocks x 0) 0)) (ap (covers net (getD (map effectOf ts) x noEffect)) reached ∙ enabled-at x mid l))
         ∙ sym (clocks-are (keptClock j mid) ts clocks (noTransition ts)))
 
     fire-is : netWordsOutcome (fire net j (effectOf t) state) ≡ firedWords ts j t marks clocks
@@ -159,7 +154,7 @@ module _ (places : ℕ) (ts : List Transition) (fine : (i : ℕ) → i < length 
 
   passes : (ticks : ℕ) → allBelow (length (map effectOf ts)) (letsPass net ticks state) ≡ not (waitHeld ticks marks 0 ts clocks)
   passes ticks = ap (λ (n : ℕ). allBelow n (letsPass net ticks state)) (length-map ts effectOf)
-      ∙ (all-same (length ts) _ _ (λ x l. lets-is ticks x l ∙ ap (λ (y : ℕ). not (holdsWait ticks marks (number x) (getD clocks y 0))) (sym (zero-add x)))
+      ∙ (all-ext (length ts) _ _ (λ x l. lets-is ticks x l ∙ ap (λ (y : ℕ). not (holdsWait ticks marks (number x) (getD clocks y 0))) (sym (zero-add x)))
       ∙ sym (held-from ticks marks 0 ts clocks (noTransition ts)))
 
   -- a clock that holds no wait grows by all of it
@@ -177,7 +172,7 @@ module _ (places : ℕ) (ts : List Transition) (fine : (i : ℕ) → i < length 
       → tickedState net ticks state .clocks ≡ clocksBy (renewedClock (Waited ticks) marks) 0 ts clocks
   unfolding tickedState renewedClock
   ticked-clocks ticks h = ap (λ (n : ℕ). tabulate n (λ x. cond (covers net (getD (map effectOf ts) x noEffect) marks) (getD clocks x 0 + ticks) (getD clocks x 0))) (length-map ts effectOf)
-      ∙ (tabulate-same (length ts) _ _ (λ x l. ap (λ (b : Bool). cond b (getD clocks x 0 + ticks) (getD clocks x 0)) (enabled-at x marks l)
+      ∙ (tab-ext (length ts) _ _ (λ x l. ap (λ (b : Bool). cond b (getD clocks x 0 + ticks) (getD clocks x 0)) (enabled-at x marks l)
       ∙ grown ticks (number x) (getD clocks x 0) (sym (lets-is ticks x l) ∙ all-elim (length (map effectOf ts)) (letsPass net ticks state) h x (rw (length-map ts effectOf) l)))
       ∙ sym (clocks-are (λ x t clock. grownClock ticks marks t clock) ts clocks (noTransition ts)))
 

@@ -14,8 +14,8 @@ use Rattle.effbd.specs.Ranges.{only, within, tabulate}
 use Rattle.effbd.specs.Moves.{mostWord}
 use Rattle.effbd.specs.Nets.{Arc, Transition, takeArc, clearArc, giveArc}
 use Rattle.effbd.specs.Firing.{Behaviour, weightAt, clearedAt, effectOf, takenAndCleared}
-use Rattle.net_file.proofs.Lists.{length-tabulate, getD-tabulate}
 use Rattle.net_walk.specs.Walked.{zeros, changed, changedIf, applied, reduced}
+use Rattle.net_walk.proofs.Ranges.{length-tabulate, getD-tabulate}
 
 -- numbers of 16 bits
 pub record Words (marks : List ℕ) : Type 0 where

@@ -1,13 +1,26 @@
--- Laws of bounded tests and searches.
+-- Laws of tables, of bounded tests and of searches.
 use Prim.Native.Nat.{ℕ, zero, suc, _<_}
-use mathlib.Core.Path.{_≡_, refl, sym, _∙_, ap}
+use mathlib.Core.Path.{_≡_, refl, sym, _∙_, ap, ap₂}
 use mathlib.Core.Bool.{Bool, true, false, _&&_}
 use native.Mathlib.Omega.{arith}
+use lib.ListN.{length, getD}
 use lib.Dec.{eqb}
 use borrow.Author.Tests.{eqb-true, eqb-false}
 use Rattle.words.proofs.Tests.{decide, clash, and-both, all-elim}
-use Rattle.effbd.specs.Ranges.{allBelow, least}
-use Rattle.net_file.proofs.Lists.{all-same}
+use Rattle.effbd.specs.Ranges.{allBelow, least, tabulate}
+
+pub length-tabulate : {A : Type 0} (n : ℕ) (f : ℕ → A) → length (tabulate n f) ≡ n
+length-tabulate zero f = refl
+length-tabulate (suc n) f = ap suc (length-tabulate n (λ i. f (suc i)))
+
+pub getD-tabulate : {A : Type 0} (n : ℕ) (f : ℕ → A) (i : ℕ) (z : A) → i < n → getD (tabulate n f) i z ≡ f i
+getD-tabulate zero f i z l = absurd (omega arith)
+getD-tabulate (suc n) f zero z l = refl
+getD-tabulate (suc n) f (suc i) z l = getD-tabulate n (λ j. f (suc j)) i z (omega arith)
+
+pub all-same : (n : ℕ) (f g : ℕ → Bool) → ((i : ℕ) → i < n → f i ≡ g i) → allBelow n f ≡ allBelow n g
+all-same zero f g h = refl
+all-same (suc n) f g h = ap₂ _&&_ (h n (omega arith)) (all-same n f g (λ i l. h i (omega arith)))
 
 pub all-intro : (n : ℕ) (f : ℕ → Bool) → ((i : ℕ) → i < n → f i ≡ true) → allBelow n f ≡ true
 all-intro zero f h = refl

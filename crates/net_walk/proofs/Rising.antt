@@ -16,11 +16,10 @@ use Rattle.effbd.specs.Moves.{mostWord}
 use Rattle.effbd.specs.Nets.{Arc, Transition, takeArc, clearArc, giveArc, arcDue, arcFine, above}
 use Rattle.effbd.specs.Firing.{Behaviour, NetState, weightAt, clearedAt, effectOf, covers, takenAndCleared, overflows, firedState}
 use Rattle.net_file.specs.Contents.{arcsFine}
-use Rattle.net_file.proofs.Lists.{length-tabulate, getD-tabulate, all-same}
 use Rattle.net_walk.specs.Walked.{covered, applied, reduced, tooMuch, sums}
 use Rattle.net_walk.specs.declared.Sums.{Sums}
 use Rattle.net_walk.specs.declared.Sums.the-variants.{Fit, Over}
-use Rattle.net_walk.proofs.Ranges.{all-intro, all-fail, all-but, least-is, least-same}
+use Rattle.net_walk.proofs.Ranges.{length-tabulate, getD-tabulate, all-same, all-intro, all-fail, all-but, least-is, least-same}
 use Rattle.net_walk.proofs.Effects.{Words, applied-length, reduced-length, takes-at, clears-at, gives-at}
 
 -- what fine arcs say of the first
