@@ -14,7 +14,7 @@ ghost use Rattle.effbd.specs.Ranges.{tabulate};
 ghost use Rattle.effbd.specs.Nets.{giveArc};
 ghost use Rattle.effbd.specs.Firing.{stepNet, freshNet};
 ghost use Rattle.net_file.specs.Contents.{arcsIn, transitionIn, transitionsIn};
-ghost use Rattle.net_walk.specs.Walked.{applied, reduced};
+ghost use Rattle.net_walk.specs.Walked.{applied};
 ghost use Rattle.net_step.specs.Stepping.{keptClock, grownClock, renewedClock, clocksBy, holdsWait, waitHeld, firedWords, steppedWords, waitedWords, movedWords, Answered, freshWord};
 
 // How clocks are renewed: transition number j fired, or so many ticks passed.
