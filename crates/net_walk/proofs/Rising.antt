@@ -25,7 +25,6 @@ use Rattle.net_walk.proofs.Effects.{Words, applied-length, reduced-leng
 -- what fine arcs say of the first
 pub record First (count k from : ℕ) (x : Arc) (xs : List Arc) : Type 0 where
   pub due : k ≤ x .kind
-  pub arc : x .kind ≤ 37
   pub low : x .kind ≡ k → from ≤ x .first
   pub inside : (x .kind ≡ clearArc → ⊥) → x .first < count
   pub next : (x .kind ≡ clearArc → ⊥) → above x ≡ suc (x .first)
@@ -39,7 +38,6 @@ first count k from x xs e =
     let f = and-left (leb (cond (eqb (x .kind) k) from 0) (x .first) && _) _ r in
     record {
       due = leb-true k (x .kind) (and-left (leb k (x .kind)) (leb (x .kind) 37) d);
-      arc = leb-true (x .kind) 37 (and-right (leb k (x .kind)) (leb (x .kind) 37) d);
       low = λ q. leb-true from (x .first) (rw (eq-eqb (x .kind) k q) at (and-left (leb (cond (eqb (x .kind) k) from 0) (x .first)) _ f));
       inside = λ q. ltb-true (x .first) count (and-left (ltb (x .first) count) (leb 1 (x .second)) (rw (ne-eqb (x .kind) clearArc q) at (and-right (leb (cond (eqb (x .kind) k) from 0) (x .first)) _ f)));
       next = λ q. rw (ne-eqb (x .kind) clearArc q);
