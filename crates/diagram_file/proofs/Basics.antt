@@ -59,14 +59,6 @@ pub unless-refused : {A : Type 0} (n v : ℕ) (x : Outcome A) → n ≢ 0 → un
 unless-refused zero v x ne = absurd (ne refl)
 unless-refused (suc n) v x ne = refl
 
-pub unless-accepted : {A : Type 0} (n v : ℕ) (x : Outcome A) (a : A) → unless n v x ≡ accepted a → (n ≡ 0) × (x ≡ accepted a)
-unless-accepted zero v x a e = (refl, e)
-unless-accepted (suc n) v x a e = never e
-
-pub andThen-accepted : {A B : Type 0} (a : Outcome A) (f : A → Outcome B) (y : B) → andThen a f ≡ accepted y → (x : A) × (a ≡ accepted x) × (f x ≡ accepted y)
-andThen-accepted (accepted x) f y e = (x, refl, e)
-andThen-accepted (refused n v) f y e = never e
-
 pub andThen-twice : {A B C : Type 0} (a : Outcome A) (f : A → Outcome B) (g : B → Outcome C) (h : A → Outcome C)
     → ((x : A) → h x ≡ andThen (f x) g) → andThen a h ≡ andThen (andThen a f) g
 andThen-twice (accepted x) f g h e = e x

@@ -166,15 +166,6 @@ module _ (file : List ℕ) (p : Parse) (w : Parsed file p) where
   pub parsed-refused : p .number ≢ 0 → readDiagram file ≡ refused (p .number) (p .value)
   parsed-refused ne = refused-back (readDiagram file) (p .number) (p .value) (w .number) (w .value) ne
 
-  -- the diagram of an accepted file is in the table
-  pub parsed-accepted : (d : Diagram) → readDiagram file ≡ accepted d → (p .number ≡ 0) × Holds d (p .rows) (p .items) (p .table) × HoldsUses file d (p .table)
-  parsed-accepted d e =
-      let z : p .number ≡ 0 = w .number ∙ ap refusalNumber e in
-      let h = w .holds z in
-      let o : accepted (h .diagram) ≡ accepted d = sym (h .read) ∙ e in
-      let s : h .diagram ≡ d = cc in
-      (z, subst (λ (x : Diagram). Holds x (p .rows) (p .items) (p .table)) s (h .holds), subst (λ (x : Diagram). HoldsUses file x (p .table)) s (h .uses))
-
   -- the parts of the file
   pub part-refused : (r : ℕ) → p .number ≢ 0 → [] ≡ partIn file (usesPart file r)
   unfolding usesPart
