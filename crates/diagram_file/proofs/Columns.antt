@@ -13,12 +13,12 @@ use borrow.Author.Tests.{eqb-true, eqb-false, eq-eqb, ne-eqb}
 use Rattle.effbd.specs.Answers.{accepted}
 use Rattle.effbd.specs.Diagrams.{lp-open, numberOf, Diagram, rowCount, kind}
 use Rattle.effbd.specs.Nesting.{Frame, turnTo, innermostOpen, latestBranch, stack, owner, branchEnded, innermost, loop, close, isClose, nested}
+use Rattle.agreement.specs.Basics.{decide, clash, least-is, least-none}
 use Rattle.diagram_file.specs.declared.nesting.Part.{Part}
 use Rattle.diagram_file.specs.declared.nesting.Part.the-variants.{Opens, Turns, Closes, Stays}
 use Rattle.diagram_file.specs.Runs.{partOf}
 use Rattle.diagram_file.specs.Cells.{cell}
 use Rattle.diagram_file.specs.Structure.{structureCells, putStructure, loopingIn, followedAs, followed, structured}
-use Rattle.diagram_file.proofs.Basics.{decide, clash, least-is, least-none}
 use Rattle.diagram_file.proofs.Cells.{put-long, put-away, put-at}
 use Rattle.diagram_file.proofs.Rules.{closing, ending, stack-next}
 use Rattle.diagram_file.proofs.Stacks.{does, popped-is, owner-low, closesOf, close-part, not-closing, closes-once, held, last-stays}

@@ -14,10 +14,11 @@ use Rattle.effbd.specs.Answers.{Outcome, accepted, refused, unless, andThen}
 use Rattle.effbd.specs.Records.{word, lengthAt, kindAt, kindTable, entryIn, lengthOf, Got, adding, readMany}
 use Rattle.effbd.specs.Diagrams.{function, end, numberOf, sameKind, kindOf, Row, plain, Diagram, rowCount, row, isKind, headFault, itemFault, itemAt, usesAt, rowAt, rowRight, rowFine, rowFault}
 use Rattle.effbd.specs.Nesting.{nested, afterRows, afterItems, readDiagram, skip, fromRow}
+use Rattle.agreement.specs.Basics.{decide, and-left, and-right, all-elim}
+use Rattle.agreement.specs.ByteLaws.{Clean, none-clean}
 use Rattle.diagram_file.specs.declared.records.Reached.{Reached}
 use Rattle.diagram_file.specs.Reading.{Stopped, ItemsRead, RowsRead, column, recordRows, recordItems, readRecords, Tabulated, Recorded}
-use Rattle.diagram_file.proofs.Basics.{decide, and-left, and-right, all-elim, unless-refused, andThen-twice, unless-then}
-use Rattle.agreement.specs.ByteLaws.{Clean, none-clean}
+use Rattle.diagram_file.proofs.Basics.{unless-refused, andThen-twice, unless-then}
 
 -- n records that were read: their values, their faults, the rest
 pub record Many (A : Type 0) (fault : List ℕ → ℕ) (value : List ℕ → A) (n : ℕ) (start : List ℕ) (g : Got (List A)) : Type 0 where

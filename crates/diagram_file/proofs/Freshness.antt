@@ -15,9 +15,9 @@ use Rattle.effbd.specs.Diagrams.{Kind, function, and-open, branch, and-close, o
 use Rattle.effbd.specs.Nesting.{stack, owner, nested}
 use Rattle.effbd.specs.Layout.{byPlace, places, placeOf}
 use Rattle.effbd.specs.States.{stateWords, enteredAs, enteredRow, fresh, freshWords}
+use Rattle.agreement.specs.Basics.{decide, clash, and-left, and-right}
 use Rattle.diagram_file.specs.Runs.{partOf}
 use Rattle.diagram_file.specs.Tables.{Holds, countsPut, freshPut, FreshOf, Freshened}
-use Rattle.diagram_file.proofs.Basics.{decide, clash, and-left, and-right}
 use Rattle.diagram_file.proofs.Rules.{ending}
 use Rattle.diagram_file.proofs.Stacks.{does, held}
 

@@ -8,7 +8,7 @@ use borrow.Author.Tests.{ltb-true, ltb-false, leb-true}
 use Rattle.effbd.specs.Ranges.{allBelow}
 use Rattle.words.proofs.KindTable.{length-out}
 use Rattle.effbd.specs.Records.{kindTable, entryIn, lengthOf}
-use Rattle.diagram_file.proofs.Basics.{decide, all-elim}
+use Rattle.agreement.specs.Basics.{decide, all-elim}
 
 short-table : allBelow 38 (λ k. leb (lengthOf k) 10) ≡ true
 unfolding lengthOf entryIn kindTable

@@ -10,13 +10,13 @@ use lib.ListN.{length, getD, drop, set, length-set, length-drop}
 use lib.Seq.{getD-set-same, getD-set-other, drop-drop}
 use lib.Dec.{leb, eqb}
 use borrow.Author.Tests.{leb-true, eqb-true, eqb-false}
-use Rattle.agreement.specs.ByteLaws.{none-clean}
 use Rattle.effbd.specs.Records.{word, lengthAt, kindAt, kindTable, entryIn, lengthOf}
 use Rattle.effbd.specs.Diagrams.{itemFault, itemAt, rowAt, rowRight, rowFine, rowFault}
 use Rattle.effbd.specs.Nesting.{skip}
+use Rattle.agreement.specs.Basics.{decide, and-left, and-right}
+use Rattle.agreement.specs.ByteLaws.{none-clean}
 use Rattle.diagram_file.specs.Cells.{Cell, cell}
 use Rattle.diagram_file.specs.Reading.{Reading, Stopped, FilledRows, Kept, ItemsState, ItemsRead, RowsState, RowsRead, column, putRow, fillRow}
-use Rattle.diagram_file.proofs.Basics.{decide, and-left, and-right}
 use Rattle.diagram_file.proofs.Cells.{put-long, put-away, put-at}
 use Rattle.diagram_file.proofs.KindTable.{short}
 

@@ -10,11 +10,11 @@ use lib.Dec.{leb, ltb, eqb}
 use borrow.Author.Tests.{ltb-true, ltb-false, leb-false, eqb-true, ne-eqb}
 use Rattle.effbd.specs.Diagrams.{Kind, function, and-open, branch, and-close, or-open, or-close, it-open, it-close, lp-open, lp-close, loop-exit, end, numberOf, sameKind, Row, plain, Diagram, rowCount, kind, isKind}
 use Rattle.effbd.specs.Nesting.{Frame, push, turnTo, pop, passing, innermostOpen, stack, innermostIs, someOpen, noneOpen, inAndOr, twoBranches, follows, standsAs, nestingBroken, exitMisplaced, thirteenthOpen, nestingFault}
+use Rattle.agreement.specs.Basics.{decide, clash, and-left}
 use Rattle.diagram_file.specs.declared.nesting.Part.{Part}
 use Rattle.diagram_file.specs.declared.nesting.Part.the-variants.{Opens, Turns, Closes, Stays}
 use Rattle.diagram_file.specs.declared.nesting.Open.{Open}
 use Rattle.diagram_file.specs.Runs.{partOf, kindIn, topIn, isAndOr, standsOf, followsOf, brokenOf, exitFits, misplacedOf, opening, deepOf, beforeIn, faultIn, Kinds, Shows}
-use Rattle.diagram_file.proofs.Basics.{decide, clash, and-left}
 
 -- what a row does, by its part
 abbrev pub passingBy : Part → ℕ → List Frame → List Frame

@@ -12,10 +12,12 @@ use Rattle.effbd.specs.Answers.{accepted, refused}
 use Rattle.effbd.specs.Ranges.{least, only}
 use Rattle.effbd.specs.Diagrams.{lp-open, end, numberOf, sameKind, Diagram, rowCount, kind, isKind}
 use Rattle.effbd.specs.Nesting.{Frame, pop, innermostOpen, latestBranch, stack, owner, branchEnded, isClose, close, noneOpen, innermost, loop, follows, standsAs, nestingBroken, exitMisplaced, thirteenthOpen, nestingFault, firstFaulty, nested}
+use Rattle.agreement.specs.Basics.{decide, clash, least-found}
+use Rattle.agreement.specs.ByteLaws.{never}
 use Rattle.diagram_file.specs.declared.nesting.Part.{Part}
 use Rattle.diagram_file.specs.declared.nesting.Part.the-variants.{Opens, Turns, Closes, Stays}
 use Rattle.diagram_file.specs.Runs.{partOf}
-use Rattle.diagram_file.proofs.Basics.{decide, clash, never, least-low, least-upper}
+use Rattle.diagram_file.proofs.Basics.{least-low}
 use Rattle.diagram_file.proofs.Rules.{passingBy, closing, shape, stack-next, ending, bare-faulty, end-bare}
 
 module _ (d : Diagram) where
@@ -184,7 +186,7 @@ module _ (d : Diagram) where
     pub fine : (q : ℕ) → q < rowCount d → nestingFault d q ≡ 0
     unfolding nested firstFaulty
     fine q l = decide (eqb (nestingFault d q) 0) (λ e. eqb-true (nestingFault d q) 0 e)
-        (λ e. let h = least-upper (rowCount d) (λ r. not (eqb (nestingFault d r) 0)) q l (rw e) in
+        (λ e. let h = least-found (rowCount d) (λ r. not (eqb (nestingFault d r) 0)) q l (rw e) .1 in
         go (ltb (least (rowCount d) (λ r. not (eqb (nestingFault d r) 0))) (rowCount d)) refl h acc)
       where
         go : (b : Bool) → ltb (least (rowCount d) (λ r. not (eqb (nestingFault d r) 0))) (rowCount d) ≡ b → least (rowCount d) (λ r. not (eqb (nestingFault d r) 0)) ≤ q
@@ -230,4 +232,4 @@ module _ (d : Diagram) where
 
         none : rowCount d ≤ close d o → (c : ℕ) → c < rowCount d → closesOf o c ≡ false
         none far c h = decide (closesOf o c)
-            (λ y. let u = least-upper (rowCount d) (closesOf o) c h y in let v : close d o ≤ c = unfold close in u in absurd (omega arith)) (λ y. y)
+            (λ y. let u = least-found (rowCount d) (closesOf o) c h y .1 in let v : close d o ≤ c = unfold close in u in absurd (omega arith)) (λ y. y)

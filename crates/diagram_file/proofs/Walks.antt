@@ -13,6 +13,7 @@ use Rattle.effbd.specs.Answers.{accepted, unless}
 use Rattle.effbd.specs.Ranges.{least}
 use Rattle.effbd.specs.Diagrams.{Diagram, numberOf, rowCount, kind}
 use Rattle.effbd.specs.Nesting.{Frame, stack, nestingFault, firstFaulty, nested}
+use Rattle.agreement.specs.Basics.{decide, least-is, least-none}
 use Rattle.diagram_file.specs.declared.nesting.Part.{Part}
 use Rattle.diagram_file.specs.declared.nesting.Part.the-variants.{Opens, Turns, Closes, Stays}
 use Rattle.diagram_file.specs.declared.nesting.Open.{Open}
@@ -21,7 +22,7 @@ use Rattle.diagram_file.specs.declared.nesting.Run.the-variants.{Judged,
 use Rattle.diagram_file.specs.declared.nesting.Construct.{Construct}
 use Rattle.diagram_file.specs.declared.nesting.Construct.the-variants.{Judged as WasJudged, Closed as WasClosed}
 use Rattle.diagram_file.specs.Runs.{partOf, kindIn, loopsIn, faultIn, Kinds, Shows, Clean, AllJudged, Ends, Left, RunEnded, RunWithin, RunRead, ConstructEnded, ConstructWithin, ConstructRead, NestingRead}
-use Rattle.diagram_file.proofs.Basics.{decide, least-is, least-none, unless-refused}
+use Rattle.diagram_file.proofs.Basics.{unless-refused}
 use Rattle.diagram_file.proofs.Rules.{passingBy, stack-next, kind-is, fault-is, ending, bare-faulty}
 
 clean-none : (d : Diagram) (a : ℕ) → Clean d a a
