@@ -11,26 +11,15 @@ use Rattle.effbd.specs.Ranges.{allBelow, least, only}
 use Rattle.effbd.specs.Diagrams.{Diagram, Use, countTotal, rowCount, takeOf, giveOf, usesAt, usesFine}
 use Rattle.effbd.specs.Records.{word}
 use Rattle.effbd.specs.States.{State, countAt, setCounts}
-use Rattle.agreement.specs.Basics.{decide, clash, only-refl, and-left, and-right, all-elim, all-find, least-found, least-ext, not-true, not-false, or-false-right}
+use Rattle.agreement.specs.Basics.{decide, clash, only-refl, and-left, and-right, all-elim, all-find, least-found, least-is, least-none, least-ext, not-true, not-false, or-false-right}
 use Rattle.diagram_moves.specs.Decisions.{countPlace, amountOf, exceeds, changed, blockedItem}
 use Rattle.diagram_moves.specs.Changes.{countsChanged}
 use Rattle.diagram_moves.specs.Stores.{Reads, like, set-count}
 
-least-low : (n : ℕ) (f : ℕ → Bool) → ((i : ℕ) → i < n → f i ≡ false) → least n f ≡ n
-least-low zero f h = refl
-least-low (suc n) f h = rw (h zero (omega arith), least) (ap suc (least-low n (λ i. f (suc i)) (λ i b. h (suc i) (omega arith))))
-
-least-at : (n k : ℕ) (f : ℕ → Bool) → k < n → ((i : ℕ) → i < k → f i ≡ false) → f k ≡ true → k ≡ least n f
-least-at n k f b e h =
-    let w = least-found n f k b h in
-    decide (ltb (least n f) k)
-    (λ lt. clash (w .0) (e (least n f) (ltb-true (least n f) k lt)))
-    (λ ge. let z = ltb-false (least n f) k ge in let y = w .1 in omega arith)
-
 -- the least is in range exactly if not all pass
 pub least-all : (n : ℕ) (f g : ℕ → Bool) → ((i : ℕ) → i < n → g i ≡ not (f i)) → ltb (least n f) n ≡ not (allBelow n g)
 least-all n f g h = decide (allBelow n g)
-    (λ e. let z : least n f ≡ n = least-low n f (λ i b. not-true (f i) (sym (h i b) ∙ all-elim n g e i b)) in rw e (le-ltb (least n f) n (omega arith)))
+    (λ e. let z : least n f ≡ n = least-none n f (λ i b. not-true (f i) (sym (h i b) ∙ all-elim n g e i b)) in rw e (le-ltb (least n f) n (omega arith)))
     (λ e. let w = all-find n g e in let y = least-found n f (w .0) (w .1) (not-false (f (w .0)) (sym (h (w .0) (w .1)) ∙ w .2)) in
     let lo = y .1 in let hi = w .1 in rw e (lt-ltb (least n f) n (omega arith)))
 
@@ -93,11 +82,11 @@ module _ (giving : Bool) (M : ℕ) (c : ℕ → ℕ) (quiet : (k : ℕ) → k < 
 
   pub first-stop : (us : List Use) (from : ℕ) → usesFine M from us ≡ true → blockedItem giving rows M l us ≡ least M (λ k. exceeds giving (c k) (amountIn giving us k))
   unfolding blockedItem amountIn
-  first-stop [] from e = sym (least-low M (stops []) (λ i b. quiet i b))
+  first-stop [] from e = sym (least-none M (stops []) (λ i b. quiet i b))
   first-stop (u ∷ us) from e =
       let w = first M from u us e in
       rw (counts (u .item) (w .inside)) (decide (exceeds giving (c (u .item)) (amountOf giving u))
-      (λ y. rw y (least-at M (u .item) (stops (u ∷ us)) (w .inside) (λ i b. lower w i b) (rw (eq-eqb (u .item) (u .item) refl) y)))
+      (λ y. rw y (sym (least-is M (stops (u ∷ us)) (u .item) (w .inside) (rw (eq-eqb (u .item) (u .item) refl) y) (λ i b. lower w i b))))
       (λ y. rw y (first-stop us (suc (u .item)) (w .rest) ∙ least-ext M (stops us) (stops (u ∷ us)) (λ k b. decide (eqb (u .item) k)
       (λ z. let q : u .item ≡ k = eqb-true (u .item) k z in rw (z, rests w k (omega arith), quiet k b, ← q) (sym y))
       (λ z. rw z)))))
