@@ -17,17 +17,11 @@ use Rattle.effbd.specs.Layout.{places}
 use Rattle.effbd.specs.States.{stateWords, freshWords}
 use Rattle.effbd.specs.Moves.{stepDiagram, freshDiagram}
 use Rattle.diagram_file.specs.Tables.{refusalNumber, refusalValue, HoldsFile, FreshOf}
-use Rattle.agreement.specs.Basics.{and-intro}
 use Rattle.agreement.specs.Numbering.{length-tab}
 use Rattle.agreement.specs.AcceptedFiles.{held}
 use Rattle.diagram_moves.specs.Changes.{tableOutcome}
 use Rattle.diagram_moves.specs.FunctionMoves.{Small}
 use Rattle.diagram_moves.specs.WholeMoves.{move-is}
-
-pub are-bytes : (l : List ℕ) → ((i : ℕ) → getD l i 0 < 256) → areBytes l ≡ true
-unfolding areBytes
-are-bytes [] h = refl
-are-bytes (b ∷ l) h = and-intro (lt-ltb b 256 (h zero)) (are-bytes l (λ i. h (suc i)))
 
 -- a refused file turns every call away with its own number and value
 refusing : {A : Type 0} (o : Outcome Diagram) (f : Diagram → Outcome A) → refusalNumber o ≢ 0 → andThen o f ≡ refused (refusalNumber o) (refusalValue o)

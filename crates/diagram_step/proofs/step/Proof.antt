@@ -1,5 +1,6 @@
 use Rattle.diagram_step.proofs.Laws.{answered-as, step-turned}
-use Rattle.diagram_moves.specs.Files.{are-bytes, step-is}
+use Rattle.agreement.specs.ByteLaws.{bytes-are}
+use Rattle.diagram_moves.specs.Files.{step-is}
 use native.Mathlib.Omega.{arith}
 use borrow.Author.Needs.{needs}
 use Rattle.diagram_step.proofs.step.Statement.{statement}
@@ -24,7 +25,7 @@ same-length : tie.Need-same-length
 same-length c = search needs
 
 returns-2 : tie.Need-returns-2
-returns-2 c = answered-as _ _ _ _ _ (c .before .before .step-table .ensures) (step-is (c .before .before .before .before .before .before .before .before .before .before .before .args .file .now) (c .before .before .before .before .before .before .before .before .before .before .before .args .state .now) (c .before .before .before .before .before .before .before .before .parse .result .rows) (c .before .before .before .before .before .before .before .before .parse .result .items) (c .before .before .before .before .before .before .before .before .parse .result .table) (c .before .before .before .before .before .before .before .before .parse .ensures .holds (c .before .before .before .before .before .before .before .if1 .left)) (are-bytes (c .before .before .before .before .before .before .before .before .before .before .before .args .file .now) (λ i. omega (arith, c .before .before .before .before .before .before .before .before .before .before .shared-slice-known .given i))) (record { small = λ i. omega (arith, c .before .before .before .before .before .before .before .before .before .slice-known .given i) }) (c .before .before .before .before .before .before .before .before .before .before .before .args .code) (c .before .before .before .before .before .before .before .before .before .before .before .args .argument))
+returns-2 c = answered-as _ _ _ _ _ (c .before .before .step-table .ensures) (step-is (c .before .before .before .before .before .before .before .before .before .before .before .args .file .now) (c .before .before .before .before .before .before .before .before .before .before .before .args .state .now) (c .before .before .before .before .before .before .before .before .parse .result .rows) (c .before .before .before .before .before .before .before .before .parse .result .items) (c .before .before .before .before .before .before .before .before .parse .result .table) (c .before .before .before .before .before .before .before .before .parse .ensures .holds (c .before .before .before .before .before .before .before .if1 .left)) (bytes-are (c .before .before .before .before .before .before .before .before .before .before .before .args .file .now) (λ i. omega (arith, c .before .before .before .before .before .before .before .before .before .before .shared-slice-known .given i))) (record { small = λ i. omega (arith, c .before .before .before .before .before .before .before .before .before .slice-known .given i) }) (c .before .before .before .before .before .before .before .before .before .before .before .args .code) (c .before .before .before .before .before .before .before .before .before .before .before .args .argument))
 
 pub step-spec : {M : Type 1} → statement M
 step-spec =
