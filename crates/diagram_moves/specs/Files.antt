@@ -1,13 +1,13 @@
 -- From the table back to the file: a step and a fresh state as document 01 has them, on a file's bytes and a state's words.
-use Prim.Native.Nat.{ℕ, zero, suc, _+_, _-_, _*_, _≤_, _<_}
+use Prim.Native.Nat.{ℕ, _+_, _-_, _*_, _≤_}
 use mathlib.Core.Path.{_≡_, refl, sym, _∙_, ap}
 use mathlib.Core.Logic.{_≢_}
 use mathlib.Core.Bool.{true}
-use mathlib.Core.List.{List, [], _∷_, append-nil}
+use mathlib.Core.List.{List, append-nil}
 use native.Mathlib.Nat.{sub-zero}
 use native.Mathlib.Omega.{arith}
-use lib.ListN.{length, getD, take, drop-of-length-le}
-use borrow.Author.Tests.{le-leb, lt-ltb, eq-eqb, ne-eqb}
+use lib.ListN.{length, take, drop-of-length-le}
+use borrow.Author.Tests.{le-leb, eq-eqb, ne-eqb}
 use Rattle.words.specs.Stores.{copied}
 use Rattle.effbd.specs.Answers.{Outcome, accepted, refused, andThen}
 use Rattle.effbd.specs.Records.{areBytes}
