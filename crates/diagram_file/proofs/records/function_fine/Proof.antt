@@ -1,5 +1,4 @@
 use Rattle.diagram_file.proofs.Fields.{function-bad, function-good}
-use Rattle.effbd.specs.Records.{word}
 use borrow.Author.Needs.{needs}
 use Rattle.diagram_file.proofs.records.function_fine.Statement.{statement}
 use Rattle.diagram_file.proofs.records.function_fine.Tie as tie

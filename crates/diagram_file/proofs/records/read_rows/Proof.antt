@@ -1,7 +1,6 @@
 use Rattle.diagram_file.proofs.Loops.{rows-start, rows-turn, rows-stop, rows-end}
 use Rattle.diagram_file.specs.Reading.{RowsState}
 use Prim.Native.Nat.{_-_, _≤_}
-use Rattle.effbd.specs.Records.{word}
 use native.Mathlib.Omega.{arith}
 use mathlib.Core.Path.{sym, _∙_}
 use borrow.Author.Needs.{needs}

@@ -1,6 +1,5 @@
 use Rattle.diagram_file.proofs.Fields.{uses-stop, uses-go, uses-none}
 use Rattle.effbd.specs.Diagrams.{usesFine, usesAt}
-use Rattle.effbd.specs.Records.{word}
 use native.Mathlib.Omega.{arith}
 use borrow.Author.Tests.{not-true, not-false}
 use mathlib.Core.Path.{_≡_, refl, ap, sym, _∙_}
