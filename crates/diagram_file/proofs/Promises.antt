@@ -21,8 +21,7 @@ use Rattle.diagram_file.specs.Structure.{putStructure, structured}
 use Rattle.diagram_file.specs.Tables.{stateLength, refusalNumber, refusalValue, Holds, HoldsUses, HoldsFile, Judged, Filled, Parsed, partIn}
 use Rattle.diagram_file.proofs.Basics.{unless-refused}
 use Rattle.diagram_file.proofs.Files.{two-parts}
-use Rattle.diagram_file.proofs.Rules.{shape, opening-is}
-use Rattle.diagram_file.proofs.Stacks.{does, owner-low, branch-low, loop-low, close-low, close-inside}
+use Rattle.diagram_file.proofs.Stacks.{owner-low, loop-low, close-low}
 use Rattle.diagram_file.proofs.Columns.{Sound, sound, close-is}
 
 refused-back : {A : Type 0} (x : Outcome A) (n v : ℕ) → n ≡ refusalNumber x → v ≡ refusalValue x → n ≢ 0 → x ≡ refused n v
@@ -98,10 +97,8 @@ module _ {file t : List ℕ} (w : Tabled file t) where
           loops = λ r l. s .loops r (omega arith);
           counts = λ k l. s .same .above (576 + k) (omega arith) ∙ b .counts k (rw (b .items) l);
           ownerLow = owner-low dia;
-          branchLow = branch-low dia;
           loopLow = loop-low dia;
           closeLow = λ r. rw (← b .rows) (close-low dia r);
-          closeInside = λ r l h. rw (← b .rows) (close-inside dia acc r (in-rows r l) (opening-is (does dia r) (sym (shape (kind dia r) .opens) ∙ h)));
         }
 
     part-is : (r : ℕ) → r < rowCount dia → usesPart file r ≡ record { start = getD t (192 + r) 0; size = 6 * getD t (256 + r) 0 }

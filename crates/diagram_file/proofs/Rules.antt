@@ -10,7 +10,7 @@ use lib.Dec.{leb, ltb, eqb}
 use borrow.Author.Tests.{ltb-true, ltb-false, leb-false, eqb-true, ne-eqb}
 use Rattle.effbd.specs.Diagrams.{Kind, function, and-open, branch, and-close, or-open, or-close, it-open, it-close, lp-open, lp-close, loop-exit, end, numberOf, sameKind, Row, plain, Diagram, rowCount, kind, isKind}
 use Rattle.effbd.specs.Nesting.{Frame, push, turnTo, pop, passing, innermostOpen, stack, innermostIs, someOpen, noneOpen, inAndOr, twoBranches, follows, standsAs, nestingBroken, exitMisplaced, thirteenthOpen, nestingFault}
-use Rattle.agreement.specs.Basics.{decide, clash, and-left}
+use Rattle.agreement.specs.Basics.{decide, clash}
 use Rattle.diagram_file.specs.declared.nesting.Part.{Part}
 use Rattle.diagram_file.specs.declared.nesting.Part.the-variants.{Opens, Turns, Closes, Stays}
 use Rattle.diagram_file.specs.declared.nesting.Open.{Open}
@@ -28,12 +28,6 @@ closing Opens = false
 closing Turns = false
 closing Closes = true
 closing Stays = false
-
-pub opening-is : (p : Part) → opening p ≡ true → p ≡ Opens
-opening-is Opens z = refl
-opening-is Turns z = clash z refl
-opening-is Closes z = clash z refl
-opening-is Stays z = clash z refl
 
 -- a kind, by its number
 pub record Shape (k : Kind) : Type 0 where
@@ -95,14 +89,6 @@ module _ (d : Diagram) where
   stands-is lp-close q fs = top-is lp-open fs
   stands-is loop-exit q fs = refl
   stands-is end q fs = rw (none-is fs)
-
-  -- an END stands where nothing is open
-  pub end-bare : (k : Kind) (q : ℕ) (fs : List Frame) → sameKind k end ≡ true → standsAs d k q fs ≡ true → noneOpen d fs ≡ true
-  unfolding standsOf
-  end-bare k q fs e h =
-      let s : standsOf 27 (topNumber fs) (twoBranches d fs) (eqb (suc q) (rowCount d)) ≡ true =
-      ap (λ (n : ℕ). standsOf n (topNumber fs) (twoBranches d fs) (eqb (suc q) (rowCount d))) (sym (eqb-true (numberOf k) 27 e)) ∙ (sym (stands-is k q fs) ∙ h) in
-      none-is fs ∙ and-left (eqb (topNumber fs) 0) (eqb (suc q) (rowCount d)) s
 
   module _ (rows : ℕ) (table : List ℕ) (k : Kinds d rows table) where
     pub kind-is : (q : ℕ) → kindIn table rows q ≡ numberOf (kind d q)

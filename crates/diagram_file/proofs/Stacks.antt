@@ -7,18 +7,18 @@ use mathlib.Core.List.{List, [], _∷_}
 use native.Mathlib.Omega.{arith}
 use native.Mathlib.Numerals.{add-one}
 use lib.Dec.{ltb, eqb}
-use borrow.Author.Tests.{ltb-true, ltb-false, eqb-true, eq-eqb, ne-eqb, not-false}
+use borrow.Author.Tests.{ltb-false, eqb-true, eq-eqb, ne-eqb, not-false}
 use Rattle.effbd.specs.Answers.{accepted, refused}
 use Rattle.effbd.specs.Ranges.{least, only}
-use Rattle.effbd.specs.Diagrams.{lp-open, end, numberOf, sameKind, Diagram, rowCount, kind, isKind}
-use Rattle.effbd.specs.Nesting.{Frame, pop, innermostOpen, latestBranch, stack, owner, branchEnded, isClose, close, noneOpen, innermost, loop, follows, standsAs, nestingBroken, exitMisplaced, thirteenthOpen, nestingFault, firstFaulty, nested}
+use Rattle.effbd.specs.Diagrams.{lp-open, end, numberOf, Diagram, rowCount, kind, isKind}
+use Rattle.effbd.specs.Nesting.{Frame, pop, innermostOpen, stack, owner, isClose, close, innermost, loop, follows, standsAs, nestingBroken, exitMisplaced, thirteenthOpen, nestingFault, firstFaulty, nested}
 use Rattle.agreement.specs.Basics.{decide, clash, least-found}
 use Rattle.agreement.specs.ByteLaws.{never}
 use Rattle.diagram_file.specs.declared.nesting.Part.{Part}
 use Rattle.diagram_file.specs.declared.nesting.Part.the-variants.{Opens, Turns, Closes, Stays}
 use Rattle.diagram_file.specs.Runs.{partOf}
 use Rattle.diagram_file.proofs.Basics.{least-low}
-use Rattle.diagram_file.proofs.Rules.{passingBy, closing, shape, stack-next, ending, bare-faulty, end-bare}
+use Rattle.diagram_file.proofs.Rules.{passingBy, closing, shape, stack-next, ending, bare-faulty}
 
 module _ (d : Diagram) where
   abbrev pub does : ℕ → Part
@@ -27,7 +27,6 @@ module _ (d : Diagram) where
   -- a frame stands on the stack of its own open row
   pub record Ok (q : ℕ) (f : Frame) (fs : List Frame) : Type 0 where
     pub below : f .opened < q
-    pub branch : f .latest ≤ q
     pub tail : fs ≡ stack d (f .opened)
 
   abbrev pub Good : ℕ → List Frame → Type 0
@@ -36,13 +35,12 @@ module _ (d : Diagram) where
 
   weaken : (q p : ℕ) (fs : List Frame) → q ≤ p → Good q fs → Good p fs
   weaken q p [] l g = tt
-  weaken q p (f ∷ fs) l g =
-      let a = g .0 .below in let b = g .0 .branch in (record { below = omega arith; branch = omega arith; tail = g .0 .tail }, g .1)
+  weaken q p (f ∷ fs) l g = let a = g .0 .below in (record { below = omega arith; tail = g .0 .tail }, g .1)
 
   passed : (part : Part) (q : ℕ) (fs : List Frame) → fs ≡ stack d q → Good q fs → Good (q + 1) (passingBy part q fs)
-  passed Opens q fs e g = (record { below = omega arith; branch = omega (arith, add-one q); tail = e }, g)
+  passed Opens q fs e g = (record { below = omega arith; tail = e }, g)
   passed Turns q [] e g = tt
-  passed Turns q (f ∷ fs) e g = let a = g .0 .below in (record { below = omega arith; branch = omega arith; tail = g .0 .tail }, g .1)
+  passed Turns q (f ∷ fs) e g = let a = g .0 .below in (record { below = omega arith; tail = g .0 .tail }, g .1)
   passed Closes q [] e g = tt
   passed Closes q (f ∷ fs) e g = let a = g .0 .below in weaken (f .opened) (q + 1) fs (omega arith) (g .1)
   passed Stays q fs e g = weaken q (q + 1) fs (omega arith) g
@@ -66,10 +64,6 @@ module _ (d : Diagram) where
   owner-of q [] g = omega arith
   owner-of q (f ∷ fs) g = let a = g .0 .below in omega arith
 
-  branch-of : (q : ℕ) (fs : List Frame) → Good q fs → latestBranch fs ≤ q
-  branch-of q [] g = omega arith
-  branch-of q (f ∷ fs) g = g .0 .branch
-
   loop-of : (q : ℕ) (fs : List Frame) → Good q fs → innermost d lp-open fs ≤ q
   loop-of q [] g = omega arith
   loop-of q (f ∷ fs) g = let a = g .0 .below in
@@ -79,9 +73,6 @@ module _ (d : Diagram) where
   pub owner-low : (q : ℕ) → owner d q ≤ q
   unfolding owner
   owner-low q = owner-of q (stack d q) (good q)
-
-  pub branch-low : (q : ℕ) → branchEnded d q ≤ q
-  branch-low q = branch-of q (stack d q) (good q)
 
   pub loop-low : (q : ℕ) → loop d q ≤ q
   unfolding loop
@@ -140,20 +131,6 @@ module _ (d : Diagram) where
       let y : c + 1 + (q - (c + 1)) ≡ q = omega arith in
       clash (subst (λ (x : ℕ). has x (stack d q) ≡ true) z (owner-has (stack d q) ne)) (subst (λ (m : ℕ). has o (stack d m) ≡ false) y (gone o c (q - (c + 1)) e w))
 
-  -- until its close is passed, a construct is open
-  has-kept : (part : Part) (o q : ℕ) (fs : List Frame) → (part ≡ Closes → innermostOpen fs ≢ o) → has o fs ≡ true → has o (passingBy part q fs) ≡ true
-  unfolding has
-  has-kept Opens o q fs ne h = go (eqb q o)
-    where
-      go : (b : Bool) → (b || has o fs) ≡ true
-      go true = refl
-      go false = h
-  has-kept Turns o q [] ne h = h
-  has-kept Turns o q (f ∷ fs) ne h = h
-  has-kept Closes o q [] ne h = h
-  has-kept Closes o q (f ∷ fs) ne h = subst (λ (b : Bool). (b || has o fs) ≡ true) (ne-eqb (f .opened) o (ne refl)) h
-  has-kept Stays o q fs ne h = h
-
   -- c is a close of the construct that row o opens
   abbrev pub closesOf : ℕ → ℕ → Bool
   closesOf o c = isClose d c && only o (owner d c)
@@ -163,23 +140,6 @@ module _ (d : Diagram) where
 
   pub not-closing : (o c : ℕ) → closing (does c) ≡ false → closesOf o c ≡ false
   not-closing o c h = rw (close-part c, h)
-
-  stays-open : (o n : ℕ) → does o ≡ Opens → ((c : ℕ) → c < o + 1 + n → closesOf o c ≡ false) → has o (stack d (o + 1 + n)) ≡ true
-  unfolding has owner
-  stays-open o zero e h =
-      let z : o + 1 + 0 ≡ o + 1 = omega arith in
-      ap (λ (m : ℕ). has o (stack d m)) z ∙ (ap (has o) (stack-next d o Opens e) ∙ rw (eq-eqb o o refl))
-  stays-open o (suc n) e h =
-      let q = o + 1 + n in
-      let z : o + 1 + suc n ≡ o + 1 + n + 1 = omega arith in
-      ap (λ (m : ℕ). has o (stack d m)) z ∙ (ap (has o) (stack-next d q (does q) refl)
-      ∙ has-kept (does q) o q (stack d q) (λ x y. let shut : isClose d q ≡ true = close-part q ∙ ap closing x in
-      clash (rw (shut, eq-eqb (innermostOpen (stack d q)) o y)) (h q (omega arith))) (stays-open o n e (λ c l. h c (omega arith))))
-
-  bare-has : (o : ℕ) (fs : List Frame) → noneOpen d fs ≡ true → has o fs ≡ false
-  unfolding has
-  bare-has o [] h = refl
-  bare-has o (f ∷ fs) h = clash h refl
 
   -- ---- of an accepted diagram
   module _ (acc : nested d ≡ accepted d) where
@@ -199,37 +159,18 @@ module _ (d : Diagram) where
     pub held : (q : ℕ) → q < rowCount d → ending (does q) ≡ true → stack d q ≡ [] → ⊥
     held q l h e = let a = bare-faulty d q e h in let b = fine q l in absurd (omega arith)
 
-    -- the last row is an END, with nothing open
-    last-fine : (q : ℕ) → suc q ≡ rowCount d → (sameKind (kind d q) end ≡ true) × (standsAs d (kind d q) q (stack d q) ≡ true)
-    last-fine q e = go (nestingBroken d q) refl (unfold nestingFault in fine q (omega arith))
+    -- the last row is an END
+    last-end : (q : ℕ) → suc q ≡ rowCount d → isKind d end q ≡ true
+    last-end q e = go (nestingBroken d q) refl (unfold nestingFault in fine q (omega arith))
       where
-        last : (a b : Bool) → not (a && (b && (not (eqb (suc q) (rowCount d)) || isKind d end q))) ≡ false → (isKind d end q ≡ true) × (b ≡ true)
-        last true true z = let w = not-false (not (eqb (suc q) (rowCount d)) || isKind d end q) z in (rw (eq-eqb (suc q) (rowCount d) e) at w, refl)
+        last : (a b : Bool) → not (a && (b && (not (eqb (suc q) (rowCount d)) || isKind d end q))) ≡ false → isKind d end q ≡ true
+        last true true z = let w = not-false (not (eqb (suc q) (rowCount d)) || isKind d end q) z in rw (eq-eqb (suc q) (rowCount d) e) at w
         last true false z = clash refl z
         last false b z = clash refl z
 
-        go : (b : Bool) → nestingBroken d q ≡ b → _≡_ {A = ℕ} (cond b 7 (cond (exitMisplaced d q) 8 (cond (thirteenthOpen d q) 9 0))) 0
-            → (isKind d end q ≡ true) × (standsAs d (kind d q) q (stack d q) ≡ true)
+        go : (b : Bool) → nestingBroken d q ≡ b → _≡_ {A = ℕ} (cond b 7 (cond (exitMisplaced d q) 8 (cond (thirteenthOpen d q) 9 0))) 0 → isKind d end q ≡ true
         go true h z = absurd (omega arith)
         go false h z = last (follows d q) (standsAs d (kind d q) q (stack d q)) (unfold nestingBroken in h)
 
     pub last-stays : (q : ℕ) → suc q ≡ rowCount d → does q ≡ Stays
-    last-stays q e = ap partOf (eqb-true (numberOf (kind d q)) 27 (last-fine q e .0)) ∙ (unfold partOf in refl)
-
-    -- each construct is closed
-    pub close-inside : (o : ℕ) → o < rowCount d → does o ≡ Opens → close d o < rowCount d
-    close-inside o l e = decide (ltb (close d o) (rowCount d)) (λ x. ltb-true (close d o) (rowCount d) x)
-        (λ x. let far = ltb-false (close d o) (rowCount d) x in
-        let q = rowCount d - 1 in
-        let last : suc q ≡ rowCount d = omega arith in
-        let z : o + 1 + (q - (o + 1)) ≡ q = let ne : o ≢ q = λ y. absurd (differ (sym e ∙ (ap does y ∙ last-stays q last))) in omega arith in
-        let w = last-fine q last in
-        clash (subst (λ (m : ℕ). has o (stack d m) ≡ true) z (stays-open o (q - (o + 1)) e (λ c h. none far c (omega arith))))
-        (bare-has o (stack d q) (end-bare d (kind d q) q (stack d q) (w .0) (w .1))))
-      where
-        differ : Opens ≡ Stays → ⊥
-        differ y = let n : _≡_ {A = ℕ} 0 1 = cc in omega arith
-
-        none : rowCount d ≤ close d o → (c : ℕ) → c < rowCount d → closesOf o c ≡ false
-        none far c h = decide (closesOf o c)
-            (λ y. let u = least-found (rowCount d) (closesOf o) c h y .1 in let v : close d o ≤ c = unfold close in u in absurd (omega arith)) (λ y. y)
+    last-stays q e = ap partOf (eqb-true (numberOf (kind d q)) 27 (last-end q e)) ∙ (unfold partOf in refl)

@@ -1,13 +1,12 @@
 -- What this crate promises: a file's refusal, or its diagram as a table. Assumes nothing.
 use Prim.Native.Nat.{ℕ, zero, suc, _+_, _*_, _≤_, _<_}
 use mathlib.Core.Path.{_≡_}
-use mathlib.Core.Bool.{true, _||_}
 use mathlib.Core.List.{List}
 use lib.ListN.{length, getD, take, drop, set}
 use Rattle.effbd.specs.Ranges.{tabulate}
 use Rattle.effbd.specs.Answers.{Outcome, accepted, refused, andThen}
 use Rattle.effbd.specs.Records.{word}
-use Rattle.effbd.specs.Diagrams.{and-open, or-open, it-open, lp-open, Diagram, numberOf, rowCount, countTotal, initialCount, row, kind, isKind, usesAt}
+use Rattle.effbd.specs.Diagrams.{Diagram, numberOf, rowCount, countTotal, initialCount, row, kind, usesAt}
 use Rattle.effbd.specs.Nesting.{owner, branchEnded, close, loop, nested, readDiagram, Part, usesPart}
 use Rattle.effbd.specs.Layout.{places}
 use Rattle.effbd.specs.States.{freshWords}
@@ -46,12 +45,10 @@ pub record Holds (d : Diagram) (rows items : ℕ) (table : List ℕ) : Type 0 wh
   pub closes : (r : ℕ) → r < rows → getD table (448 + r) 0 ≡ close d r
   pub loops : (r : ℕ) → r < rows → getD table (512 + r) 0 ≡ loop d r
   pub counts : (k : ℕ) → k < items → getD table (576 + k) 0 ≡ initialCount d k
-  -- owner, BRANCH and LP are rows up to the row itself; the close of a row that opens is a row, that of another row is the number of rows
+  -- owner and LP are rows up to the row itself, a close is at most the number of rows
   pub ownerLow : (r : ℕ) → owner d r ≤ r
-  pub branchLow : (r : ℕ) → branchEnded d r ≤ r
   pub loopLow : (r : ℕ) → loop d r ≤ r
   pub closeLow : (r : ℕ) → close d r ≤ rows
-  pub closeInside : (r : ℕ) → r < rows → (isKind d and-open r || isKind d or-open r || isKind d it-open r || isKind d lp-open r) ≡ true → close d r < rows
 
 -- and the uses of its rows in the file's bytes: from the column of offsets on, so many as the column of numbers says
 pub record HoldsUses (file : List ℕ) (d : Diagram) (table : List ℕ) : Type 0 where
