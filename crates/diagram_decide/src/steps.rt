@@ -79,8 +79,8 @@ fn function(table: &[u16], rows: u32, items: u32, file: &[u8], state: &[u16], ro
 }
 
 // A BRANCH of an OR steps if its open is ready; a BRANCH of an AND never steps.
-fn branch(table: &[u16], rows: u32, items: u32, file: &[u8], state: &[u16], row: u32) -> Answer
-    ensures { λ r. ⌜ said r ≡ branchVerdict (now (table .entry)) rows items (now (file .entry)) (now (state .entry)) row ⌝ }
+fn branch(table: &[u16], state: &[u16], row: u32) -> Answer
+    ensures { λ r. ⌜ said r ≡ branchVerdict (now (table .entry)) (now (state .entry)) row ⌝ }
 {
     let owner = cells::cell(table, cells::OWNER, row) as u32;
     if cells::kind(table, owner) == kinds::OR_OPEN {
@@ -89,8 +89,8 @@ fn branch(table: &[u16], rows: u32, items: u32, file: &[u8], state: &[u16], row:
     Answer::Refused(22, row)
 }
 
-fn and_close(table: &[u16], rows: u32, items: u32, file: &[u8], state: &[u16], row: u32) -> Answer
-    ensures { λ r. ⌜ said r ≡ closeVerdict (now (table .entry)) rows items (now (file .entry)) (now (state .entry)) row ⌝ }
+fn and_close(table: &[u16], state: &[u16], row: u32) -> Answer
+    ensures { λ r. ⌜ said r ≡ closeVerdict (now (table .entry)) (now (state .entry)) row ⌝ }
 {
     let owner = cells::cell(table, cells::OWNER, row) as u32;
     if all_done(table, state, owner, row) {
@@ -113,8 +113,8 @@ pub(crate) fn row_step(
     let kind = cells::kind(table, row);
     match kind {
         kinds::FUNCTION => function(table, rows, items, file, state, row),
-        kinds::BRANCH => branch(table, rows, items, file, state, row),
-        kinds::AND_CLOSE => and_close(table, rows, items, file, state, row),
+        kinds::BRANCH => branch(table, state, row),
+        kinds::AND_CLOSE => and_close(table, state, row),
         kinds::OR_OPEN => Answer::Refused(22, row),
         kinds::END => Answer::Refused(22, row),
         _ => ready(state, row, row),

@@ -46,7 +46,7 @@ fn blocked_in(uses: &[u8], number: u16, rows: u32, items: u32, state: &[u16], gi
 }
 
 // The same for the uses of a row.
-pub fn blocked_item(
+pub(crate) fn blocked_item(
     table: &[u16],
     rows: u32,
     items: u32,

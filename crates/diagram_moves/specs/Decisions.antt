@@ -70,6 +70,12 @@ module _ (table : List ℕ) where
 unfoldable pub readyVerdict : List ℕ → ℕ → ℕ → Outcome ℕ
 readyVerdict words o r = cond (eqb (getD words (activityAt o) 0) 1) (accepted 0) (refused 22 r)
 
+unfoldable pub branchVerdict : (table words : List ℕ) → ℕ → Outcome ℕ
+branchVerdict table words r = cond (eqb (kindIn table (ownerIn table r)) 20) (readyVerdict words (ownerIn table r) r) (refused 22 r)
+
+unfoldable pub closeVerdict : (table words : List ℕ) → ℕ → Outcome ℕ
+closeVerdict table words r = cond (allDoneTo table words (ownerIn table r) r) (accepted 0) (refused 22 r)
+
 module _ (table : List ℕ) (rows items : ℕ) (file words : List ℕ) where
   unfoldable pub startVerdict : ℕ → Outcome ℕ
   startVerdict r = cond (ltb (blockedItem false rows items words (usesIn table file r)) items)
@@ -87,16 +93,10 @@ module _ (table : List ℕ) (rows items : ℕ) (file words : List ℕ) where
   functionVerdict r = cond (eqb (getD words (activityAt r) 0) 1) (startVerdict r)
       (cond (eqb (getD words (activityAt r) 0) 2) (endVerdict r) (refused 22 r))
 
-  unfoldable pub branchVerdict : ℕ → Outcome ℕ
-  branchVerdict r = cond (eqb (kindIn table (ownerIn table r)) 20) (readyVerdict words (ownerIn table r) r) (refused 22 r)
-
-  unfoldable pub closeVerdict : ℕ → Outcome ℕ
-  closeVerdict r = cond (allDoneTo table words (ownerIn table r) r) (accepted 0) (refused 22 r)
-
   unfoldable pub rowVerdict : ℕ → Outcome ℕ
   rowVerdict r = cond (eqb (kindIn table r) 16) (functionVerdict r)
-      (cond (eqb (kindIn table r) 18) (branchVerdict r)
-      (cond (eqb (kindIn table r) 19) (closeVerdict r)
+      (cond (eqb (kindIn table r) 18) (branchVerdict table words r)
+      (cond (eqb (kindIn table r) 19) (closeVerdict table words r)
       (cond (eqb (kindIn table r) 20) (refused 22 r)
       (cond (eqb (kindIn table r) 27) (refused 22 r)
       (readyVerdict words r r)))))

@@ -195,7 +195,7 @@ module _ (d : Diagram) (H : Held d) (table : List ℕ) (h : Holds d (rowCount d)
         rw (h .closes r b) (ready-is d (H .acc) table h l _ s (activate d (branchEntries d r) (makeIdle (only r) s)) r r b e
         (open-branches d (H .acc) table h r (close d r) (w .0) (w .1) (omega arith) (rowSet r 0 l) (makeIdle (only r) s) (idle-reads d (H .acc) table h l s r b e)))
 
-    branch-step-is : kind d r ≡ branch → outcomeOf (branchVerdict table (rowCount d) (countTotal d) file l r) (tokenPassed table (ownerIn table r) (r + 1) l) ≡ wordsOutcome d (stepAs d branch r s)
+    branch-step-is : kind d r ≡ branch → outcomeOf (branchVerdict table l r) (tokenPassed table (ownerIn table r) (r + 1) l) ≡ wordsOutcome d (stepAs d branch r s)
     unfolding branchVerdict wordsOutcome
     branch-step-is f = let o = owner-in d (H .acc) table h r b in
         rw (h .owners r b, h .kinds (owner d r) o, add-one r) (decide (isKind d or-open (owner d r))
@@ -203,7 +203,7 @@ module _ (d : Diagram) (H : Held d) (table : List ℕ) (h : Holds d (rowCount d)
         (pass-reads d (H .acc) table h l s (owner d r) (suc r) o (next branch f refl) e)))
         (λ y. rw y))
 
-    and-close-is : kind d r ≡ and-close → outcomeOf (closeVerdict table (rowCount d) (countTotal d) file l r) (entered table (r + 1) (branchesTurned table false (ownerIn table r) r l)) ≡ wordsOutcome d (stepAs d and-close r s)
+    and-close-is : kind d r ≡ and-close → outcomeOf (closeVerdict table l r) (entered table (r + 1) (branchesTurned table false (ownerIn table r) r l)) ≡ wordsOutcome d (stepAs d and-close r s)
     unfolding closeVerdict wordsOutcome
     and-close-is f = rw (h .owners r b, all-done-is d (H .acc) table h (owner d r) r (closing r f) refl b l s e, add-one r) (decide (allDone d (owner d r) s)
         (λ y. rw y (ap accepted (reads-words d _ (enter d (suc r) (makeIdle (branchOf d (owner d r)) s))
