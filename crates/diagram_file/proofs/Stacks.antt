@@ -12,7 +12,7 @@ use Rattle.effbd.specs.Answers.{accepted, refused}
 use Rattle.effbd.specs.Ranges.{least, only}
 use Rattle.effbd.specs.Diagrams.{lp-open, end, numberOf, Diagram, rowCount, kind, isKind}
 use Rattle.effbd.specs.Nesting.{Frame, pop, innermostOpen, stack, owner, isClose, close, innermost, loop, follows, standsAs, nestingBroken, exitMisplaced, thirteenthOpen, nestingFault, firstFaulty, nested}
-use Rattle.agreement.specs.Basics.{decide, clash, least-found}
+use Rattle.agreement.specs.Basics.{decide, clash, or-false-right, least-found}
 use Rattle.agreement.specs.ByteLaws.{never}
 use Rattle.diagram_file.specs.declared.nesting.Part.{Part}
 use Rattle.diagram_file.specs.declared.nesting.Part.the-variants.{Opens, Turns, Closes, Stays}
@@ -95,11 +95,7 @@ module _ (d : Diagram) where
   has-pop : (o : ℕ) (fs : List Frame) → has o fs ≡ false → has o (pop fs) ≡ false
   unfolding has
   has-pop o [] h = refl
-  has-pop o (f ∷ fs) h = go (eqb (f .opened) o) (has o fs) h
-    where
-      go : (a b : Bool) → (a || b) ≡ false → b ≡ false
-      go true b z = clash refl z
-      go false b z = z
+  has-pop o (f ∷ fs) h = or-false-right (eqb (f .opened) o) (has o fs) h
 
   has-passed : (part : Part) (o q : ℕ) (fs : List Frame) → q ≢ o → has o fs ≡ false → has o (passingBy part q fs) ≡ false
   unfolding has
