@@ -2,16 +2,14 @@
 use Prim.Native.Nat.{ℕ, zero, suc, _+_, _-_, _*_, _/_, _%_, _≤_, _<_}
 use mathlib.Core.Logic.{_≢_}
 use mathlib.Core.Path.{_≡_, refl, sym, _∙_, ap, subst}
-use mathlib.Core.Bool.{true}
 use mathlib.Core.List.{List, [], _∷_, _++_, append-assoc, append-nil}
 use native.Mathlib.Omega.{arith}
 use native.Mathlib.Numerals.{add-one}
 use lib.ListN.{length, take, drop, getD, set, length-set}
 use lib.Seq.{take-suc, take-all}
 use borrow.Author.Tests.{lt-ltb, le-ltb}
-use Rattle.effbd.specs.Records.{areBytes, word}
+use Rattle.effbd.specs.Records.{word}
 use Rattle.effbd.specs.Annex.{digits, number, numbers, line, tLetter, labelLetters, fromLetters, toLetters, netLetters, marksLetters}
-use Rattle.agreement.specs.Basics.{and-intro}
 use Rattle.annex_text.specs.Laid.{behind, lay, reach, Laid}
 use Rattle.annex_text.specs.Lines.{transitionLine, recordLines, markNumbers, recordsOf, netText}
 use Rattle.annex_text.specs.RecordLaws.{transition-words}
@@ -96,9 +94,3 @@ net-of net tail records places transitions e f g h = rw (h, g, f, e)
   where
     regroup-net : (a b c d e : List ℕ) → (((a ++ b) ++ c) ++ d) ++ e ≡ a ++ ((b ++ (c ++ d)) ++ e)
     regroup-net a b c d e = simp append-assoc
-
--- what a lent slice holds are bytes
-pub all-bytes : (l : List ℕ) → ((i : ℕ) → getD l i 0 < 256) → areBytes l ≡ true
-unfolding areBytes
-all-bytes [] h = refl
-all-bytes (b ∷ l) h = and-intro (lt-ltb b 256 (h 0)) (all-bytes l (λ i. h (suc i)))

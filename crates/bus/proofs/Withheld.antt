@@ -1,29 +1,23 @@
 -- An offer that cannot be accepted: the move's own refusal, or 27 or 10. The move is tried on a copy of the state; no state is longer than 208 words.
-use Prim.Native.Nat.{ℕ, zero, suc, _+_, _-_, _*_, _≤_, _<_}
+use Prim.Native.Nat.{ℕ, _+_, _≤_, _<_}
 use mathlib.Core.Path.{_≡_, refl, sym, _∙_, ap}
-use mathlib.Core.Bool.{Bool, true, false, cond, _&&_}
-use mathlib.Core.List.{List, [], _∷_, _++_, append-nil}
+use mathlib.Core.Bool.{true}
+use mathlib.Core.List.{List, _++_, append-nil}
 use native.Mathlib.Omega.{arith}
 use native.Mathlib.Numerals.{add-one}
-use lib.ListN.{length, getD, drop, drop-of-length-le}
-use borrow.Author.Tests.{lt-ltb, ne-eqb, le-leb}
+use lib.ListN.{length, drop, drop-of-length-le}
+use borrow.Author.Tests.{ne-eqb, le-leb}
 use Rattle.effbd.specs.Answers.{Outcome, accepted, refused, andThen, returningZero, afterwards}
 use Rattle.effbd.specs.Records.{areBytes}
 use Rattle.effbd.specs.Diagrams.{Diagram}
 use Rattle.effbd.specs.Nesting.{readDiagram}
 use Rattle.effbd.specs.Layout.{places}
 use Rattle.effbd.specs.Moves.{moveOf, checkedMove, stepDiagram}
-use Rattle.agreement.specs.Basics.{and-intro}
 use Rattle.agreement.specs.AcceptedFiles.{held}
 use Rattle.words.specs.Stores.{copied}
 use Rattle.effbd.specs.BusEnds.{telegram, Offered, turnedAway, offered}
 use Rattle.bus.specs.Telegrams.{withheld}
 use Rattle.bus.proofs.Ends.{RefusedBy, offer-refused, offer-accepted}
-
-pub bytes-are : (l : List ℕ) → ((i : ℕ) → getD l i 0 < 256) → areBytes l ≡ true
-unfolding areBytes
-bytes-are [] h = refl
-bytes-are (b ∷ l) h = and-intro (lt-ltb b 256 (h zero)) (bytes-are l (λ i. h (suc i)))
 
 -- a state of more than 208 words is stepped by no file
 pub too-long : (file state : List ℕ) (code argument number value : ℕ) → areBytes file ≡ true → 208 < length state

@@ -1,19 +1,18 @@
 -- Where a net fits, the area holds its bytes and the next offset is their number; the answer and the area that a translation leaves.
-use Prim.Native.Nat.{ℕ, suc, _+_, _≤_, _<_}
+use Prim.Native.Nat.{ℕ, _+_, _≤_, _<_}
 use mathlib.Core.Path.{_≡_, refl, ap, ap₂, sym, _∙_}
 use mathlib.Core.Logic.{_≢_}
 use mathlib.Core.Bool.{true}
 use mathlib.Core.List.{List, [], _∷_, _++_}
 use native.Mathlib.Omega.{arith}
 use native.Mathlib.Nat.{zero-add}
-use lib.ListN.{length, getD, drop, length-append}
+use lib.ListN.{length, drop, length-append}
 use lib.Seq.{sets, sets-eq}
 use borrow.Author.Tests.{le-leb, lt-ltb, le-ltb}
 use Rattle.effbd.specs.Answers.{Outcome, accepted, refused}
 use Rattle.effbd.specs.Records.{areBytes}
 use Rattle.effbd.specs.Nets.{netBytes}
 use Rattle.effbd.specs.Patterns.{netOf, translatedAs, translated}
-use Rattle.agreement.specs.Basics.{and-intro}
 use Rattle.agreement.specs.AcceptedFiles.{Held, held}
 use Rattle.effbd.specs.Diagrams.{Diagram as Read}
 use Rattle.effbd.specs.Nesting.{readDiagram}
@@ -43,12 +42,6 @@ laid-fits (r ∷ rs) area at h =
     let l : length (encode r ++ flat rs) ≡ length (encode r) + length (flat rs) = length-append (encode r) (flat rs) in
     ap (λ (k : ℕ). laid (sets area at (encode r)) k rs) (past-fits at (length (encode r)) (omega arith))
     ∙ (laid-fits rs (sets area at (encode r)) (at + length (encode r)) (omega arith) ∙ sym (sets-append (encode r) (flat rs) area at))
-
--- a list whose elements are bytes
-pub bytes-all : (l : List ℕ) → ((i : ℕ) → getD l i 0 < 256) → areBytes l ≡ true
-unfolding areBytes
-bytes-all [] h = refl
-bytes-all (b ∷ l) h = and-intro (lt-ltb b 256 (h 0)) (bytes-all l (λ i. h (suc i)))
 
 -- an accepted file, its diagram's table
 module _ (file : List ℕ) (rows items : ℕ) (table : List ℕ) (h : HoldsFile file rows items table) (bytes : areBytes file ≡ true) where

@@ -1,4 +1,5 @@
-use Rattle.annex_text.proofs.Laws.{same, all-bytes}
+use Rattle.agreement.specs.ByteLaws.{bytes-are}
+use Rattle.annex_text.proofs.Laws.{same}
 use Rattle.annex_text.specs.Over.{annexed}
 use Rattle.annex_text.specs.Lines.{answerText}
 use native.Mathlib.Omega.{arith}
@@ -30,7 +31,7 @@ same-length-2 c = search needs
 -- src/lib.rt:211:1
 returns : tie.Need-returns
 returns c =
-    let bytes = all-bytes (c .before .before .before .before .before .before .before .before .before .before .before .before .args .file .now) (λ i. omega (arith, c .before .before .before .before .before .before .before .before .before .before .before .shared-slice-known .given i)) in
+    let bytes = bytes-are (c .before .before .before .before .before .before .before .before .before .before .before .before .args .file .now) (λ i. omega (arith, c .before .before .before .before .before .before .before .before .before .before .before .shared-slice-known .given i)) in
     let printed = annexed bytes (same (ap₂ answerText (c .before .before .before .before .before .before .before .translate .ensures .0) (c .before .before .before .before .before .before .before .translate .ensures .1)) (c .before .before .put-answer .ensures)) in
     (printed .long, (printed .area, c .before .before .before .before .before .before .before .translate .ensures .1))
 

@@ -2,7 +2,8 @@ use mathlib.Core.Path.{refl, _∙_, ap}
 use native.Mathlib.Omega.{arith}
 use Rattle.effbd.specs.Moves.{stepDiagram}
 use Rattle.bus.specs.Telegrams.{withheld}
-use Rattle.bus.proofs.Withheld.{bytes-are, too-long, withheld-zero}
+use Rattle.bus.proofs.Withheld.{too-long, withheld-zero}
+use Rattle.agreement.specs.ByteLaws.{bytes-are}
 use borrow.Author.Needs.{needs}
 use Rattle.bus.proofs.withhold.Statement.{statement}
 use Rattle.bus.proofs.withhold.Tie as tie

@@ -1,6 +1,6 @@
 use Rattle.play.proofs.Starts.{unplayed, follower-off, leader-off, both-fresh}
 use Rattle.play.specs.Played.{playable}
-use Rattle.bus.proofs.Withheld.{bytes-are}
+use Rattle.agreement.specs.ByteLaws.{bytes-are}
 use Rattle.effbd.specs.Answers.{said}
 use borrow.Author.Tests.{not-true, not-false}
 use native.Mathlib.Omega.{arith}

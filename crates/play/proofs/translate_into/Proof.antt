@@ -1,5 +1,5 @@
 use Rattle.play.proofs.Starts.{no-net, net-laid}
-use Rattle.bus.proofs.Withheld.{bytes-are}
+use Rattle.agreement.specs.ByteLaws.{bytes-are}
 use Rattle.effbd.specs.Answers.{said}
 use native.Mathlib.Omega.{arith}
 use borrow.Author.Needs.{needs}

@@ -1,5 +1,6 @@
 use native.Mathlib.Omega.{arith}
-use Rattle.translate.proofs.Fits.{bytes-all, measured, too-short, long-enough}
+use Rattle.agreement.specs.ByteLaws.{bytes-are}
+use Rattle.translate.proofs.Fits.{measured, too-short, long-enough}
 use borrow.Author.Needs.{needs}
 use Rattle.translate.proofs.write.Statement.{statement}
 use Rattle.translate.proofs.write.Tie as tie
@@ -12,12 +13,12 @@ put-net-requires c κs = search needs
 
 cast-value : tie.Need-cast-value
 cast-value c = let a = c .before .before .before .before .before .before .before .args in
-    let bytes = bytes-all (a .file .now) (λ i. omega (arith, c .before .before .before .before .before .shared-slice-known2 .given i)) in
+    let bytes = bytes-are (a .file .now) (λ i. omega (arith, c .before .before .before .before .before .shared-slice-known2 .given i)) in
     let small = measured (a .file .now) (a .rows) (a .items) (a .table .now) (c .before .before .before .before .before .before .before .pre) bytes (c .before .before .put-net .ensures) in omega arith
 
 returns : tie.Need-returns
 returns c = let a = c .before .before .before .before .before .before .before .args in
-    let bytes = bytes-all (a .file .now) (λ i. omega (arith, c .before .before .before .before .before .shared-slice-known2 .given i)) in
+    let bytes = bytes-are (a .file .now) (λ i. omega (arith, c .before .before .before .before .before .shared-slice-known2 .given i)) in
     too-short (a .file .now) (a .rows) (a .items) (a .table .now) (c .before .before .before .before .before .before .before .pre) bytes (c .before .before .put-net .ensures) (c .if1 .taken)
 
 put-net-requires-2 : tie.Need-put-net-requires-2
@@ -25,7 +26,7 @@ put-net-requires-2 c κs = search needs
 
 cast-length : tie.Need-cast-length
 cast-length c = let a = c .before .before .before .before .before .before .before .before .before .before .before .args in
-    let bytes = bytes-all (a .file .now) (λ i. omega (arith, c .before .before .before .before .before .before .before .before .before .shared-slice-known2 .given i)) in
+    let bytes = bytes-are (a .file .now) (λ i. omega (arith, c .before .before .before .before .before .before .before .before .before .shared-slice-known2 .given i)) in
     let small = measured (a .file .now) (a .rows) (a .items) (a .table .now) (c .before .before .before .before .before .before .before .before .before .before .before .pre) bytes (c .before .before .put-net2 .ensures) in omega arith
 
 same-length : tie.Need-same-length
@@ -33,7 +34,7 @@ same-length c = search needs
 
 returns-2 : tie.Need-returns-2
 returns-2 c = let a = c .before .before .before .before .before .before .before .before .before .before .before .args in
-    let bytes = bytes-all (a .file .now) (λ i. omega (arith, c .before .before .before .before .before .before .before .before .before .shared-slice-known2 .given i)) in
+    let bytes = bytes-are (a .file .now) (λ i. omega (arith, c .before .before .before .before .before .before .before .before .before .shared-slice-known2 .given i)) in
     long-enough (a .file .now) (a .rows) (a .items) (a .table .now) (c .before .before .before .before .before .before .before .before .before .before .before .pre) bytes (c .before .before .before .before .before .before .put-net .ensures) (omega (arith, c .before .before .before .before .if1 .left)) (c .before .before .put-net2 .ensures)
 
 pub write-spec : {M : Type 1} → statement M
