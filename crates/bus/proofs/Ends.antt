@@ -1,19 +1,16 @@
 -- The leader's call and the follower's call, by what their stepper answered.
 use Prim.Native.Nat.{ℕ, zero, suc, _≤_, _<_}
-use mathlib.Core.Path.{_≡_, refl, sym, _∙_, ap, ap₂, subst}
-use mathlib.Core.Logic.{_≢_}
-use mathlib.Core.Bool.{Bool, true, false, cond}
+use mathlib.Core.Path.{_≡_, refl, sym, _∙_, ap, ap₂}
+use mathlib.Core.Bool.{cond}
 use mathlib.Core.List.{List, _++_}
 use native.Mathlib.Omega.{arith}
 use lib.ListN.{length, drop}
-use lib.Dec.{leb, ltb, eqb}
+use lib.Dec.{leb, eqb}
 use borrow.Author.Tests.{lt-ltb, le-ltb, le-leb, lt-leb}
-use Rattle.effbd.specs.declared.Answer.{Answer}
-use Rattle.effbd.specs.declared.Answer.the-variants.{Accepted, Refused}
-use Rattle.effbd.specs.Answers.{Outcome, accepted, refused, unless, said, returningZero, afterwards}
+use Rattle.effbd.specs.Answers.{Outcome, accepted, refused, unless, returningZero, afterwards}
 use Rattle.effbd.specs.Moves.{stepDiagram}
 use Rattle.effbd.specs.Firing.{stepNet}
-use Rattle.effbd.specs.BusEnds.{telegram, isTelegram, stationAt, numberAt, codeAt, argumentAt, Offered, turnedAway, offeredAs, offered, Taken, takenAs, taken}
+use Rattle.effbd.specs.BusEnds.{telegram, isTelegram, stationAt, numberAt, codeAt, argumentAt, turnedAway, offered, Taken, takenAs, taken}
 use Rattle.bus.specs.Telegrams.{judged, counted}
 
 -- what a stepper answered and left, by its outcome

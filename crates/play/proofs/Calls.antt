@@ -1,19 +1,19 @@
 -- One call made, an offer or a hand, from what the leader's and the follower's calls leave.
-use Prim.Native.Nat.{ℕ, _-_, _≤_, _<_}
+use Prim.Native.Nat.{ℕ, _-_, _≤_}
 use mathlib.Core.Path.{_≡_, refl, sym, _∙_, ap}
 use mathlib.Core.Logic.{_≢_}
-use mathlib.Core.Bool.{true, false, cond, _&&_, _||_}
+use mathlib.Core.Bool.{true, false, _&&_}
 use mathlib.Core.List.{List, [], _∷_, _++_, append-nil}
 use native.Mathlib.Omega.{arith}
-use lib.ListN.{length, take, drop, drop-of-length-le, length-drop, take-append-drop}
-use lib.Dec.{leb, eqb}
-use borrow.Author.Tests.{eq-eqb, ne-eqb, leb-true, lt-leb, leb-false}
+use lib.ListN.{length, take, drop, drop-of-length-le, length-drop}
+use lib.Dec.{leb}
+use borrow.Author.Tests.{eq-eqb, ne-eqb, leb-true}
 use Rattle.effbd.specs.Answers.{Outcome, afterwards}
 use Rattle.effbd.specs.Records.{word, lengthAt, kindAt}
 use Rattle.effbd.specs.BusEnds.{offered, taken}
 use Rattle.effbd.specs.History.{Call, offer, hand}
 use Rattle.agreement.specs.Basics.{decide, and-left, and-right}
-use Rattle.play.specs.CallList.{isCall, callAt, afterCall}
+use Rattle.play.specs.CallList.{isCall, callAt}
 use Rattle.play.specs.Played.{Live, liveAfter, liveSeen, Called}
 
 module _ (call : List ℕ) (is : isCall call ≡ true) where

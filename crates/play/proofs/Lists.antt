@@ -1,11 +1,10 @@
 -- A list of calls, call by call: the turn of the loop that makes them.
-use Prim.Native.Nat.{ℕ, zero, suc, _+_, _-_, _≤_, _<_}
-use mathlib.Core.Path.{_≡_, refl, sym, _∙_, ap, ap₂, subst}
-use mathlib.Core.Bool.{Bool, true, false, cond}
+use Prim.Native.Nat.{ℕ, zero, suc, _+_, _≤_}
+use mathlib.Core.Path.{_≡_, refl, sym, _∙_, ap, ap₂}
+use mathlib.Core.Bool.{true, false}
 use mathlib.Core.List.{List, [], _∷_, _++_, append-assoc}
 use native.Mathlib.Omega.{arith}
 use lib.ListN.{length, take, drop}
-use Rattle.effbd.specs.Answers.{afterwards}
 use Rattle.effbd.specs.Records.{lengthAt}
 use Rattle.effbd.specs.History.{Call, offer, hand, Ends, Seen, run, seen, runAll, seenAll}
 use Rattle.play.specs.CallList.{isCall, callAt, callsIn, afterCall, listAfter}

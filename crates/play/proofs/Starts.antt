@@ -1,9 +1,9 @@
 -- Both ends made ready, or a refusal: from what the parts of `play` leave to what it promises.
-use Prim.Native.Nat.{ℕ, _-_, _≤_}
+use Prim.Native.Nat.{ℕ, _≤_}
 use mathlib.Core.Path.{_≡_, refl, sym, _∙_, ap, ap₂, subst}
 use mathlib.Core.Logic.{_≢_}
 use mathlib.Core.Bool.{Bool, true, false, cond, _&&_}
-use mathlib.Core.List.{List, [], _∷_, _++_}
+use mathlib.Core.List.{List, _++_}
 use native.Mathlib.Omega.{arith}
 use lib.ListN.{length, take, drop, length-append}
 use lib.Seq.{take-at}
@@ -16,7 +16,7 @@ use Rattle.effbd.specs.Nesting.{readDiagram}
 use Rattle.effbd.specs.Layout.{places}
 use Rattle.effbd.specs.States.{freshWords}
 use Rattle.effbd.specs.Moves.{freshDiagram}
-use Rattle.effbd.specs.Nets.{Net, netBytes, readNet}
+use Rattle.effbd.specs.Nets.{Net, readNet}
 use Rattle.effbd.specs.Firing.{netWordCount, freshNetWords, freshNet}
 use Rattle.effbd.specs.Patterns.{netOf, Translated, translated}
 use Rattle.effbd.specs.History.{Seen, freshEnds, netFileOf}
@@ -30,7 +30,7 @@ use Rattle.net_file.specs.Due.{wordsOf}
 use Rattle.translate.proofs.Sizes.{net-small}
 use Rattle.play.specs.CallList.{callsOf, listAfter}
 use Rattle.play.specs.Parts.{netLength, Laid, NetOf, asLong}
-use Rattle.play.specs.Played.{Live, AllCalled, playable, Played, Unplayed, PlayedAs}
+use Rattle.play.specs.Played.{Live, AllCalled, playable, Played, PlayedAs}
 use Rattle.play.proofs.Lists.{live-all, live-seen-all}
 
 -- a state's length

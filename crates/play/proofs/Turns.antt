@@ -2,19 +2,19 @@
 use Prim.Native.Nat.{ℕ, zero, suc, _+_, _-_, _*_, _≤_, _<_}
 use mathlib.Core.Path.{_≡_, refl, sym, _∙_, ap, ap₂, subst}
 use mathlib.Core.Logic.{_≢_}
-use mathlib.Core.Bool.{Bool, true, false, cond, _&&_, _||_}
-use mathlib.Core.List.{List, [], _∷_, _++_, append-assoc}
+use mathlib.Core.Bool.{true, false, cond, _&&_, _||_}
+use mathlib.Core.List.{List, _++_, append-assoc}
 use native.Mathlib.Omega.{arith}
-use lib.ListN.{length, take, drop, getD, length-append, length-drop, take-append-drop, List·getD-append}
-use lib.Seq.{length-take-le, take-append-le, drop-append-le, take-at, drop-at, drop-drop}
+use lib.ListN.{length, take, drop, length-append, length-drop, take-append-drop, List·getD-append}
+use lib.Seq.{length-take-le, take-append-le, drop-append-le, take-at, drop-at}
 use lib.Dec.{leb, eqb}
-use borrow.Author.Tests.{eq-eqb, ne-eqb, leb-true, le-leb, eqb-true}
+use borrow.Author.Tests.{leb-true, le-leb, eqb-true}
 use Rattle.effbd.specs.Records.{word, lengthAt, kindAt}
 use Rattle.effbd.specs.History.{Call, offer, hand, Seen}
 use Rattle.agreement.specs.Basics.{decide, and-left, and-right}
 use Rattle.play.specs.CallList.{isCall, callAt, afterCall}
 use Rattle.play.specs.Played.{Live, liveAfter, liveSeen, Called, AllCalled}
-use Rattle.play.proofs.Lists.{Making, Made, making-turn, made-all, made-early}
+use Rattle.play.proofs.Lists.{Making, Made, making-turn, made-early}
 use Rattle.play.proofs.Calls.{all-taken, offer-room}
 
 -- the tail that is lent is the rest of the list

@@ -10,7 +10,7 @@ ghost use Rattle.effbd.specs.Nets.{readNet};
 ghost use Rattle.effbd.specs.Firing.{freshNet};
 ghost use Rattle.play.specs.CallList.{isCall};
 ghost use Rattle.play.specs.Parts.{netLength, Laid, NetOf, asLong};
-ghost use Rattle.play.specs.Played.{Live, Called, AllCalled, playable, PlayedAs};
+ghost use Rattle.play.specs.Played.{Called, AllCalled, playable, PlayedAs};
 use effbd::Answer;
 
 // How many moves the leader sent and the follower took.

@@ -4,7 +4,7 @@ pub mod kinds;
 
 ghost use mathlib.Core.Path.{_≡_};
 ghost use Prim.Native.Nat.{_+_, _*_, _<_};
-ghost use lib.ListN.{length, drop, getD, set};
+ghost use lib.ListN.{drop, getD, set};
 ghost use Rattle.effbd.specs.Records.{word as wordIn, faultAt};
 ghost use Rattle.words.specs.Stores.{longIn, wordPut, longPut, copied};
 

@@ -5,53 +5,37 @@ use native.Mathlib.Omega.{arith}
 use borrow.Author.Needs.{needs}
 use Rattle.annex.proofs.main.Statement.{statement}
 use Rattle.annex.proofs.main.Tie as tie
-use Rattle.annex.proofs.main.Reads as reads
-use Rattle.annex.proofs.main.Lts as lts
-use Rattle.annex_text.proofs.annex.Reads as annex-reads
-use Rattle.io.proofs.read_full.Reads as read-full-reads
-use Rattle.io.proofs.write_all.Reads as write-all-reads
 
--- src/main.rt:6:33
 slice-aggregate-read-full : tie.Need-slice-aggregate-read-full
 slice-aggregate-read-full c = search needs
 
--- src/main.rt:6:9
 read-full-requires : tie.Need-read-full-requires
 read-full-requires c κs = search needs
 
--- src/main.rt:9:34
 array-share-prefix-file : tie.Need-array-share-prefix-file
 array-share-prefix-file c = search needs
 
--- src/main.rt:9:34
 slice-aggregate-annex : tie.Need-slice-aggregate-annex
 slice-aggregate-annex c = search needs
 
--- src/main.rt:9:49
 slice-aggregate-annex-2 : tie.Need-slice-aggregate-annex-2
 slice-aggregate-annex-2 c = search needs
 
--- src/main.rt:9:59
 slice-aggregate-annex-3 : tie.Need-slice-aggregate-annex-3
 slice-aggregate-annex-3 c = search needs
 
--- src/main.rt:9:9
 annex-requires : tie.Need-annex-requires
 annex-requires c κs = search needs
 
--- src/main.rt:10:22
 array-share-prefix-text : tie.Need-array-share-prefix-text
 array-share-prefix-text c = let a = size-fits _ _ _ (c .before .before .annex .ensures .0) (omega arith) in omega arith
 
--- src/main.rt:10:22
 slice-aggregate-write-all : tie.Need-slice-aggregate-write-all
 slice-aggregate-write-all c = let a = size-fits _ _ _ (c .before .before .before .annex .ensures .0) (omega arith) in sym (length-take-le (c .before .before .before .annex .result) _ (omega arith))
 
--- src/main.rt:10:5
 write-all-requires : tie.Need-write-all-requires
 write-all-requires c κs = search needs
 
--- src/main.rt:4:1
 returns : tie.Need-returns
 returns c = search needs
 

@@ -7,28 +7,19 @@ use mathlib.Core.Path.{ap₂}
 use borrow.Author.Needs.{needs}
 use Rattle.annex_text.proofs.annex.Statement.{statement}
 use Rattle.annex_text.proofs.annex.Tie as tie
-use Rattle.annex_text.proofs.annex.Reads as reads
-use Rattle.annex_text.proofs.annex.Lts as lts
-use Rattle.annex_text.proofs.put_answer.Reads as put-answer-reads
-use Rattle.translate.proofs.translate.Reads as translate-reads
 
--- src/lib.rt:216:9
 translate-requires : tie.Need-translate-requires
 translate-requires c κs = search needs
 
--- src/lib.rt:217:5
 put-answer-requires : tie.Need-put-answer-requires
 put-answer-requires c κs = search needs
 
--- src/lib.rt:211:1
 same-length : tie.Need-same-length
 same-length c = search needs
 
--- src/lib.rt:211:1
 same-length-2 : tie.Need-same-length-2
 same-length-2 c = search needs
 
--- src/lib.rt:211:1
 returns : tie.Need-returns
 returns c =
     let bytes = bytes-are (c .before .before .before .before .before .before .before .before .before .before .before .before .args .file .now) (λ i. omega (arith, c .before .before .before .before .before .before .before .before .before .before .before .shared-slice-known .given i)) in

@@ -3,19 +3,14 @@ use borrow.Author.Needs.{needs}
 use Rattle.annex_text.specs.Laid.{behind}
 use Rattle.annex_text.proofs.behind.Statement.{statement}
 use Rattle.annex_text.proofs.behind.Tie as tie
-use Rattle.annex_text.proofs.behind.Reads as reads
-use Rattle.annex_text.proofs.behind.Lts as lts
 
--- src/lib.rt:16:16
 add-result : tie.Need-add-result
 add-result c = search needs
 
--- src/lib.rt:16:9
 returns : tie.Need-returns
 unfolding behind
 returns c = rw (lt-ltb _ _ (c .if1 .taken))
 
--- src/lib.rt:12:1
 returns-2 : tie.Need-returns-2
 unfolding behind
 returns-2 c = rw (le-ltb _ _ (c .if1 .left))

@@ -6,61 +6,43 @@ use mathlib.Core.Path.{sym, ap, _∙_}
 use borrow.Author.Needs.{needs}
 use Rattle.annex_text.proofs.put_answer.Statement.{statement}
 use Rattle.annex_text.proofs.put_answer.Tie as tie
-use Rattle.annex_text.proofs.put_answer.Reads as reads
-use Rattle.annex_text.proofs.put_answer.Lts as lts
-use Rattle.annex_text.proofs.first.Reads as first-reads
-use Rattle.annex_text.proofs.put_line.Reads as put-line-reads
-use Rattle.annex_text.proofs.put_net.Reads as put-net-reads
 
--- src/lib.rt:188:26
 enum-known-answer : tie.Need-enum-known-answer
 enum-known-answer c = search needs
 
--- src/lib.rt:188:63
 cast-first : tie.Need-cast-first
 cast-first c = search needs
 
--- src/lib.rt:188:52
 first-requires : tie.Need-first-requires
 first-requires c κs = search needs
 
--- src/lib.rt:188:35
 put-net-requires : tie.Need-put-net-requires
 put-net-requires c κs = search needs
 
--- src/lib.rt:189:25
 enum-known-answer-2 : tie.Need-enum-known-answer-2
 enum-known-answer-2 c = search needs
 
--- src/lib.rt:189:61
 slice-aggregate-put-line : tie.Need-slice-aggregate-put-line
 slice-aggregate-put-line c = search needs
 
--- src/lib.rt:189:73
 cast-put-line : tie.Need-cast-put-line
 cast-put-line c = search needs
 
--- src/lib.rt:189:90
 cast-put-line-2 : tie.Need-cast-put-line-2
 cast-put-line-2 c = search needs
 
--- src/lib.rt:189:43
 put-line-requires : tie.Need-put-line-requires
 put-line-requires c κs = search needs
 
--- src/lib.rt:184:1
 same-length : tie.Need-same-length
 same-length c = search needs
 
--- src/lib.rt:184:1
 returns : tie.Need-returns
 returns c = same (ap netText (c .before .before .before .first .ensures) ∙ sym (ap (λ (x : Answer). answerText (said x) (c .before .before .before .before .before .before .before .before .before .before .args .net .now)) (c .before .before .before .before .before .before .answer .given .1))) (c .before .before .put-net .ensures)
 
--- src/lib.rt:184:1
 same-length-2 : tie.Need-same-length-2
 same-length-2 c = search needs
 
--- src/lib.rt:184:1
 returns-2 : tie.Need-returns-2
 returns-2 c = same (sym (ap (λ (x : Answer). answerText (said x) (c .before .before .before .before .before .before .before .before .before .before .args .net .now)) (c .before .before .before .before .before .before .answer2 .given .1))) (c .before .before .put-line .ensures)
 

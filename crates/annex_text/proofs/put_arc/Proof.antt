@@ -5,76 +5,55 @@ use mathlib.Core.Path.{sym, ap}
 use borrow.Author.Needs.{needs}
 use Rattle.annex_text.proofs.put_arc.Statement.{statement}
 use Rattle.annex_text.proofs.put_arc.Tie as tie
-use Rattle.annex_text.proofs.put_arc.Reads as reads
-use Rattle.annex_text.proofs.put_arc.Lts as lts
-use Rattle.annex_text.proofs.put_line.Reads as put-line-reads
-use Rattle.words.proofs.word.Reads as word-reads
 
--- src/lib.rt:86:9
 word-requires : tie.Need-word-requires
 word-requires c κs = search needs
 
--- src/lib.rt:87:17
 word-requires-2 : tie.Need-word-requires-2
 word-requires-2 c κs = search needs
 
--- src/lib.rt:87:17
 cast-first : tie.Need-cast-first
 cast-first c = search needs
 
--- src/lib.rt:88:18
 word-requires-3 : tie.Need-word-requires-3
 word-requires-3 c κs = search needs
 
--- src/lib.rt:88:18
 cast-second : tie.Need-cast-second
 cast-second c = search needs
 
--- src/lib.rt:90:35
 slice-aggregate-put-line : tie.Need-slice-aggregate-put-line
 slice-aggregate-put-line c = search needs
 
--- src/lib.rt:90:9
 put-line-requires : tie.Need-put-line-requires
 put-line-requires c κs = search needs
 
--- src/lib.rt:90:9
 same-length : tie.Need-same-length
 same-length c = search needs
 
--- src/lib.rt:90:9
 returns : tie.Need-returns
 returns c = same (arc-of _ _ _ _ _ (c .before .before .before .before .before .before .before .before .word .ensures) (c .before .before .before .before .before .before .before .word2 .ensures) (c .before .before .before .before .before .before .word3 .ensures) (sym (ap arcLetters (c .before .before .before .before .before .if1 .taken)))) (c .before .before .put-line .ensures)
 
--- src/lib.rt:93:35
 slice-aggregate-put-line-2 : tie.Need-slice-aggregate-put-line-2
 slice-aggregate-put-line-2 c = search needs
 
--- src/lib.rt:93:9
 put-line-requires-2 : tie.Need-put-line-requires-2
 put-line-requires-2 c κs = search needs
 
--- src/lib.rt:93:9
 same-length-2 : tie.Need-same-length-2
 same-length-2 c = search needs
 
--- src/lib.rt:93:9
 returns-2 : tie.Need-returns-2
 returns-2 c = same (arc-of _ _ _ _ _ (c .before .before .before .before .before .before .before .before .before .word .ensures) (c .before .before .before .before .before .before .before .before .word2 .ensures) (c .before .before .before .before .before .before .before .word3 .ensures) (sym (ap arcLetters (c .before .before .before .before .before .if2 .taken)))) (c .before .before .put-line2 .ensures)
 
--- src/lib.rt:95:24
 slice-aggregate-put-line-3 : tie.Need-slice-aggregate-put-line-3
 slice-aggregate-put-line-3 c = search needs
 
--- src/lib.rt:95:5
 put-line-requires-3 : tie.Need-put-line-requires-3
 put-line-requires-3 c κs = search needs
 
--- src/lib.rt:83:1
 same-length-3 : tie.Need-same-length-3
 same-length-3 c = search needs
 
--- src/lib.rt:83:1
 returns-3 : tie.Need-returns-3
 returns-3 c = same (arc-of _ _ _ _ _ (c .before .before .before .before .before .before .before .before .before .word .ensures) (c .before .before .before .before .before .before .before .before .word2 .ensures) (c .before .before .before .before .before .before .before .word3 .ensures) (give-letters _ (c .before .before .before .before .before .before .if1 .left) (c .before .before .before .before .before .if2 .left))) (c .before .before .put-line3 .ensures)
 

@@ -7,9 +7,6 @@ use native.Mathlib.Omega.{arith}
 use Rattle.annex_text.specs.Laid.{Laid}
 use Rattle.annex_text.proofs.put_letters.Statement.{statement}
 use Rattle.annex_text.proofs.put_letters.Tie as tie
-use Rattle.annex_text.proofs.put_letters.Reads as reads
-use Rattle.annex_text.proofs.put_letters.Lts as lts
-use Rattle.annex_text.proofs.put.Reads as put-reads
 
 abbrev Inv-loop : tie.InvT-loop
 Inv-loop text₀ at letters next₀ i₀ text next i = (i ≤ length letters) × Laid text₀ next₀ text next (take i letters)
@@ -17,37 +14,29 @@ Inv-loop text₀ at letters next₀ i₀ text next i = (i ≤ length letters) ×
 abbrev μ-loop : tie.MeasureT-loop
 μ-loop text₀ at letters next₀ i₀ text next i = length letters - i
 
--- src/lib.rt:35:5
 loop-holds : tie.Need-loop-holds Inv-loop μ-loop
 loop-holds c = (search needs, still _ _)
 
--- src/lib.rt:36:32
 shared-slice-read-put : tie.Need-shared-slice-read-put Inv-loop μ-loop
 shared-slice-read-put c = search needs
 
--- src/lib.rt:36:9
 put-requires : tie.Need-put-requires Inv-loop μ-loop
 put-requires c κs = search needs
 
--- src/lib.rt:37:9
 add-i : tie.Need-add-i Inv-loop μ-loop
 add-i c = search needs
 
--- src/lib.rt:35:5
 loop-less : tie.Need-loop-less Inv-loop μ-loop
 loop-less c = search needs
 
--- src/lib.rt:35:5
 loop-again : tie.Need-loop-again Inv-loop μ-loop
 loop-again c =
     let l = c .before .before .before .before .before .before .loop in
     (omega arith, letter (c .before .before .before .before .before .before .before .before .before .args .letters .now) (l .i) _ (omega arith) refl (l .inv .1) (c .before .before .put .ensures))
 
--- src/lib.rt:30:1
 same-length : tie.Need-same-length Inv-loop μ-loop
 same-length c = laid-length (c .before .loop .inv .1)
 
--- src/lib.rt:30:1
 returns : tie.Need-returns Inv-loop μ-loop
 returns c = all-letters (c .before .before .before .before .args .letters .now) (c .before .loop .i) (omega arith) (c .before .loop .inv .1)
 

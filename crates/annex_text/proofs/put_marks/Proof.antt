@@ -5,11 +5,6 @@ use Prim.Native.Nat.{_≤_, _-_}
 use borrow.Author.Needs.{needs}
 use Rattle.annex_text.proofs.put_marks.Statement.{statement}
 use Rattle.annex_text.proofs.put_marks.Tie as tie
-use Rattle.annex_text.proofs.put_marks.Reads as reads
-use Rattle.annex_text.proofs.put_marks.Lts as lts
-use Rattle.annex_text.proofs.put_number.Reads as put-number-reads
-use Rattle.words.proofs.tail.Reads as tail-reads
-use Rattle.words.proofs.word.Reads as word-reads
 
 abbrev Inv-loop : tie.InvT-loop
 Inv-loop text₀ at places bytes rest₀ next₀ i₀ text rest next i = (i ≤ places) × Ongoing text₀ next₀ text next (markNumbers (places - i) rest) (markNumbers places bytes)
@@ -17,46 +12,36 @@ Inv-loop text₀ at places bytes rest₀ next₀ i₀ text rest next i = (i ≤ 
 abbrev μ-loop : tie.MeasureT-loop
 μ-loop text₀ at places bytes rest₀ next₀ i₀ text rest next i = places - i
 
--- src/lib.rt:162:5
 loop-holds : tie.Need-loop-holds Inv-loop μ-loop
 loop-holds c = let a = c .before .before .args in (search needs, marks-begun (a .text .now) (a .at) (a .places) (a .bytes .now))
 
--- src/lib.rt:163:39
 word-requires : tie.Need-word-requires Inv-loop μ-loop
 word-requires c κs = search needs
 
--- src/lib.rt:163:39
 cast-put-number : tie.Need-cast-put-number Inv-loop μ-loop
 cast-put-number c = search needs
 
--- src/lib.rt:163:9
 put-number-requires : tie.Need-put-number-requires Inv-loop μ-loop
 put-number-requires c κs = search needs
 
--- src/lib.rt:164:13
 tail-requires : tie.Need-tail-requires Inv-loop μ-loop
 tail-requires c κs = search needs
 
--- src/lib.rt:166:9
 add-i : tie.Need-add-i Inv-loop μ-loop
 add-i c = search needs
 
--- src/lib.rt:162:5
 loop-less : tie.Need-loop-less Inv-loop μ-loop
 loop-less c = search needs
 
--- src/lib.rt:162:5
 loop-again : tie.Need-loop-again Inv-loop μ-loop
 loop-again c =
     let a = c .before .before .before .before .before .before .before .before .before .before .args in
     let l = c .before .before .before .before .before .before .before .loop in
     (omega arith, marks-turn (a .places) (l .i) _ (a .bytes .now) (l .rest .now) _ (c .before .before .before .before .before .before .loop-test .taken) (c .before .before .before .before .word .ensures) (c .tail .ensures) (l .inv .1) (c .before .before .before .put-number .ensures))
 
--- src/lib.rt:156:1
 same-length : tie.Need-same-length Inv-loop μ-loop
 same-length c = ongoing-length (c .before .loop .inv .1)
 
--- src/lib.rt:156:1
 returns : tie.Need-returns Inv-loop μ-loop
 returns c = let a = c .before .before .before .before .args in marks-done (a .places) (c .before .loop .i) (a .bytes .now) (c .before .loop .rest .now) (omega arith) (c .before .loop .inv .1)
 

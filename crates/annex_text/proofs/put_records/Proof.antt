@@ -4,12 +4,6 @@ use native.Mathlib.Omega.{arith}
 use borrow.Author.Needs.{needs}
 use Rattle.annex_text.proofs.put_records.Statement.{statement}
 use Rattle.annex_text.proofs.put_records.Tie as tie
-use Rattle.annex_text.proofs.put_records.Reads as reads
-use Rattle.annex_text.proofs.put_records.Lts as lts
-use Rattle.annex_text.proofs.put_record.Reads as put-record-reads
-use Rattle.annex_text.proofs.record_size.Reads as record-size-reads
-use Rattle.annex_text.proofs.transitions_at.Reads as transitions-at-reads
-use Rattle.words.proofs.tail.Reads as tail-reads
 
 abbrev Inv-loop : tie.InvT-loop
 Inv-loop text₀ at records rest₀ next₀ j₀ text rest next j = InRecords text₀ next₀ text next records rest j
@@ -17,46 +11,36 @@ Inv-loop text₀ at records rest₀ next₀ j₀ text rest next j = InRecords te
 abbrev μ-loop : tie.MeasureT-loop
 μ-loop text₀ at records rest₀ next₀ j₀ text rest next j = length rest
 
--- src/lib.rt:146:5
 loop-holds : tie.Need-loop-holds Inv-loop μ-loop
 loop-holds c = let a = c .before .before .args in records-begun (a .text .now) (a .at) (a .records .now)
 
--- src/lib.rt:147:9
 put-record-requires : tie.Need-put-record-requires Inv-loop μ-loop
 put-record-requires c κs = search needs
 
--- src/lib.rt:148:14
 transitions-at-requires : tie.Need-transitions-at-requires Inv-loop μ-loop
 transitions-at-requires c κs = search needs
 
--- src/lib.rt:148:9
 add-j : tie.Need-add-j Inv-loop μ-loop
 add-j c = omega (arith, counts-most (c .before .before .before .before .before .before .loop .rest .now), c .before .before .before .before .before .before .loop .inv .few, c .transitions-at .ensures)
 
--- src/lib.rt:149:38
 record-size-requires : tie.Need-record-size-requires Inv-loop μ-loop
 record-size-requires c κs = search needs
 
--- src/lib.rt:149:13
 tail-requires : tie.Need-tail-requires Inv-loop μ-loop
 tail-requires c κs = search needs
 
--- src/lib.rt:146:5
 loop-less : tie.Need-loop-less Inv-loop μ-loop
 loop-less c = falls (c .before .before .before .before .before .before .before .before .loop .rest .now) _ _ (c .before .before .before .before .before .before .before .loop-test .taken) (c .before .record-size .ensures) (c .tail .ensures)
 
--- src/lib.rt:146:5
 loop-again : tie.Need-loop-again Inv-loop μ-loop
 loop-again c =
     let a = c .before .before .before .before .before .before .before .before .before .before .before .args in
     let l = c .before .before .before .before .before .before .before .before .loop in
     records-turn (a .records .now) (l .rest .now) _ (l .j) _ _ (c .before .before .before .before .before .before .before .loop-test .taken) (c .before .before .transitions-at .ensures) (c .before .record-size .ensures) (c .tail .ensures) (l .inv) (c .before .before .before .before .before .put-record .ensures)
 
--- src/lib.rt:140:1
 same-length : tie.Need-same-length Inv-loop μ-loop
 same-length c = ongoing-length (c .before .loop .inv .ongoing)
 
--- src/lib.rt:140:1
 returns : tie.Need-returns Inv-loop μ-loop
 returns c = let a = c .before .before .before .before .args in records-done (a .records .now) (c .before .loop .rest .now) (c .before .loop .j) (omega arith) (c .before .loop .inv)
 

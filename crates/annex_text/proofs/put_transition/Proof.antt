@@ -2,77 +2,55 @@ use Rattle.annex_text.proofs.Laws.{and-then, same, transition-of}
 use borrow.Author.Needs.{needs}
 use Rattle.annex_text.proofs.put_transition.Statement.{statement}
 use Rattle.annex_text.proofs.put_transition.Tie as tie
-use Rattle.annex_text.proofs.put_transition.Reads as reads
-use Rattle.annex_text.proofs.put_transition.Lts as lts
-use Rattle.annex_text.proofs.put.Reads as put-reads
-use Rattle.annex_text.proofs.put_named.Reads as put-named-reads
-use Rattle.words.proofs.word.Reads as word-reads
 
--- src/lib.rt:102:33
 slice-aggregate-put-named : tie.Need-slice-aggregate-put-named
 slice-aggregate-put-named c = search needs
 
--- src/lib.rt:102:9
 put-named-requires : tie.Need-put-named-requires
 put-named-requires c κs = search needs
 
--- src/lib.rt:103:32
 slice-aggregate-put-named-2 : tie.Need-slice-aggregate-put-named-2
 slice-aggregate-put-named-2 c = search needs
 
--- src/lib.rt:103:43
 word-requires : tie.Need-word-requires
 word-requires c κs = search needs
 
--- src/lib.rt:103:43
 cast-put-named : tie.Need-cast-put-named
 cast-put-named c = search needs
 
--- src/lib.rt:103:9
 put-named-requires-2 : tie.Need-put-named-requires-2
 put-named-requires-2 c κs = search needs
 
--- src/lib.rt:104:32
 slice-aggregate-put-named-3 : tie.Need-slice-aggregate-put-named-3
 slice-aggregate-put-named-3 c = search needs
 
--- src/lib.rt:104:42
 word-requires-2 : tie.Need-word-requires-2
 word-requires-2 c κs = search needs
 
--- src/lib.rt:104:42
 cast-put-named-2 : tie.Need-cast-put-named-2
 cast-put-named-2 c = search needs
 
--- src/lib.rt:104:9
 put-named-requires-3 : tie.Need-put-named-requires-3
 put-named-requires-3 c κs = search needs
 
--- src/lib.rt:105:32
 slice-aggregate-put-named-4 : tie.Need-slice-aggregate-put-named-4
 slice-aggregate-put-named-4 c = search needs
 
--- src/lib.rt:105:40
 word-requires-3 : tie.Need-word-requires-3
 word-requires-3 c κs = search needs
 
--- src/lib.rt:105:40
 cast-put-named-3 : tie.Need-cast-put-named-3
 cast-put-named-3 c = search needs
 
--- src/lib.rt:105:9
 put-named-requires-4 : tie.Need-put-named-requires-4
 put-named-requires-4 c κs = search needs
 
--- src/lib.rt:106:5
 put-requires : tie.Need-put-requires
 put-requires c κs = search needs
 
--- src/lib.rt:99:1
 same-length : tie.Need-same-length
 same-length c = search needs
 
--- src/lib.rt:99:1
 returns : tie.Need-returns
 returns c =
     same (transition-of _ _ _ _ _ (c .before .before .before .before .before .before .before .before .before .before .before .before .before .before .before .before .before .before .before .word .ensures) (c .before .before .before .before .before .before .before .before .before .before .before .before .before .word2 .ensures) (c .before .before .before .before .before .before .before .word3 .ensures))

@@ -5,35 +5,25 @@ use Rattle.bus.proofs.Ends.{counted-accepted, counted-refused}
 use borrow.Author.Needs.{needs}
 use Rattle.bus.proofs.follow.Statement.{statement}
 use Rattle.bus.proofs.follow.Tie as tie
-use Rattle.bus.proofs.follow.Reads as reads
-use Rattle.bus.proofs.follow.Lts as lts
-use Rattle.net_step.proofs.step.Reads as step-reads
 
--- src/lib.rt:73:9
 step-requires : tie.Need-step-requires
 step-requires c κs = search needs
 
--- src/lib.rt:75:32
 enum-told : tie.Need-enum-told
 enum-told c = search needs
 
--- src/lib.rt:76:25
 enum-known-answer : tie.Need-enum-known-answer
 enum-known-answer c = search needs
 
--- src/lib.rt:69:1
 same-length : tie.Need-same-length
 same-length c = search needs
 
--- src/lib.rt:69:1
 returns : tie.Need-returns
 returns c = (counted-accepted (c .before .before .before .before .before .before .before .before .args .next) (c .enum-told .given .0 .0) (stepNet (c .before .before .before .before .before .before .before .before .args .net .now) (c .before .before .before .before .before .before .before .before .args .code) (c .before .before .before .before .before .before .before .before .args .argument) (c .before .before .before .before .before .before .before .before .args .state .now)) (ap said (sym (c .enum-told .given .1)) ∙ c .before .before .before .before .step .ensures .0), c .before .before .before .before .step .ensures .1)
 
--- src/lib.rt:69:1
 same-length-2 : tie.Need-same-length-2
 same-length-2 c = search needs
 
--- src/lib.rt:69:1
 returns-2 : tie.Need-returns-2
 returns-2 c = (counted-refused (c .before .before .before .before .before .before .before .before .before .args .next) (c .before .answer .given .0 .0) (c .before .answer .given .0 .1 .0) (stepNet (c .before .before .before .before .before .before .before .before .before .args .net .now) (c .before .before .before .before .before .before .before .before .before .args .code) (c .before .before .before .before .before .before .before .before .before .args .argument) (c .before .before .before .before .before .before .before .before .before .args .state .now)) (ap said (sym (c .before .answer .given .1)) ∙ c .before .before .before .before .before .step .ensures .0), c .before .before .before .before .before .step .ensures .1)
 

@@ -4,22 +4,16 @@ use Rattle.bus.specs.Telegrams.{withheld}
 use borrow.Author.Needs.{needs}
 use Rattle.bus.proofs.refused_as.Statement.{statement}
 use Rattle.bus.proofs.refused_as.Tie as tie
-use Rattle.bus.proofs.refused_as.Reads as reads
-use Rattle.bus.proofs.refused_as.Lts as lts
 
--- src/lib.rt:104:25
 enum-known-answer : tie.Need-enum-known-answer
 enum-known-answer c = search needs
 
--- src/lib.rt:105:32
 enum-told : tie.Need-enum-told
 enum-told c = search needs
 
--- src/lib.rt:100:1
 returns : tie.Need-returns
 returns c = ap (withheld (c .before .before .before .args .number) (c .before .before .before .args .value)) (ap said (sym (c .before .answer .given .1)))
 
--- src/lib.rt:100:1
 returns-2 : tie.Need-returns-2
 returns-2 c = ap (withheld (c .before .before .args .number) (c .before .before .args .value)) (ap said (sym (c .enum-told .given .1)))
 

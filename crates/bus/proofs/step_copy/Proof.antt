@@ -7,24 +7,16 @@ use Rattle.bus.proofs.Withheld.{copied-is}
 use borrow.Author.Needs.{needs}
 use Rattle.bus.proofs.step_copy.Statement.{statement}
 use Rattle.bus.proofs.step_copy.Tie as tie
-use Rattle.bus.proofs.step_copy.Reads as reads
-use Rattle.bus.proofs.step_copy.Lts as lts
-use Rattle.diagram_step.proofs.step.Reads as step-reads
-use Rattle.words.proofs.copy.Reads as copy-reads
 
--- src/lib.rt:103:5
 copy-requires : tie.Need-copy-requires
 copy-requires c κs = search needs
 
--- src/lib.rt:104:5
 step-requires : tie.Need-step-requires
 step-requires c κs = search needs
 
--- src/lib.rt:99:1
 same-length : tie.Need-same-length
 same-length c = search needs
 
--- src/lib.rt:99:1
 returns : tie.Need-returns
 returns c = c .before .before .step .ensures .0 ∙ ap (λ (l : List ℕ). returningZero (stepDiagram (c .before .before .before .before .before .before .before .before .before .before .before .args .file .now) (c .before .before .before .before .before .before .before .before .before .before .before .args .code) (c .before .before .before .before .before .before .before .before .before .before .before .args .argument) l)) (c .before .before .before .before .before .before .copy .ensures ∙ copied-is (c .before .before .before .before .before .before .before .before .before .before .before .args .state .now) (c .before .before .before .before .before .before .before .before .before .before .before .args .copy .now) (c .before .before .before .before .before .before .before .before .before .before .before .pre))
 

@@ -5,46 +5,32 @@ use Rattle.bus.proofs.Ends.{take-refused, take-by}
 use borrow.Author.Needs.{needs}
 use Rattle.bus.proofs.take.Statement.{statement}
 use Rattle.bus.proofs.take.Tie as tie
-use Rattle.bus.proofs.take.Reads as reads
-use Rattle.bus.proofs.take.Lts as lts
-use Rattle.bus.proofs.follow.Reads as follow-reads
-use Rattle.bus.proofs.judge.Reads as judge-reads
-use Rattle.words.proofs.word.Reads as word-reads
 
--- src/lib.rt:57:9
 judge-requires : tie.Need-judge-requires
 judge-requires c κs = search needs
 
--- src/lib.rt:59:25
 enum-known-judgement : tie.Need-enum-known-judgement
 enum-known-judgement c = search needs
 
--- src/lib.rt:60:26
 enum-known-judgement-2 : tie.Need-enum-known-judgement-2
 enum-known-judgement-2 c = search needs
 
--- src/lib.rt:61:17
 word-requires : tie.Need-word-requires
 word-requires c κs = search needs
 
--- src/lib.rt:62:17
 word-requires-2 : tie.Need-word-requires-2
 word-requires-2 c κs = search needs
 
--- src/lib.rt:63:13
 follow-requires : tie.Need-follow-requires
 follow-requires c κs = search needs
 
--- src/lib.rt:53:1
 returns : tie.Need-returns
 returns c = let e = take-refused (c .before .before .before .before .before .before .before .args .net .now) (c .before .before .before .before .before .before .before .args .state .now) (c .before .before .before .before .before .before .before .args .count) (c .before .before .before .before .before .before .before .args .station) (c .before .before .before .before .before .before .before .args .telegram .now) (c .before .judgement .given .0 .0) (c .before .judgement .given .0 .1 .0) (sym (ap said (sym (c .before .judgement .given .1)) ∙ c .before .before .before .judge .ensures)) in
     (sym (ap (λ (k : Taken). k .answer) e), sym (ap (λ (k : Taken). k .state) e))
 
--- src/lib.rt:53:1
 same-length : tie.Need-same-length
 same-length c = search needs
 
--- src/lib.rt:53:1
 returns-2 : tie.Need-returns-2
 returns-2 c = take-by (c .before .before .before .before .before .before .before .before .before .before .before .before .before .args .net .now) (c .before .before .before .before .before .before .before .before .before .before .before .before .before .args .state .now) (c .before .before .before .before .before .before .before .before .before .before .before .before .before .args .count) (c .before .before .before .before .before .before .before .before .before .before .before .before .before .args .station) (c .before .before .before .before .before .before .before .before .before .before .before .before .before .args .telegram .now) (c .before .before .before .before .before .before .before .judgement2 .given .0 .0) (c .before .before .before .before .before .word .result) (c .before .before .before .before .word2 .result) _ _ (sym (ap said (sym (c .before .before .before .before .before .before .before .judgement2 .given .1)) ∙ c .before .before .before .before .before .before .before .before .before .judge .ensures)) (c .before .before .before .before .before .word .ensures) (c .before .before .before .before .word2 .ensures) (c .before .before .follow .ensures .0) (c .before .before .follow .ensures .1)
 

@@ -7,50 +7,35 @@ use Rattle.agreement.specs.ByteLaws.{bytes-are}
 use borrow.Author.Needs.{needs}
 use Rattle.bus.proofs.withhold.Statement.{statement}
 use Rattle.bus.proofs.withhold.Tie as tie
-use Rattle.bus.proofs.withhold.Reads as reads
-use Rattle.bus.proofs.withhold.Lts as lts
-use Rattle.bus.proofs.refused_as.Reads as refused-as-reads
-use Rattle.bus.proofs.step_copy.Reads as step-copy-reads
-use Rattle.diagram_step.proofs.step.Reads as step-reads
 
--- src/lib.rt:91:9
 step-requires : tie.Need-step-requires
 step-requires c κs = search needs
 
--- src/lib.rt:91:9
 same-length : tie.Need-same-length
 same-length c = search needs
 
--- src/lib.rt:91:9
 returns : tie.Need-returns
 returns c = let t = too-long (c .before .before .before .before .before .before .before .args .file .now) (c .before .before .before .before .before .before .before .args .state .now) (c .before .before .before .before .before .before .before .args .code) (c .before .before .before .before .before .before .before .args .argument) (c .before .before .before .before .before .before .before .args .number) (c .before .before .before .before .before .before .before .args .value) (bytes-are (c .before .before .before .before .before .before .before .args .file .now) (λ i. omega (arith, c .before .before .before .before .before .before .shared-slice-known .given i))) (c .before .before .before .before .if1 .taken) in
     (c .before .before .step .ensures .0 ∙ t .0, c .before .before .step .ensures .1 ∙ t .1)
 
--- src/lib.rt:94:34
 sub-step-copy : tie.Need-sub-step-copy
 sub-step-copy c = search needs
 
--- src/lib.rt:94:34
 part-copy-start : tie.Need-part-copy-start
 part-copy-start c = search needs
 
--- src/lib.rt:94:34
 part-copy-end : tie.Need-part-copy-end
 part-copy-end c = search needs
 
--- src/lib.rt:94:9
 step-copy-requires : tie.Need-step-copy-requires
 step-copy-requires c κs = search needs
 
--- src/lib.rt:95:5
 refused-as-requires : tie.Need-refused-as-requires
 refused-as-requires c κs = search needs
 
--- src/lib.rt:85:1
 same-length-2 : tie.Need-same-length-2
 same-length-2 c = search needs
 
--- src/lib.rt:85:1
 returns-2 : tie.Need-returns-2
 returns-2 c = (c .refused-as .ensures ∙ (ap (withheld (c .before .before .before .before .before .before .before .before .args .number) (c .before .before .before .before .before .before .before .before .args .value)) (c .before .before .step-copy .ensures) ∙ withheld-zero (c .before .before .before .before .before .before .before .before .args .number) (c .before .before .before .before .before .before .before .before .args .value) (stepDiagram (c .before .before .before .before .before .before .before .before .args .file .now) (c .before .before .before .before .before .before .before .before .args .code) (c .before .before .before .before .before .before .before .before .args .argument) (c .before .before .before .before .before .before .before .before .args .state .now))), refl)
 

@@ -1,14 +1,9 @@
 use borrow.Author.Needs.{needs}
-use native.Mathlib.Omega.{arith}
 use lib.ListN.{length}
 use mathlib.Core.Path.{_≡_}
 use Prim.Native.Nat.{_≤_, _-_}
 use Rattle.bus_play.proofs.show_each.Statement.{statement}
 use Rattle.bus_play.proofs.show_each.Tie as tie
-use Rattle.bus_play.proofs.show_each.Reads as reads
-use Rattle.bus_play.proofs.show_each.Lts as lts
-use Rattle.bus_play.proofs.show.Reads as show-reads
-use Rattle.play.proofs.call_length.Reads as call-length-reads
 
 abbrev Inv-loop : tie.InvT-loop
 Inv-loop file calls₀ at₀ calls at = (at ≤ length calls) × (length calls ≡ length calls₀)
@@ -16,79 +11,60 @@ Inv-loop file calls₀ at₀ calls at = (at ≤ length calls) × (length calls �
 abbrev μ-loop : tie.MeasureT-loop
 μ-loop file calls₀ at₀ calls at = length calls₀ - at
 
--- src/main.rt:75:5
 loop-holds : tie.Need-loop-holds Inv-loop μ-loop
 loop-holds c = search needs
 
--- src/main.rt:76:40
 sub-call-length : tie.Need-sub-call-length Inv-loop μ-loop
 sub-call-length c = search needs
 
--- src/main.rt:76:40
 part-call-length-start : tie.Need-part-call-length-start Inv-loop μ-loop
 part-call-length-start c = search needs
 
--- src/main.rt:76:40
 part-call-length-end : tie.Need-part-call-length-end Inv-loop μ-loop
 part-call-length-end c = search needs
 
--- src/main.rt:76:13
 call-length-requires : tie.Need-call-length-requires Inv-loop μ-loop
 call-length-requires c κs = search needs
 
--- src/main.rt:78:13
 same-length : tie.Need-same-length Inv-loop μ-loop
 same-length c = search needs
 
--- src/main.rt:78:13
 returns : tie.Need-returns Inv-loop μ-loop
 returns c = search needs
 
--- src/main.rt:80:12
 sub-if2 : tie.Need-sub-if2 Inv-loop μ-loop
 sub-if2 c = search needs
 
--- src/main.rt:81:13
 same-length-2 : tie.Need-same-length-2 Inv-loop μ-loop
 same-length-2 c = search needs
 
--- src/main.rt:81:13
 returns-2 : tie.Need-returns-2 Inv-loop μ-loop
 returns-2 c = search needs
 
--- src/main.rt:83:9
 add-at : tie.Need-add-at Inv-loop μ-loop
 add-at c = search needs
 
--- src/main.rt:84:20
 sub-show : tie.Need-sub-show Inv-loop μ-loop
 sub-show c = search needs
 
--- src/main.rt:84:20
 part-show-start : tie.Need-part-show-start Inv-loop μ-loop
 part-show-start c = search needs
 
--- src/main.rt:84:20
 part-show-end : tie.Need-part-show-end Inv-loop μ-loop
 part-show-end c = search needs
 
--- src/main.rt:84:9
 show-requires : tie.Need-show-requires Inv-loop μ-loop
 show-requires c κs = search needs
 
--- src/main.rt:75:5
 loop-less : tie.Need-loop-less Inv-loop μ-loop
 loop-less c = search needs
 
--- src/main.rt:75:5
 loop-again : tie.Need-loop-again Inv-loop μ-loop
 loop-again c = search needs
 
--- src/main.rt:73:1
 same-length-3 : tie.Need-same-length-3 Inv-loop μ-loop
 same-length-3 c = search needs
 
--- src/main.rt:73:1
 returns-3 : tie.Need-returns-3 Inv-loop μ-loop
 returns-3 c = search needs
 

@@ -3,20 +3,13 @@ use Rattle.effbd_c.specs.Packed.{packed}
 use borrow.Author.Needs.{needs}
 use Rattle.effbd_c.proofs.effbd_read.Statement.{statement}
 use Rattle.effbd_c.proofs.effbd_read.Tie as tie
-use Rattle.effbd_c.proofs.effbd_read.Reads as reads
-use Rattle.effbd_c.proofs.effbd_read.Lts as lts
-use Rattle.diagram_file.proofs.read.Reads as read-reads
-use Rattle.effbd_c.proofs.pack.Reads as pack-reads
 
--- src/lib.rt:30:10
 read-requires : tie.Need-read-requires
 read-requires c κs = search needs
 
--- src/lib.rt:30:5
 pack-requires : tie.Need-pack-requires
 pack-requires c κs = search needs
 
--- src/lib.rt:26:1
 returns : tie.Need-returns
 returns c = c .pack .ensures ∙ ap packed (c .before .read .ensures)
 

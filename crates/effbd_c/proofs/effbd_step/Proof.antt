@@ -3,24 +3,16 @@ use Rattle.effbd_c.specs.Packed.{packed}
 use borrow.Author.Needs.{needs}
 use Rattle.effbd_c.proofs.effbd_step.Statement.{statement}
 use Rattle.effbd_c.proofs.effbd_step.Tie as tie
-use Rattle.effbd_c.proofs.effbd_step.Reads as reads
-use Rattle.effbd_c.proofs.effbd_step.Lts as lts
-use Rattle.diagram_step.proofs.step.Reads as step-reads
-use Rattle.effbd_c.proofs.pack.Reads as pack-reads
 
--- src/lib.rt:48:10
 step-requires : tie.Need-step-requires
 step-requires c κs = search needs
 
--- src/lib.rt:48:5
 pack-requires : tie.Need-pack-requires
 pack-requires c κs = search needs
 
--- src/lib.rt:43:1
 same-length : tie.Need-same-length
 same-length c = search needs
 
--- src/lib.rt:43:1
 returns : tie.Need-returns
 returns c = (c .pack .ensures ∙ ap packed (c .before .before .before .step .ensures .0), c .before .before .before .step .ensures .1)
 

@@ -3,24 +3,16 @@ use Rattle.effbd_c.specs.Packed.{packed}
 use borrow.Author.Needs.{needs}
 use Rattle.effbd_c.proofs.tpn_step.Statement.{statement}
 use Rattle.effbd_c.proofs.tpn_step.Tie as tie
-use Rattle.effbd_c.proofs.tpn_step.Reads as reads
-use Rattle.effbd_c.proofs.tpn_step.Lts as lts
-use Rattle.effbd_c.proofs.pack.Reads as pack-reads
-use Rattle.net_step.proofs.step.Reads as step-reads
 
--- src/lib.rt:83:10
 step-requires : tie.Need-step-requires
 step-requires c κs = search needs
 
--- src/lib.rt:83:5
 pack-requires : tie.Need-pack-requires
 pack-requires c κs = search needs
 
--- src/lib.rt:78:1
 same-length : tie.Need-same-length
 same-length c = search needs
 
--- src/lib.rt:78:1
 returns : tie.Need-returns
 returns c = (c .pack .ensures ∙ ap packed (c .before .before .before .step .ensures .0), c .before .before .before .step .ensures .1)
 

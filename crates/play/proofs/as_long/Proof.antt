@@ -5,31 +5,22 @@ use mathlib.Core.Path.{sym, _∙_, ap}
 use borrow.Author.Needs.{needs}
 use Rattle.play.proofs.as_long.Statement.{statement}
 use Rattle.play.proofs.as_long.Tie as tie
-use Rattle.play.proofs.as_long.Reads as reads
-use Rattle.play.proofs.as_long.Lts as lts
-use Rattle.net_file.proofs.read.Reads as read-reads
 
--- src/lib.rt:139:9
 read-requires : tie.Need-read-requires
 read-requires c κs = search needs
 
--- src/lib.rt:141:26
 enum-known-size : tie.Need-enum-known-size
 enum-known-size c = search needs
 
--- src/lib.rt:141:46
 cast-result : tie.Need-cast-result
 cast-result c = search needs
 
--- src/lib.rt:142:34
 enum-told : tie.Need-enum-told
 enum-told c = search needs
 
--- src/lib.rt:136:1
 returns : tie.Need-returns
 returns c = long-by (readNet (c .before .before .before .before .before .args .net .now)) (c .before .before .before .before .before .args .length) (c .before .size .given .0 .0) (ap said (sym (c .before .size .given .1)) ∙ c .before .before .before .read .ensures)
 
--- src/lib.rt:136:1
 returns-2 : tie.Need-returns-2
 returns-2 c = long-never (readNet (c .before .before .before .before .args .net .now)) (c .before .before .before .before .args .length) (c .enum-told .given .0 .0) (c .enum-told .given .0 .1 .0) (ap said (sym (c .enum-told .given .1)) ∙ c .before .before .read .ensures)
 

@@ -3,47 +3,34 @@ use Rattle.play.proofs.Lengths.{no-head, too-long, offer-short, offer-l
 use borrow.Author.Needs.{needs}
 use Rattle.play.proofs.call_length.Statement.{statement}
 use Rattle.play.proofs.call_length.Tie as tie
-use Rattle.play.proofs.call_length.Reads as reads
-use Rattle.play.proofs.call_length.Lts as lts
-use Rattle.words.proofs.word.Reads as word-reads
 
--- src/lib.rt:39:9
 returns : tie.Need-returns
 returns c = no-head (c .before .before .args .rest .now) (c .if1 .taken)
 
--- src/lib.rt:41:18
 word-requires : tie.Need-word-requires
 word-requires c κs = search needs
 
--- src/lib.rt:41:18
 cast-length : tie.Need-cast-length
 cast-length c = search needs
 
--- src/lib.rt:43:9
 returns-2 : tie.Need-returns-2
 returns-2 c = too-long (c .before .before .before .before .args .rest .now) (c .before .word .result) (c .before .word .ensures) (omega arith) (c .if2 .taken)
 
--- src/lib.rt:45:9
 word-requires-2 : tie.Need-word-requires-2
 word-requires-2 c κs = search needs
 
--- src/lib.rt:48:13
 returns-3 : tie.Need-returns-3
 returns-3 c = offer-short (c .before .before .before .before .before .before .before .args .rest .now) (c .before .before .before .before .word .result) (c .before .before .before .before .word .ensures) (omega arith) (c .before .before .word2 .result) (c .before .before .word2 .ensures) (omega arith) (omega arith) (c .if4 .taken)
 
--- src/lib.rt:50:9
 returns-4 : tie.Need-returns-4
 returns-4 c = offer-long (c .before .before .before .before .before .before .before .args .rest .now) (c .before .before .before .before .word .result) (c .before .before .before .before .word .ensures) (omega arith) (c .before .before .word2 .result) (c .before .before .word2 .ensures) (omega arith) (omega arith) (omega arith)
 
--- src/lib.rt:54:13
 returns-5 : tie.Need-returns-5
 returns-5 c = hand-short (c .before .before .before .before .before .before .before .before .args .rest .now) (c .before .before .before .before .before .word .result) (c .before .before .before .before .before .word .ensures) (omega arith) (c .before .before .before .word2 .result) (c .before .before .before .word2 .ensures) (omega arith) (c .before .before .if3 .left) (omega arith) (c .if6 .taken)
 
--- src/lib.rt:56:9
 returns-6 : tie.Need-returns-6
 returns-6 c = hand-long (c .before .before .before .before .before .before .before .before .args .rest .now) (c .before .before .before .before .before .word .result) (c .before .before .before .before .before .word .ensures) (omega arith) (c .before .before .before .word2 .result) (c .before .before .before .word2 .ensures) (omega arith) (c .before .before .if3 .left) (omega arith) (omega arith)
 
--- src/lib.rt:35:1
 returns-7 : tie.Need-returns-7
 returns-7 c = no-kind (c .before .before .before .before .before .before .before .args .rest .now) (c .before .before .before .before .word .result) (c .before .before .before .before .word .ensures) (omega arith) (c .before .before .word2 .result) (c .before .before .word2 .ensures) (omega arith) (c .before .if3 .left) (c .if5 .left)
 

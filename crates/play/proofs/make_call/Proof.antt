@@ -4,54 +4,37 @@ use Rattle.play.proofs.Calls.{offer-room, hand-room, offer-called, hand
 use borrow.Author.Needs.{needs}
 use Rattle.play.proofs.make_call.Statement.{statement}
 use Rattle.play.proofs.make_call.Tie as tie
-use Rattle.play.proofs.make_call.Reads as reads
-use Rattle.play.proofs.make_call.Lts as lts
-use Rattle.bus.proofs.offer.Reads as offer-reads
-use Rattle.bus.proofs.take.Reads as take-reads
-use Rattle.play.proofs.count_after.Reads as count-after-reads
-use Rattle.words.proofs.word.Reads as word-reads
 
--- src/lib.rt:77:8
 word-requires : tie.Need-word-requires
 word-requires c κs = search needs
 
--- src/lib.rt:78:13
 word-requires-2 : tie.Need-word-requires-2
 word-requires-2 c κs = search needs
 
--- src/lib.rt:79:13
 word-requires-3 : tie.Need-word-requires-3
 word-requires-3 c κs = search needs
 
--- src/lib.rt:80:78
 sub-offer : tie.Need-sub-offer
 sub-offer c = omega (arith, offer-room (c .before .before .before .before .before .before .before .before .before .before .before .before .before .args .call .now) (c .before .before .before .before .before .before .before .before .before .before .before .before .before .pre .0) (c .before .before .before .before .before .before .word .result) (c .before .before .before .before .before .before .word .ensures) (omega arith))
 
--- src/lib.rt:80:78
 part-offer-start : tie.Need-part-offer-start
 part-offer-start c = omega (arith, offer-room (c .before .before .before .before .before .before .before .before .before .before .before .before .before .args .call .now) (c .before .before .before .before .before .before .before .before .before .before .before .before .before .pre .0) (c .before .before .before .before .before .before .word .result) (c .before .before .before .before .before .before .word .ensures) (omega arith))
 
--- src/lib.rt:80:78
 part-offer-end : tie.Need-part-offer-end
 part-offer-end c = search needs
 
--- src/lib.rt:80:13
 offer-requires : tie.Need-offer-requires
 offer-requires c κs = search needs
 
--- src/lib.rt:81:31
 count-after-requires : tie.Need-count-after-requires
 count-after-requires c κs = search needs
 
--- src/lib.rt:81:9
 same-length : tie.Need-same-length
 same-length c = search needs
 
--- src/lib.rt:81:9
 same-length-2 : tie.Need-same-length-2
 same-length-2 c = search needs
 
--- src/lib.rt:81:9
 returns : tie.Need-returns
 returns c =
     let a = c .before .before .before .before .before .before .before .before .before .before .before .before .before .before .before .before .before .before .before .before .args in
@@ -60,35 +43,27 @@ returns c =
     (said (c .before .before .before .before .before .offer .result)) (c .before .before .before .before .before .offer .last .1 .0) (c .before .before .before .before .before .offer .last .1 .1 .1 .1 .1 .1 .0) (c .count-after .result)
     (c .before .before .before .before .before .offer .ensures .0) (c .before .before .before .before .before .offer .ensures .1 .0) (c .before .before .before .before .before .offer .ensures .1 .1) (c .count-after .ensures)
 
--- src/lib.rt:83:59
 sub-take : tie.Need-sub-take
 sub-take c = hand-room (c .before .before .before .before .before .before .before .before .before .args .call .now) (c .before .before .before .before .before .before .before .before .before .pre .0)
 
--- src/lib.rt:83:59
 part-take-start : tie.Need-part-take-start
 part-take-start c = hand-room (c .before .before .before .before .before .before .before .before .before .before .args .call .now) (c .before .before .before .before .before .before .before .before .before .before .pre .0)
 
--- src/lib.rt:83:59
 part-take-end : tie.Need-part-take-end
 part-take-end c = search needs
 
--- src/lib.rt:83:9
 take-requires : tie.Need-take-requires
 take-requires c κs = search needs
 
--- src/lib.rt:84:33
 count-after-requires-2 : tie.Need-count-after-requires-2
 count-after-requires-2 c κs = search needs
 
--- src/lib.rt:62:1
 same-length-3 : tie.Need-same-length-3
 same-length-3 c = search needs
 
--- src/lib.rt:62:1
 same-length-4 : tie.Need-same-length-4
 same-length-4 c = search needs
 
--- src/lib.rt:62:1
 returns-2 : tie.Need-returns-2
 returns-2 c =
     let a = c .before .before .before .before .before .before .before .before .before .before .before .before .before .before .before .args in

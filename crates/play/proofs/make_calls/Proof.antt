@@ -1,18 +1,12 @@
 use mathlib.Core.Path.{_≡_, refl, _∙_}
-use Rattle.play.proofs.Turns.{Front, found, ended, turned, turned-lent, lent-front, all-made}
+use Rattle.play.proofs.Turns.{found, ended, turned-lent, lent-front, all-made}
 use lib.ListN.{length}
-use Rattle.play.proofs.Turns.{Front, found, ended, turned, all-made}
 use Rattle.play.proofs.Lists.{Making, making-start, made-all}
-use Rattle.play.specs.Played.{Live}
 use native.Mathlib.Omega.{arith}
 use Prim.Native.Nat.{_+_, _-_}
 use borrow.Author.Needs.{needs}
 use Rattle.play.proofs.make_calls.Statement.{statement}
 use Rattle.play.proofs.make_calls.Tie as tie
-use Rattle.play.proofs.make_calls.Reads as reads
-use Rattle.play.proofs.make_calls.Lts as lts
-use Rattle.play.proofs.call_length.Reads as call-length-reads
-use Rattle.play.proofs.make_call.Reads as make-call-reads
 
 abbrev Inv-loop : tie.InvT-loop
 Inv-loop file net leader₀ follower₀ station calls₀ sent₀ taken₀ at₀ left₀ leader follower calls sent taken at left =
@@ -22,94 +16,72 @@ Inv-loop file net leader₀ follower₀ station calls₀ sent₀ taken₀ at₀ 
 abbrev μ-loop : tie.MeasureT-loop
 μ-loop file net leader₀ follower₀ station calls₀ sent₀ taken₀ at₀ left₀ leader follower calls sent taken at left = left
 
--- src/lib.rt:102:5
 loop-holds : tie.Need-loop-holds Inv-loop μ-loop
 loop-holds c = (making-start (c .before .before .before .before .before .args .file .now) (c .before .before .before .before .before .args .net .now) (c .before .before .before .before .before .args .station) (record { leader = c .before .before .before .before .before .args .leader .now; sent = 0; follower = c .before .before .before .before .before .args .follower .now; taken = 0 }) (c .before .before .before .before .before .args .calls .now), (refl, (refl, refl)))
 
--- src/lib.rt:103:34
 sub-call-length : tie.Need-sub-call-length Inv-loop μ-loop
 sub-call-length c = search needs
 
--- src/lib.rt:103:34
 part-call-length-start : tie.Need-part-call-length-start Inv-loop μ-loop
 part-call-length-start c = search needs
 
--- src/lib.rt:103:34
 part-call-length-end : tie.Need-part-call-length-end Inv-loop μ-loop
 part-call-length-end c = search needs
 
--- src/lib.rt:103:13
 call-length-requires : tie.Need-call-length-requires Inv-loop μ-loop
 call-length-requires c κs = search needs
 
--- src/lib.rt:105:13
 same-length : tie.Need-same-length Inv-loop μ-loop
 same-length c = c .before .before .before .before .before .loop .inv .1 .0
 
--- src/lib.rt:105:13
 same-length-2 : tie.Need-same-length-2 Inv-loop μ-loop
 same-length-2 c = c .before .before .before .before .before .loop .inv .1 .1 .0
 
--- src/lib.rt:105:13
 same-length-3 : tie.Need-same-length-3 Inv-loop μ-loop
 same-length-3 c = c .before .before .before .before .before .loop .inv .1 .1 .1
 
--- src/lib.rt:105:13
 returns : tie.Need-returns Inv-loop μ-loop
 returns c = ended (c .before .before .before .before .before .before .before .before .before .before .before .args .file .now) (c .before .before .before .before .before .before .before .before .before .before .before .args .net .now) (c .before .before .before .before .before .before .before .before .before .before .before .args .station) (record { leader = c .before .before .before .before .before .before .before .before .before .before .before .args .leader .now; sent = 0; follower = c .before .before .before .before .before .before .before .before .before .before .before .args .follower .now; taken = 0 }) (c .before .before .before .before .before .before .before .before .before .before .before .args .calls .now) (c .before .before .before .before .before .loop .left) (c .before .before .before .before .before .loop .at) (c .before .call-length .result) (record { leader = c .before .before .before .before .before .loop .leader; sent = c .before .before .before .before .before .loop .sent; follower = c .before .before .before .before .before .loop .follower; taken = c .before .before .before .before .before .loop .taken }) (c .before .before .before .before .before .loop .calls) (c .before .before .before .before .before .loop .inv .0) (c .before .call-length .ensures) (c .if1 .taken)
 
--- src/lib.rt:107:122
 add-make-call : tie.Need-add-make-call Inv-loop μ-loop
 add-make-call c = let f = found (c .before .before .before .before .before .before .before .loop .calls) (c .before .before .before .before .before .before .before .loop .at) (c .before .before .before .call-length .result) (c .before .before .before .before .before .before .before .loop .inv .0 .within) (c .before .before .before .call-length .ensures) (c .before .before .if1 .left) in omega arith
 
--- src/lib.rt:107:107
 sub-make-call : tie.Need-sub-make-call Inv-loop μ-loop
 sub-make-call c = let f = found (c .before .before .before .before .before .before .before .loop .calls) (c .before .before .before .before .before .before .before .loop .at) (c .before .before .before .call-length .result) (c .before .before .before .before .before .before .before .loop .inv .0 .within) (c .before .before .before .call-length .ensures) (c .before .before .if1 .left) in omega arith
 
--- src/lib.rt:107:107
 part-make-call-start : tie.Need-part-make-call-start Inv-loop μ-loop
 part-make-call-start c = let f = found (c .before .before .before .before .before .before .before .loop .calls) (c .before .before .before .before .before .before .before .loop .at) (c .before .before .before .call-length .result) (c .before .before .before .before .before .before .before .loop .inv .0 .within) (c .before .before .before .call-length .ensures) (c .before .before .if1 .left) in omega arith
 
--- src/lib.rt:107:107
 part-make-call-end : tie.Need-part-make-call-end Inv-loop μ-loop
 part-make-call-end c = let f = found (c .before .before .before .before .before .before .before .loop .calls) (c .before .before .before .before .before .before .before .loop .at) (c .before .before .before .call-length .result) (c .before .before .before .before .before .before .before .loop .inv .0 .within) (c .before .before .before .call-length .ensures) (c .before .before .if1 .left) in omega arith
 
--- src/lib.rt:107:13
 make-call-requires : tie.Need-make-call-requires Inv-loop μ-loop
 make-call-requires c κs = lent-front (c .before .before .before .before .before .before .before .before .loop .calls) (c .before .before .before .before .before .before .before .before .loop .at) (c .before .before .before .before .call-length .result) (c .before .before .before .before .before .before .before .before .loop .at + c .before .before .before .before .call-length .result - c .before .before .before .before .before .before .before .before .loop .at) (found (c .before .before .before .before .before .before .before .before .loop .calls) (c .before .before .before .before .before .before .before .before .loop .at) (c .before .before .before .before .call-length .result) (c .before .before .before .before .before .before .before .before .loop .inv .0 .within) (c .before .before .before .before .call-length .ensures) (c .before .before .before .if1 .left)) (omega arith)
 
--- src/lib.rt:110:9
 add-at : tie.Need-add-at Inv-loop μ-loop
 add-at c = let f = found (c .before .before .before .before .before .before .before .before .before .before .before .before .before .before .before .loop .calls) (c .before .before .before .before .before .before .before .before .before .before .before .before .before .before .before .loop .at) (c .before .before .before .before .before .before .before .before .before .before .before .call-length .result) (c .before .before .before .before .before .before .before .before .before .before .before .before .before .before .before .loop .inv .0 .within) (c .before .before .before .before .before .before .before .before .before .before .before .call-length .ensures) (c .before .before .before .before .before .before .before .before .before .before .if1 .left) in omega arith
 
--- src/lib.rt:111:9
 sub-left : tie.Need-sub-left Inv-loop μ-loop
 sub-left c = search needs
 
--- src/lib.rt:102:5
 loop-less : tie.Need-loop-less Inv-loop μ-loop
 loop-less c = omega arith
 
--- src/lib.rt:102:5
 loop-again : tie.Need-loop-again Inv-loop μ-loop
 loop-again c = (
   turned-lent (c .before .before .before .before .before .before .before .before .before .before .before .before .before .before .before .before .before .before .before .before .before .args .file .now) (c .before .before .before .before .before .before .before .before .before .before .before .before .before .before .before .before .before .before .before .before .before .args .net .now) (c .before .before .before .before .before .before .before .before .before .before .before .before .before .before .before .before .before .before .before .before .before .args .station) (record { leader = c .before .before .before .before .before .before .before .before .before .before .before .before .before .before .before .before .before .before .before .before .before .args .leader .now; sent = 0; follower = c .before .before .before .before .before .before .before .before .before .before .before .before .before .before .before .before .before .before .before .before .before .args .follower .now; taken = 0 }) (c .before .before .before .before .before .before .before .before .before .before .before .before .before .before .before .before .before .before .before .before .before .args .calls .now) (c .before .before .before .before .before .before .before .before .before .before .before .before .before .before .before .loop .left) (c .before .before .before .before .before .before .before .before .before .before .before .before .before .before .before .loop .at) (c .before .before .before .before .before .before .before .before .before .before .before .call-length .result) (c .before .before .before .before .before .before .before .before .before .before .before .before .before .before .before .loop .at + c .before .before .before .before .before .before .before .before .before .before .before .call-length .result - c .before .before .before .before .before .before .before .before .before .before .before .before .before .before .before .loop .at) (record { leader = c .before .before .before .before .before .before .before .before .before .before .before .before .before .before .before .loop .leader; sent = c .before .before .before .before .before .before .before .before .before .before .before .before .before .before .before .loop .sent; follower = c .before .before .before .before .before .before .before .before .before .before .before .before .before .before .before .loop .follower; taken = c .before .before .before .before .before .before .before .before .before .before .before .before .before .before .before .loop .taken }) (c .before .before .before .before .before .before .before .before .before .before .before .before .before .before .before .loop .calls) (c .before .before .before .before .before .before .make-call .last .1 .1 .0) (c .before .before .before .before .before .before .make-call .last .1 .1 .1 .0) (c .before .before .before .before .before .before .make-call .last .1 .1 .1 .1 .1 .1 .0) (c .before .before .before .before .before .before .make-call .result .sent) (c .before .before .before .before .before .before .make-call .result .taken) (c .before .before .before .before .before .before .before .before .before .before .before .before .before .before .before .loop .inv .0) (omega arith) (found (c .before .before .before .before .before .before .before .before .before .before .before .before .before .before .before .loop .calls) (c .before .before .before .before .before .before .before .before .before .before .before .before .before .before .before .loop .at) (c .before .before .before .before .before .before .before .before .before .before .before .call-length .result) (c .before .before .before .before .before .before .before .before .before .before .before .before .before .before .before .loop .inv .0 .within) (c .before .before .before .before .before .before .before .before .before .before .before .call-length .ensures) (c .before .before .before .before .before .before .before .before .before .before .if1 .left)) (omega arith) (c .before .before .before .before .before .before .make-call .ensures) (c .before .calls2 .given .0),
   (c .before .before .before .before .before .leader .given ∙ c .before .before .before .before .before .before .before .before .before .before .before .before .before .before .before .loop .inv .1 .0, (c .before .before .before .follower .given ∙ c .before .before .before .before .before .before .before .before .before .before .before .before .before .before .before .loop .inv .1 .1 .0, c .before .calls2 .given .1 ∙ c .before .before .before .before .before .before .before .before .before .before .before .before .before .before .before .loop .inv .1 .1 .1)),
 )
 
--- src/lib.rt:88:1
 same-length-4 : tie.Need-same-length-4 Inv-loop μ-loop
 same-length-4 c = c .before .loop .inv .1 .0
 
--- src/lib.rt:88:1
 same-length-5 : tie.Need-same-length-5 Inv-loop μ-loop
 same-length-5 c = c .before .loop .inv .1 .1 .0
 
--- src/lib.rt:88:1
 same-length-6 : tie.Need-same-length-6 Inv-loop μ-loop
 same-length-6 c = c .before .loop .inv .1 .1 .1
 
--- src/lib.rt:88:1
 returns-2 : tie.Need-returns-2 Inv-loop μ-loop
 returns-2 c = all-made (c .before .before .before .before .before .before .before .args .file .now) (c .before .before .before .before .before .before .before .args .net .now) (c .before .before .before .before .before .before .before .args .station) (record { leader = c .before .before .before .before .before .before .before .args .leader .now; sent = 0; follower = c .before .before .before .before .before .before .before .args .follower .now; taken = 0 }) (c .before .before .before .before .before .before .before .args .calls .now) (record { leader = c .before .loop .leader; sent = c .before .loop .sent; follower = c .before .loop .follower; taken = c .before .loop .taken }) (c .before .loop .calls) (made-all (c .before .before .before .before .before .before .before .args .file .now) (c .before .before .before .before .before .before .before .args .net .now) (c .before .before .before .before .before .before .before .args .station) (record { leader = c .before .before .before .before .before .before .before .args .leader .now; sent = 0; follower = c .before .before .before .before .before .before .before .args .follower .now; taken = 0 }) (c .before .before .before .before .before .before .before .args .calls .now) (c .before .loop .left) (c .before .loop .at) (record { leader = c .before .loop .leader; sent = c .before .loop .sent; follower = c .before .loop .follower; taken = c .before .loop .taken }) (c .before .loop .calls) (c .before .loop .inv .0) (omega arith))
 

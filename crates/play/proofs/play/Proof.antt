@@ -6,51 +6,38 @@ use mathlib.Core.Path.{refl, sym, _∙_, ap}
 use borrow.Author.Needs.{needs}
 use Rattle.play.proofs.play.Statement.{statement}
 use Rattle.play.proofs.play.Tie as tie
-use Rattle.play.proofs.play.Reads as reads
-use Rattle.play.proofs.play.Lts as lts
-use Rattle.play.proofs.play_net.Reads as play-net-reads
-use Rattle.play.proofs.translate_into.Reads as translate-into-reads
 
--- src/lib.rt:198:39
 slice-aggregate-translate-into : tie.Need-slice-aggregate-translate-into
 slice-aggregate-translate-into c = search needs
 
--- src/lib.rt:198:9
 translate-into-requires : tie.Need-translate-into-requires
 translate-into-requires c κs = search needs
 
--- src/lib.rt:200:25
 enum-known-answer : tie.Need-enum-known-answer
 enum-known-answer c = search needs
 
--- src/lib.rt:201:26
 enum-known-answer-2 : tie.Need-enum-known-answer-2
 enum-known-answer-2 c = search needs
 
--- src/lib.rt:201:60
 cast-area : tie.Need-cast-area
 cast-area c = search needs
 
--- src/lib.rt:201:52
 array-share-prefix-area : tie.Need-array-share-prefix-area
 array-share-prefix-area c =
     found-net (c .before .before .before .before .before .before .before .before .before .before .args .file .now) (c .before .before .before .before .translate-into .last .1 .0) (c .before .answer2 .given .0 .0)
     (ap said (sym (c .before .answer2 .given .1)) ∙ c .before .before .before .before .translate-into .ensures .0) (c .before .before .before .before .translate-into .ensures .1) .0
 
--- src/lib.rt:201:52
 slice-aggregate-play-net : tie.Need-slice-aggregate-play-net
 slice-aggregate-play-net c =
     sym (length-take-le (c .before .before .answer2 .given .0 .0) (c .before .before .before .before .before .translate-into .last .1 .0)
     (found-net (c .before .before .before .before .before .before .before .before .before .before .before .args .file .now) (c .before .before .before .before .before .translate-into .last .1 .0) (c .before .before .answer2 .given .0 .0)
     (ap said (sym (c .before .before .answer2 .given .1)) ∙ c .before .before .before .before .before .translate-into .ensures .0) (c .before .before .before .before .before .translate-into .ensures .1) .0))
 
--- src/lib.rt:201:37
 play-net-requires : tie.Need-play-net-requires
 play-net-requires c κs =
     found-net (c .before .before .before .before .before .before .before .before .before .before .before .before .before .before .args .file .now) (c .before .before .before .before .before .before .before .before .translate-into .last .1 .0) (c .before .before .before .before .before .answer2 .given .0 .0)
     (ap said (sym (c .before .before .before .before .before .answer2 .given .1)) ∙ c .before .before .before .before .before .before .before .before .translate-into .ensures .0) (c .before .before .before .before .before .before .before .before .translate-into .ensures .1) .1
 
--- src/lib.rt:187:1
 returns : tie.Need-returns
 returns c =
     let a = c .before .before .before .before .before .before .before .before .before .before .args in
@@ -58,19 +45,15 @@ returns c =
     (file-refused (a .file .now) (c .before .answer .given .0 .0) (c .before .answer .given .0 .1 .0) (ap said (sym (c .before .answer .given .1)) ∙ c .before .before .before .before .translate-into .ensures .0) (a .leader .now) (a .follower .now))
     (a .file .now) (a .station) (a .calls .now) (a .leader .now) (a .follower .now) (a .leader .now) refl
 
--- src/lib.rt:187:1
 same-length : tie.Need-same-length
 same-length c = search needs
 
--- src/lib.rt:187:1
 same-length-2 : tie.Need-same-length-2
 same-length-2 c = search needs
 
--- src/lib.rt:187:1
 same-length-3 : tie.Need-same-length-3
 same-length-3 c = search needs
 
--- src/lib.rt:187:1
 returns-2 : tie.Need-returns-2
 returns-2 c = search needs
 

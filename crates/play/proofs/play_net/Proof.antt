@@ -8,17 +8,10 @@ use mathlib.Core.Path.{refl, sym, _∙_, ap}
 use borrow.Author.Needs.{needs}
 use Rattle.play.proofs.play_net.Statement.{statement}
 use Rattle.play.proofs.play_net.Tie as tie
-use Rattle.play.proofs.play_net.Reads as reads
-use Rattle.play.proofs.play_net.Lts as lts
-use Rattle.diagram_step.proofs.fresh.Reads as fresh-reads
-use Rattle.play.proofs.as_long.Reads as as-long-reads
-use Rattle.play.proofs.start.Reads as start-reads
 
--- src/lib.rt:172:9
 as-long-requires : tie.Need-as-long-requires
 as-long-requires c κs = search needs
 
--- src/lib.rt:173:9
 returns : tie.Need-returns
 returns c =
     let a = c .before .before .before .before .before .before .before .args in
@@ -27,27 +20,21 @@ returns c =
     (follower-off (a .file .now) (a .net .now) (c .before .before .before .before .before .before .before .pre) b (a .leader .now) (a .follower .now) (sym (not-true (c .before .as-long .result) (c .if1 .taken)) ∙ c .before .as-long .ensures))
     (a .file .now) (a .station) (a .calls .now) (a .leader .now) (a .follower .now) (a .leader .now) refl
 
--- src/lib.rt:175:9
 fresh-requires : tie.Need-fresh-requires
 fresh-requires c κs = search needs
 
--- src/lib.rt:177:25
 enum-known-fresh : tie.Need-enum-known-fresh
 enum-known-fresh c = search needs
 
--- src/lib.rt:179:43
 enum-told : tie.Need-enum-told
 enum-told c = search needs
 
--- src/lib.rt:179:17
 start-requires : tie.Need-start-requires
 start-requires c κs = search needs
 
--- src/lib.rt:160:1
 same-length : tie.Need-same-length
 same-length c = search needs
 
--- src/lib.rt:160:1
 returns-2 : tie.Need-returns-2
 returns-2 c =
     let a = c .before .before .before .before .before .before .before .before .before .before .before .before .before .before .args in
@@ -57,19 +44,15 @@ returns-2 c =
     unplayed (playable (a .file .now) (a .leader .now) (a .follower .now)) (c .before .fresh2 .given .0 .0) (c .before .fresh2 .given .0 .1 .0) (t .0)
     (a .file .now) (a .station) (a .calls .now) (a .leader .now) (a .follower .now) (c .before .before .before .before .before .fresh .last .1 .0) (t .1)
 
--- src/lib.rt:160:1
 same-length-2 : tie.Need-same-length-2
 same-length-2 c = search needs
 
--- src/lib.rt:160:1
 same-length-3 : tie.Need-same-length-3
 same-length-3 c = search needs
 
--- src/lib.rt:160:1
 same-length-4 : tie.Need-same-length-4
 same-length-4 c = search needs
 
--- src/lib.rt:160:1
 returns-3 : tie.Need-returns-3
 returns-3 c =
     let a = c .before .before .before .before .before .before .before .before .before .before .before .before .before .before .before .before .before .before .before .before .before .before .before .args in

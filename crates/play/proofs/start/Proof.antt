@@ -2,32 +2,22 @@ use Rattle.play.proofs.Starts.{started}
 use borrow.Author.Needs.{needs}
 use Rattle.play.proofs.start.Statement.{statement}
 use Rattle.play.proofs.start.Tie as tie
-use Rattle.play.proofs.start.Reads as reads
-use Rattle.play.proofs.start.Lts as lts
-use Rattle.net_step.proofs.fresh.Reads as fresh-reads
-use Rattle.play.proofs.make_calls.Reads as make-calls-reads
 
--- src/lib.rt:131:5
 fresh-requires : tie.Need-fresh-requires
 fresh-requires c κs = search needs
 
--- src/lib.rt:132:5
 make-calls-requires : tie.Need-make-calls-requires
 make-calls-requires c κs = search needs
 
--- src/lib.rt:121:1
 same-length : tie.Need-same-length
 same-length c = search needs
 
--- src/lib.rt:121:1
 same-length-2 : tie.Need-same-length-2
 same-length-2 c = search needs
 
--- src/lib.rt:121:1
 same-length-3 : tie.Need-same-length-3
 same-length-3 c = search needs
 
--- src/lib.rt:121:1
 returns : tie.Need-returns
 returns c =
     started (c .before .before .before .before .before .before .before .before .before .before .before .before .before .before .before .before .before .before .before .args .file .now) (c .before .before .before .before .before .before .before .before .before .before .before .before .before .before .before .before .before .before .before .args .net .now) (c .before .before .before .before .before .before .before .before .before .before .before .before .before .before .before .before .before .before .before .args .station) (c .before .before .before .before .before .before .before .before .before .before .before .before .before .before .before .before .before .before .before .args .leader .now) (c .before .before .before .before .before .before .before .before .before .before .before .before .before .before .before .before .before .before .before .args .follower .now) (c .before .before .before .before .before .before .before .before .before .before .before .before .fresh .last .1 .0) (c .before .before .before .before .before .before .before .before .before .before .before .before .before .before .before .before .before .before .before .args .calls .now)

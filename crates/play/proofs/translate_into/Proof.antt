@@ -5,28 +5,19 @@ use native.Mathlib.Omega.{arith}
 use borrow.Author.Needs.{needs}
 use Rattle.play.proofs.translate_into.Statement.{statement}
 use Rattle.play.proofs.translate_into.Tie as tie
-use Rattle.play.proofs.translate_into.Reads as reads
-use Rattle.play.proofs.translate_into.Lts as lts
-use Rattle.diagram_file.proofs.parse.Reads as parse-reads
-use Rattle.translate.proofs.translate.Reads as translate-reads
 
--- src/lib.rt:152:9
 parse-requires : tie.Need-parse-requires
 parse-requires c κs = search needs
 
--- src/lib.rt:154:9
 returns : tie.Need-returns
 returns c = no-net (c .before .before .before .before .before .args .file .now) (c .before .before .before .before .before .args .area .now) (c .before .before .parse .result) (c .before .before .parse .ensures) (c .if1 .taken)
 
--- src/lib.rt:156:5
 translate-requires : tie.Need-translate-requires
 translate-requires c κs = search needs
 
--- src/lib.rt:147:1
 same-length : tie.Need-same-length
 same-length c = search needs
 
--- src/lib.rt:147:1
 returns-2 : tie.Need-returns-2
 returns-2 c =
     let h = c .before .before .before .before .before .before .parse .ensures .holds (c .before .before .before .before .if1 .left) in

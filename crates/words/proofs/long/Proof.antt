@@ -2,43 +2,31 @@ use Rattle.words.proofs.Ends.{long-out}
 use borrow.Author.Needs.{needs}
 use Rattle.words.proofs.long.Statement.{statement}
 use Rattle.words.proofs.long.Tie as tie
-use Rattle.words.proofs.long.Reads as reads
-use Rattle.words.proofs.long.Lts as lts
-use Rattle.words.proofs.word.Reads as word-reads
 
--- src/lib.rt:34:16
 word-requires : tie.Need-word-requires
 word-requires c κs = search needs
 
--- src/lib.rt:34:16
 cast-result : tie.Need-cast-result
 cast-result c = search needs
 
--- src/lib.rt:34:62
 add-word : tie.Need-add-word
 add-word c = search needs
 
--- src/lib.rt:34:50
 word-requires-2 : tie.Need-word-requires-2
 word-requires-2 c κs = search needs
 
--- src/lib.rt:34:50
 cast-result-2 : tie.Need-cast-result-2
 cast-result-2 c = search needs
 
--- src/lib.rt:34:41
 mul-result : tie.Need-mul-result
 mul-result c = search needs
 
--- src/lib.rt:34:16
 add-result : tie.Need-add-result
 add-result c = search needs
 
--- src/lib.rt:34:9
 returns : tie.Need-returns
 returns c = search needs
 
--- src/lib.rt:30:1
 returns-2 : tie.Need-returns-2
 returns-2 c = long-out (c .before .before .args .bytes .now) (c .before .before .args .at) (c .if1 .left)
 

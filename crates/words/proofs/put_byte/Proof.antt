@@ -3,22 +3,16 @@ use mathlib.Core.Path.{sym}
 use borrow.Author.Needs.{needs}
 use Rattle.words.proofs.put_byte.Statement.{statement}
 use Rattle.words.proofs.put_byte.Tie as tie
-use Rattle.words.proofs.put_byte.Reads as reads
-use Rattle.words.proofs.put_byte.Lts as lts
 
--- src/lib.rt:54:9
 slice-write-area : tie.Need-slice-write-area
 slice-write-area c = search needs
 
--- src/lib.rt:50:1
 same-length : tie.Need-same-length
 same-length c = search needs
 
--- src/lib.rt:50:1
 returns : tie.Need-returns
 returns c = search needs
 
--- src/lib.rt:50:1
 returns-2 : tie.Need-returns-2
 returns-2 c = sym (set-out (c .before .args .area .now) (c .before .args .at) (c .before .args .value) (c .if1 .left))
 

@@ -2,39 +2,28 @@ use Rattle.words.proofs.Ends.{long-put-out}
 use borrow.Author.Needs.{needs}
 use Rattle.words.proofs.put_long.Statement.{statement}
 use Rattle.words.proofs.put_long.Tie as tie
-use Rattle.words.proofs.put_long.Reads as reads
-use Rattle.words.proofs.put_long.Lts as lts
-use Rattle.words.proofs.put_word.Reads as put-word-reads
 
--- src/lib.rt:73:28
 cast-put-word : tie.Need-cast-put-word
 cast-put-word c = search needs
 
--- src/lib.rt:73:9
 put-word-requires : tie.Need-put-word-requires
 put-word-requires c κs = search needs
 
--- src/lib.rt:74:24
 add-put-word : tie.Need-add-put-word
 add-put-word c = search needs
 
--- src/lib.rt:74:32
 cast-put-word-2 : tie.Need-cast-put-word-2
 cast-put-word-2 c = search needs
 
--- src/lib.rt:74:9
 put-word-requires-2 : tie.Need-put-word-requires-2
 put-word-requires-2 c κs = search needs
 
--- src/lib.rt:69:1
 same-length : tie.Need-same-length
 same-length c = search needs
 
--- src/lib.rt:69:1
 returns : tie.Need-returns
 returns c = cc
 
--- src/lib.rt:69:1
 returns-2 : tie.Need-returns-2
 returns-2 c = long-put-out (c .before .before .args .area .now) (c .before .before .args .at) (c .before .before .args .value) (c .if1 .left)
 

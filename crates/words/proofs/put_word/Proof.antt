@@ -2,39 +2,28 @@ use Rattle.words.proofs.Ends.{word-put-out}
 use borrow.Author.Needs.{needs}
 use Rattle.words.proofs.put_word.Statement.{statement}
 use Rattle.words.proofs.put_word.Tie as tie
-use Rattle.words.proofs.put_word.Reads as reads
-use Rattle.words.proofs.put_word.Lts as lts
-use Rattle.words.proofs.put_byte.Reads as put-byte-reads
 
--- src/lib.rt:63:28
 cast-put-byte : tie.Need-cast-put-byte
 cast-put-byte c = search needs
 
--- src/lib.rt:63:9
 put-byte-requires : tie.Need-put-byte-requires
 put-byte-requires c κs = search needs
 
--- src/lib.rt:64:24
 add-put-byte : tie.Need-add-put-byte
 add-put-byte c = search needs
 
--- src/lib.rt:64:32
 cast-put-byte-2 : tie.Need-cast-put-byte-2
 cast-put-byte-2 c = search needs
 
--- src/lib.rt:64:9
 put-byte-requires-2 : tie.Need-put-byte-requires-2
 put-byte-requires-2 c κs = search needs
 
--- src/lib.rt:59:1
 same-length : tie.Need-same-length
 same-length c = search needs
 
--- src/lib.rt:59:1
 returns : tie.Need-returns
 returns c = cc
 
--- src/lib.rt:59:1
 returns-2 : tie.Need-returns-2
 returns-2 c = word-put-out (c .before .before .args .area .now) (c .before .before .args .at) (c .before .before .args .value) (c .if1 .left)
 

@@ -7,38 +7,28 @@ use Prim.Native.Nat.{_-_, _≤_}
 use borrow.Author.Needs.{needs}
 use Rattle.words.proofs.tail.Statement.{statement}
 use Rattle.words.proofs.tail.Tie as tie
-use Rattle.words.proofs.tail.Reads as reads
-use Rattle.words.proofs.tail.Lts as lts
 
--- src/lib.rt:44:16
 sub-result : tie.Need-sub-result
 sub-result c = search needs
 
--- src/lib.rt:44:16
 part-result-start : tie.Need-part-result-start
 part-result-start c = search needs
 
--- src/lib.rt:44:16
 part-result-end : tie.Need-part-result-end
 part-result-end c = search needs
 
--- src/lib.rt:44:9
 returns : tie.Need-returns
 returns c = let l = c .before .before .args .bytes .now in let n = c .before .before .args .n in take-all (length l - n) (drop n l) (le-of-eq (length-drop n l))
 
--- src/lib.rt:46:5
 sub-result-2 : tie.Need-sub-result-2
 sub-result-2 c = search needs
 
--- src/lib.rt:46:5
 part-result-start-2 : tie.Need-part-result-start-2
 part-result-start-2 c = search needs
 
--- src/lib.rt:46:5
 part-result-end-2 : tie.Need-part-result-end-2
 part-result-end-2 c = search needs
 
--- src/lib.rt:40:1
 returns-2 : tie.Need-returns-2
 returns-2 c = let h : length (c .before .before .args .bytes .now) ≤ c .before .before .args .n = omega arith in sym (drop-of-length-le (c .before .before .args .bytes .now) h)
 

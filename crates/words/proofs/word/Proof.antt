@@ -7,59 +7,43 @@ use borrow.Author.Needs.{needs}
 use Rattle.words.proofs.Ends.{word-last}
 use Rattle.words.proofs.word.Statement.{statement}
 use Rattle.words.proofs.word.Tie as tie
-use Rattle.words.proofs.word.Reads as reads
-use Rattle.words.proofs.word.Lts as lts
-use Rattle.words.proofs.byte.Reads as byte-reads
 
--- src/lib.rt:26:9
 byte-requires : tie.Need-byte-requires
 byte-requires c κs = search needs
 
--- src/lib.rt:26:9
 returns : tie.Need-returns
 returns c = word-last (c .before .before .before .args .bytes .now) (c .before .before .before .args .at) (c .byte .result) (omega arith) (c .byte .ensures .0)
 
--- src/lib.rt:28:8
 sub-if2 : tie.Need-sub-if2
 sub-if2 c = search needs
 
--- src/lib.rt:29:9
 byte-requires-2 : tie.Need-byte-requires-2
 byte-requires-2 c κs = search needs
 
--- src/lib.rt:29:9
 returns-2 : tie.Need-returns-2
 returns-2 c = word-last (c .before .before .before .before .args .bytes .now) (c .before .before .before .before .args .at) (c .byte2 .result) (omega arith) (c .byte2 .ensures .0)
 
--- src/lib.rt:31:5
 shared-slice-read-result : tie.Need-shared-slice-read-result
 shared-slice-read-result c = search needs
 
--- src/lib.rt:31:5
 cast-result : tie.Need-cast-result
 cast-result c = omega (arith, c .shared-slice-known2 .given (c .before .before .before .before .args .at))
 
--- src/lib.rt:31:37
 add-result : tie.Need-add-result
 add-result c = search needs
 
--- src/lib.rt:31:31
 shared-slice-read-result-2 : tie.Need-shared-slice-read-result-2
 shared-slice-read-result-2 c = search needs
 
--- src/lib.rt:31:31
 cast-result-2 : tie.Need-cast-result-2
 cast-result-2 c = omega (arith, c .shared-slice-known3 .given (c .before .before .before .before .before .args .at + 1))
 
--- src/lib.rt:31:24
 mul-result : tie.Need-mul-result
 mul-result c = omega (arith, c .shared-slice-known3 .given (c .before .before .before .before .before .args .at + 1))
 
--- src/lib.rt:31:5
 add-result-2 : tie.Need-add-result-2
 add-result-2 c = omega (arith, c .shared-slice-known3 .given (c .before .before .before .before .before .args .at), c .shared-slice-known3 .given (c .before .before .before .before .before .args .at + 1))
 
--- src/lib.rt:22:1
 returns-3 : tie.Need-returns-3
 returns-3 c = let b = c .before .before .before .before .before .args .bytes .now in let at = c .before .before .before .before .before .args .at in
     let e : getD b (at + 1) 0 ≡ getD b (suc at) 0 = rw add-one in omega arith
