@@ -1,4 +1,4 @@
--- What the bus ends read off a telegram before they look at the net. Assumes nothing.
+-- What the inner functions of both ends answer.
 use Prim.Native.Nat.{ℕ, suc}
 use mathlib.Core.Bool.{cond}
 use mathlib.Core.List.{List}

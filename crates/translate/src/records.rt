@@ -62,7 +62,7 @@ fn add(area: &mut [u8], at: usize, fields: &[u16]) -> usize
     next
 }
 
-// A record with two fields that are places or numbers of places: the head, a clear.
+// A record of two numbers: the head (places, transitions), a clear (first, last place).
 pub(crate) fn pair(area: &mut [u8], at: usize, kind: u16, first: usize, second: usize) -> usize
     ensures { λ r. ⌜ Wrote (now (area .entry)) at (now (area .exit)) r (pairRecord kind first second) ⌝ }
 {

@@ -96,7 +96,7 @@ pub fn length_of(kind: u16) -> u16
     0
 }
 
-// How many fields a kind has.
+// How many fields a kind has; no reader needs it, document 01's form asks for it.
 pub fn fields_of(kind: u16) -> u16
     ensures { λ r. ⌜ r ≡ fieldsOf kind ⌝ }
 {

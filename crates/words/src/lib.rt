@@ -102,7 +102,7 @@ pub fn put_long(area: &mut [u8], at: usize, value: u32)
     }
 }
 
-// The word of a state at `at`.
+// The word at `at` of a state or a table.
 pub fn get(state: &[u16], at: usize) -> u16
     ensures { λ r. ⌜ r ≡ getD (now (state .entry)) at 0 ⌝ }
 {
@@ -112,7 +112,7 @@ pub fn get(state: &[u16], at: usize) -> u16
     0
 }
 
-// Stores a word of a state at `at`.
+// Stores a word at `at` of a state or a table.
 pub fn put(state: &mut [u16], at: usize, value: u16)
     ensures { λ _. ⌜ now (state .exit) ≡ set (now (state .entry)) at value ⌝ }
 {
