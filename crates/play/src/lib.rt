@@ -108,6 +108,7 @@ fn make_calls(
     let mut sent: u32 = 0;
     let mut taken: u32 = 0;
     let mut at: usize = 0;
+    // At most as many calls as bytes; falls with each.
     let mut left = calls.len();
     while left > 0 {
         let length = call_length(&calls[at..]);

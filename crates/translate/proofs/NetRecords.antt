@@ -19,7 +19,7 @@ use Rattle.agreement.specs.NetSteps.{many-marks}
 use Rattle.diagram_file.specs.Tables.{Holds, HoldsUses}
 use Rattle.translate.specs.Writing.{Records, encode, flat, runs}
 use Rattle.translate.specs.Rows.{entered, pair, transition, rowRecords}
-use Rattle.translate.specs.Whole.{mark, token, remaining, rowMarks, itemMark, numberAs, tally, netRecords}
+use Rattle.translate.specs.Whole.{mark, firstMark, remaining, rowMarks, itemMark, numberAs, tally, netRecords}
 use Rattle.translate.proofs.Runs.{runs-same, runs-front}
 use Rattle.translate.proofs.Weights.{arcRecord, arcs-run, weights, by-rows}
 use Rattle.translate.proofs.RowRecords.{clears, patternRecords, allPatterns, row-is}
@@ -157,7 +157,7 @@ module _ (d : Diagram) (rows items : ℕ) (table file : List ℕ) (h : Holds d r
       (runs-same _ _ (countTotal d) (λ k l. ap mark (sym (h .counts k (let e = h .itemsAre in omega arith)))) ∙ ap (runs (itemMark table)) (sym (h .itemsAre))))
     where
       row : (q : ℕ) → q < rowCount d → mark (cond (only (enteredRow d 0) q) 1 0) ++ (mark 0 ++ mark (cond (isKind d it-open q) (turnLimit d q) 0)) ≡ rowMarks table (entered table 0) q
-      row q l = unfold rowMarks token remaining in
+      row q l = unfold rowMarks firstMark remaining in
           rw (entered-cell d rows items table h 0 (omega arith), kind-cell d rows items table h q l, h .firsts q (in-rows d rows items table h q l))
           (sym (append-assoc (mark (cond (only (enteredRow d 0) q) 1 0)) (mark 0) (mark (cond (isKind d it-open q) (turnLimit d q) 0))))
 

@@ -10,14 +10,14 @@ unfoldable pub mark : ℕ → Records
 mark weight = (6 ∷ 33 ∷ weight ∷ []) ∷ []
 
 -- the fresh marks of a row's three places; `first` is the row that entering row 0 changes
-unfoldable pub token : (first row : ℕ) → ℕ
-token first row = cond (eqb row first) 1 0
+unfoldable pub firstMark : (first row : ℕ) → ℕ
+firstMark first row = cond (eqb row first) 1 0
 
 unfoldable pub remaining : (table : List ℕ) (row : ℕ) → ℕ
 remaining table row = cond (eqb (cell table kinds row) 22) (cell table firsts row) 0
 
 unfoldable pub rowMarks : (table : List ℕ) (first row : ℕ) → Records
-rowMarks table first row = mark (token first row) ++ mark 0 ++ mark (remaining table row)
+rowMarks table first row = mark (firstMark first row) ++ mark 0 ++ mark (remaining table row)
 
 unfoldable pub itemMark : (table : List ℕ) (k : ℕ) → Records
 itemMark table k = mark (cell table counts k)

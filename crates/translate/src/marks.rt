@@ -3,7 +3,7 @@ ghost use mathlib.Core.Path.{_≡_};
 ghost use Prim.Native.Nat.{_+_, _*_, _<_, _≤_};
 ghost use Rattle.translate.specs.Writing.{Wrote, runs};
 ghost use Rattle.translate.specs.Rows.{pair, entered};
-ghost use Rattle.translate.specs.Whole.{token as tokenOf, remaining as remainingOf, rowMarks, itemMark, numberAs, tally as tallyOf};
+ghost use Rattle.translate.specs.Whole.{firstMark, remaining as remainingOf, rowMarks, itemMark, numberAs, tally as tallyOf};
 use crate::records;
 use crate::records::HEAD;
 use crate::rows;
@@ -13,8 +13,8 @@ use crate::rows::KINDS;
 use crate::rows::OWNERS;
 
 // P of the row that entering row 0 changes has a token.
-fn token(first: usize, row: usize) -> u16
-    ensures { λ r. ⌜ r ≡ tokenOf first row ⌝ }
+fn first_mark(first: usize, row: usize) -> u16
+    ensures { λ r. ⌜ r ≡ firstMark first row ⌝ }
 {
     if row == first {
         return 1;
@@ -37,11 +37,11 @@ fn row_marks(table: &[u16], first: usize, row: usize, area: &mut [u8], at: usize
     requires { ⌜ row < 65536 ⌝ }
     ensures { λ r. ⌜ Wrote (now (area .entry)) at (now (area .exit)) r (rowMarks (now (table .entry)) first row) ⌝ }
 {
-    let ready = token(first, row);
+    let ready = first_mark(first, row);
     let count = remaining(table, row);
-    let running = records::mark(area, at, ready);
-    let turns = records::mark(area, running, 0);
-    records::mark(area, turns, count)
+    let at_q = records::mark(area, at, ready);
+    let at_r = records::mark(area, at_q, 0);
+    records::mark(area, at_r, count)
 }
 
 pub(crate) fn of_rows(table: &[u16], rows: u16, area: &mut [u8], at: usize) -> usize
@@ -73,8 +73,8 @@ pub(crate) fn of_items(table: &[u16], items: u16, area: &mut [u8], at: usize) ->
 }
 
 // How many transitions a row of a kind has; a BRANCH, by its construct's open row.
-fn number(owner: u16, kind: u16) -> usize
-    ensures { λ r. ⌜ (r ≡ numberAs owner kind) × (r ≤ 2) ⌝ }
+fn number(owner_kind: u16, kind: u16) -> usize
+    ensures { λ r. ⌜ (r ≡ numberAs «owner_kind» kind) × (r ≤ 2) ⌝ }
 {
     match kind {
         16 => 2,
@@ -82,7 +82,7 @@ fn number(owner: u16, kind: u16) -> usize
         27 => 0,
         20 => 0,
         18 => {
-            if owner == 20 {
+            if owner_kind == 20 {
                 return 1;
             }
             0
@@ -99,9 +99,9 @@ fn tally(table: &[u16], rows: u16) -> usize
     let mut row: usize = 0;
     while row < end {
         let opened = rows::cell(table, OWNERS, row) as usize;
-        let owner = rows::cell(table, KINDS, opened);
+        let owner_kind = rows::cell(table, KINDS, opened);
         let kind = rows::cell(table, KINDS, row);
-        sum += number(owner, kind);
+        sum += number(owner_kind, kind);
         row += 1;
     }
     sum

@@ -5,8 +5,8 @@ use borrow.Author.Needs.{needs}
 use Rattle.translate.proofs.marks.row_marks.Statement.{statement}
 use Rattle.translate.proofs.marks.row_marks.Tie as tie
 
-token-requires : tie.Need-token-requires
-token-requires c κs = search needs
+first-mark-requires : tie.Need-first-mark-requires
+first-mark-requires c κs = search needs
 
 remaining-requires : tie.Need-remaining-requires
 remaining-requires c κs = search needs
@@ -25,13 +25,13 @@ same-length c = search needs
 
 returns : tie.Need-returns
 unfolding rowMarks
-returns c = and-then (and-then (same (ap mark (c .before .before .before .before .before .before .before .before .before .before .before .before .before .token .ensures)) (c .before .before .before .before .before .before .before .before .before .before .mark .ensures)) (c .before .before .before .before .before .before .mark2 .ensures)) (same (ap mark (c .before .before .before .before .before .before .before .before .before .before .before .before .remaining .ensures)) (c .before .before .mark3 .ensures))
+returns c = and-then (and-then (same (ap mark (c .before .before .before .before .before .before .before .before .before .before .before .before .before .first-mark .ensures)) (c .before .before .before .before .before .before .before .before .before .before .mark .ensures)) (c .before .before .before .before .before .before .mark2 .ensures)) (same (ap mark (c .before .before .before .before .before .before .before .before .before .before .before .before .remaining .ensures)) (c .before .before .mark3 .ensures))
 
 pub row-marks-spec : {M : Type 1} → statement M
 row-marks-spec =
     tie.close
     (tie.spec
-    token-requires
+    first-mark-requires
     remaining-requires
     mark-requires
     mark-requires-2
