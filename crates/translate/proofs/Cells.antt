@@ -67,8 +67,5 @@ module _ (d : Diagram) (rows items : ℕ) (table : List ℕ) (h : Holds d rows i
     pub next-entry : (r : ℕ) → kind d r ≢ end → entry table (r + 1) ≡ 3 * enteredRow d (suc r)
     next-entry r n = entry-cell r (next-in d (held .acc) r n)
 
-    pub entered-row : (q : ℕ) → q < rowCount d → enteredRow d q < rowCount d
-    entered-row q l = entered-in d (held .acc) q l
-
     pub next-entered : (r : ℕ) → kind d r ≢ end → enteredRow d (suc r) < rowCount d
-    next-entered r n = entered-row (suc r) (next-in d (held .acc) r n)
+    next-entered r n = entered-in d (held .acc) (suc r) (next-in d (held .acc) r n)

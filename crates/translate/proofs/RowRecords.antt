@@ -26,10 +26,10 @@ use Rattle.translate.proofs.Runs.{runs-same, runs-span}
 use Rattle.translate.proofs.Weights.{arcRecord, arc-none, weights, countArcs, count-none, at-P, mark-P, mark-Q, mark-each, entry-among, it-gives}
 use Rattle.translate.proofs.Ranges.{rows-range, no-range}
 use Rattle.translate.proofs.Uses.{uses-read}
-use Rattle.agreement.specs.Reach.{close-in}
+use Rattle.agreement.specs.Reach.{close-in, entered-in}
 use Rattle.translate.proofs.Nesting.{behind-branch, branch-inside}
 use Rattle.translate.proofs.Branches.{images}
-use Rattle.translate.proofs.Cells.{in-rows, kind-cell, owner-cell, owner-kind, close-cell, entry-cell, branch-cell, next-entry, entered-row, next-entered}
+use Rattle.translate.proofs.Cells.{in-rows, kind-cell, owner-cell, owner-kind, close-cell, entry-cell, branch-cell, next-entry, next-entered}
 
 -- the clear ranges of a test of places, a pattern's transition, a row's
 module _ (d : Diagram) where
@@ -203,7 +203,7 @@ module _ (d : Diagram) (rows items : ℕ) (table file : List ℕ) (h : Holds d r
       (rw (arc-none takeArc (3 * r + 1) refl, only-refl r)) (rw (arc-none giveArc (3 * r + 2) refl, only-refl r, append-nil))
       ∙ ap (itTurn r (3 * r + 2) (3 * r + 1) 1) (sym (next-entry d rows items table h held r no-end)))
       (append-nil _ ∙ (turn-is r (enteredRow d (suc (close d r))) (3 * r + 1) (3 * r + 2) (turnLimit d r) (weightOf r (turnLimit d r)) none none (weightOf r (turnLimit d r)) l
-      (entered-row d rows items table h held (suc (close d r)) behind)
+      (entered-in d (held .acc) (suc (close d r)) behind)
       (λ q n. (rw (ne-eqb q r n), refl)) (λ q n. (refl, rw (ne-eqb q r n)))
       (rw (arc-none takeArc (3 * r + 2) refl, only-refl r, append-nil)) (rw (arc-none giveArc (3 * r + 1) refl, only-refl r))
       ∙ rw (h .firsts r (in-rows d rows items table h r l), close-cell d rows items table h r l, entry-cell d rows items table h (close d r) behind))))
@@ -264,7 +264,7 @@ module _ (d : Diagram) (rows items : ℕ) (table file : List ℕ) (h : Holds d r
 
       gives : weights d giveArc (byPlace (oneAt (only t)) none (restoresR d (inLoop d r)) none)
           ≡ arc giveArc (3 * t) (early (3 * t) (3 * o)) ++ (span (restore table) o (c + 1) ++ arc giveArc (3 * t) (late (3 * t) (3 * o)))
-      gives = entry-among d none (restoresR d (inLoop d r)) t o (entered-row d rows items table h held (suc c) cl)
+      gives = entry-among d none (restoresR d (inLoop d r)) t o (entered-in d (held .acc) (suc c) cl)
           (λ m q k. (refl, rw (out q (inl (omega arith))))) (λ m q k. (refl, let w = beyond m in rw (out q (inr (omega arith)))))
           ∙ rw restores
 
