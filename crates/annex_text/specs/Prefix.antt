@@ -9,10 +9,11 @@ use lib.Seq.{drop-append-le, length-take-le, take-all}
 use lib.Dec.{leb, ltb, eqb}
 use borrow.Author.Tests.{le-ltb, leb-true, leb-false, eqb-true, ne-eqb}
 use Rattle.effbd.specs.Answers.{Outcome, accepted, refused, unless, andThen}
-use Rattle.effbd.specs.Records.{Entry, Got, adding, entryIn, faultAt, kindAt, kindTable, lengthAt, lengthOf, readMany, word}
+use Rattle.effbd.specs.Records.{Got, adding, entryIn, faultAt, kindAt, kindTable, lengthAt, lengthOf, readMany, word}
 use Rattle.effbd.specs.Diagrams.{Row, Use, headFault, itemAt, itemFault, rowAt, rowFault, rowFine, rowRight, usesAt, kindOf}
 use Rattle.effbd.specs.Nesting.{afterItems, afterRows, readDiagram}
 use Rattle.effbd.specs.Annex.{annexIn}
+use Rattle.words.proofs.KindTable.{short}
 use Rattle.agreement.specs.Basics.{decide, and-left, and-right}
 use Rattle.agreement.specs.ByteLaws.{none-clean, next-inv, adding-inv}
 
@@ -60,21 +61,6 @@ unfolding itemFault
 item-same p s l = fault-same p s _ _ _ _ _ _ 5 l (ap (λ (n : ℕ). eqb n 2) (word-same p s 2 (omega arith))) (ap (λ (n : ℕ). eqb n (lengthOf 2)) (word-same p s 0 (omega arith)))
     (λ e. let z = eqb-true (lengthAt p) (lengthOf 2) e in let y : lengthOf 2 ≡ 6 = unfold lengthOf entryIn kindTable in refl in omega arith) (λ e. refl)
 
--- no kind has a base length above 10
-short : List Entry → Bool
-short [] = true
-short (e ∷ es) = leb (e .base) 10 && short es
-
-entry-short : (es : List Entry) (k : ℕ) → short es ≡ true → entryIn es k .base ≤ 10
-unfolding short entryIn
-entry-short [] k h = omega arith
-entry-short (e ∷ es) k h = decide (eqb (e .kind) k) (λ z. rw z (leb-true (e .base) 10 (and-left (leb (e .base) 10) (short es) h)))
-    (λ z. rw z (entry-short es k (and-right (leb (e .base) 10) (short es) h)))
-
-kind-short : (k : ℕ) → lengthOf k ≤ 10
-unfolding lengthOf kindTable short
-kind-short k = entry-short kindTable k refl
-
 module _ (M : ℕ) (few : M ≤ 16) where
   row-short : (p : List ℕ) → rowRight M p ≡ true → lengthAt p ≤ 104
   unfolding rowRight
@@ -86,7 +72,7 @@ module _ (M : ℕ) (few : M ≤ 16) where
       let c = leb-true 8 (lengthAt p) (and-left (leb 8 (lengthAt p)) _ y) in
       omega arith)
       (λ z. let y : eqb (lengthAt p) (lengthOf (kindAt p)) ≡ true = rw z at e in
-      let a = eqb-true (lengthAt p) (lengthOf (kindAt p)) y in let b = kind-short (kindAt p) in omega arith)
+      let a = eqb-true (lengthAt p) (lengthOf (kindAt p)) y in let b = short (kindAt p) in omega arith)
 
   abbrev rowOf : (kind first second : ℕ) → List Use → Row
   rowOf kind first second uses = record {

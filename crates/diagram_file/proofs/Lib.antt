@@ -1,6 +1,5 @@
 pub mod Basics
 pub mod Cells
-pub mod KindTable
 pub mod Fields
 pub mod Loops
 pub mod Files

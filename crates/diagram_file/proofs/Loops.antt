@@ -18,7 +18,7 @@ use Rattle.agreement.specs.ByteLaws.{none-clean}
 use Rattle.diagram_file.specs.Cells.{Cell, cell}
 use Rattle.diagram_file.specs.Reading.{Reading, Stopped, FilledRows, Kept, ItemsState, ItemsRead, RowsState, RowsRead, column, putRow, fillRow}
 use Rattle.diagram_file.proofs.Cells.{put-long, put-away, put-at}
-use Rattle.diagram_file.proofs.KindTable.{short}
+use Rattle.words.proofs.KindTable.{short}
 
 skip-next : (i : ℕ) (l : List ℕ) → skip (suc i) l ≡ drop (lengthAt (skip i l)) (skip i l)
 unfolding skip

@@ -1,15 +1,15 @@
--- The code's two columns are those of `kindTable`: one computed test over all entries; no kind is 38 or more.
+-- The code's two columns are those of `kindTable`: one computed test over all entries; no kind is 38 or more, none longer than 10.
 use Prim.Native.Nat.{ℕ, _≤_, _<_}
 use mathlib.Core.Path.{_≡_, refl, sym, ap}
 use mathlib.Core.Bool.{Bool, true, _&&_}
 use mathlib.Core.List.{List, [], _∷_}
 use native.Mathlib.Omega.{arith}
-use borrow.Author.Tests.{ltb-true, eqb-true, ne-eqb}
+use borrow.Author.Tests.{ltb-true, ltb-false, leb-true, eqb-true, ne-eqb}
 use lib.ListN.{getD}
-use lib.Dec.{ltb, eqb}
+use lib.Dec.{leb, ltb, eqb}
 use Rattle.effbd.specs.Ranges.{allBelow}
 use Rattle.effbd.specs.Records.{Entry, kindTable, entry, entryIn, lengthOf, fieldsOf}
-use Rattle.words.proofs.Tests.{and-left, and-right, all-elim}
+use Rattle.words.proofs.Tests.{decide, and-left, and-right, all-elim}
 
 unfoldable pub lengths : List ℕ
 lengths = 0 ∷ 10 ∷ 6 ∷ 0 ∷ 0 ∷ 0 ∷ 0 ∷ 0 ∷ 0 ∷ 0 ∷ 0 ∷ 0 ∷ 0 ∷ 0 ∷ 0 ∷ 0 ∷ 8 ∷ 4 ∷ 4 ∷ 4 ∷ 4 ∷ 4 ∷ 6 ∷ 4 ∷ 4 ∷ 4 ∷ 4 ∷ 4 ∷ 0 ∷ 0 ∷ 0 ∷ 0 ∷ 8 ∷ 6 ∷ 10 ∷ 8 ∷ 8 ∷ 8 ∷ []
@@ -62,6 +62,16 @@ all-low = refl
 pub length-out : (k : ℕ) → 38 ≤ k → 0 ≡ lengthOf k
 unfolding lengthOf
 length-out k h = sym (ap (λ (e : Entry). e .base) (no-entry kindTable k all-low h))
+
+short-table : allBelow 38 (λ k. leb (lengthOf k) 10) ≡ true
+unfolding lengthOf entryIn kindTable
+short-table = refl
+
+-- no record is longer than 10 bytes, but a FUNCTION's
+pub short : (k : ℕ) → lengthOf k ≤ 10
+short k = decide (ltb k 38)
+    (λ e. leb-true (lengthOf k) 10 (all-elim 38 (λ j. leb (lengthOf j) 10) short-table k (ltb-true k 38 e)))
+    (λ e. let z = length-out k (ltb-false k 38 e) in omega arith)
 
 pub fields-out : (k : ℕ) → 38 ≤ k → 0 ≡ fieldsOf k
 unfolding fieldsOf
