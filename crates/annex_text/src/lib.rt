@@ -1,5 +1,6 @@
 // The text of the annex, written into lent bytes. Each writer lays its bytes from `at` on and returns the position behind them.
 // Past the end of the lent bytes nothing is changed and positions go on, so no writer asks for room and the result is the text's length.
+use words::kinds;
 ghost use mathlib.Core.Path.{_≡_};
 ghost use mathlib.Core.List.{[], _∷_, _++_};
 ghost use lib.ListN.{length, take};
@@ -88,10 +89,10 @@ fn put_arc(text: &mut [u8], at: usize, bytes: &[u8]) -> usize
     let kind = words::word(bytes, 2);
     let first = words::word(bytes, 4) as usize;
     let second = words::word(bytes, 6) as usize;
-    if kind == 35 {
+    if kind == kinds::TAKE {
         return put_line(text, at, b"take", first, second);
     }
-    if kind == 36 {
+    if kind == kinds::CLEAR {
         return put_line(text, at, b"clear", first, second);
     }
     put_line(text, at, b"give", first, second)
@@ -112,7 +113,7 @@ fn put_transition(text: &mut [u8], at: usize, j: usize, bytes: &[u8]) -> usize
 fn put_record(text: &mut [u8], at: usize, j: usize, bytes: &[u8]) -> usize
     ensures { λ r. ⌜ Laid (now (text .entry)) at (now (text .exit)) r (recordLine j (now (bytes .entry))) ⌝ }
 {
-    if words::word(bytes, 2) == 34 {
+    if words::word(bytes, 2) == kinds::TRANSITION {
         return put_transition(text, at, j, bytes);
     }
     put_arc(text, at, bytes)
@@ -122,7 +123,7 @@ fn put_record(text: &mut [u8], at: usize, j: usize, bytes: &[u8]) -> usize
 fn record_size(bytes: &[u8]) -> usize
     ensures { λ r. ⌜ r ≡ recordSize (now (bytes .entry)) ⌝ }
 {
-    if words::word(bytes, 2) == 34 {
+    if words::word(bytes, 2) == kinds::TRANSITION {
         return 10;
     }
     8
@@ -132,7 +133,7 @@ fn record_size(bytes: &[u8]) -> usize
 fn transitions_at(bytes: &[u8]) -> usize
     ensures { λ r. ⌜ r ≡ transitionsAt (now (bytes .entry)) ⌝ }
 {
-    if words::word(bytes, 2) == 34 {
+    if words::word(bytes, 2) == kinds::TRANSITION {
         return 1;
     }
     0

@@ -5,7 +5,7 @@ ghost use lib.ListN.{getD};
 ghost use Rattle.effbd.specs.States.{activityAt, turnsAt, clockAt};
 ghost use Rattle.diagram_moves.specs.Cells.{kindIn};
 ghost use Rattle.diagram_moves.specs.Decisions.{countPlace, isBranch};
-use crate::kinds;
+use words::kinds;
 
 // Where each column of the table starts.
 pub const FIRST: u32 = 64;

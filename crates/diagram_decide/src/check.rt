@@ -4,7 +4,7 @@ ghost use mathlib.Core.Bool.{_&&_};
 ghost use lib.Dec.{eqb};
 ghost use Rattle.diagram_moves.specs.Decisions.{activityAllowed, turnsAllowed, clockAllowed, rowAllowed, stateAllowed};
 use crate::cells;
-use crate::kinds;
+use words::kinds;
 
 // The activities that the kind of a row has.
 fn activity_allowed(table: &[u16], row: u32, activity: u16) -> bool

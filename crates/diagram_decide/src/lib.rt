@@ -7,7 +7,6 @@ use effbd::Answer;
 
 pub mod cells;
 mod check;
-pub mod kinds;
 mod steps;
 pub mod uses;
 mod waits;

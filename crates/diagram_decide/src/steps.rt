@@ -3,9 +3,9 @@ ghost use mathlib.Core.Path.{_≡_};
 ghost use Rattle.effbd.specs.Answers.{said};
 ghost use Rattle.diagram_moves.specs.Decisions.{doneAt, allDoneTo, readyVerdict, startVerdict, endVerdict, functionVerdict, branchVerdict, closeVerdict, rowVerdict};
 use crate::cells;
-use crate::kinds;
 use crate::uses;
 use effbd::Answer;
+use words::kinds;
 
 fn done_at(table: &[u16], state: &[u16], owner: u32, row: u32) -> bool
     ensures { λ r. ⌜ r ≡ doneAt (now (table .entry)) (now (state .entry)) owner row ⌝ }

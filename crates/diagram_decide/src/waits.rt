@@ -4,10 +4,10 @@ ghost use Rattle.effbd.specs.Ranges.{allBelow};
 ghost use Rattle.effbd.specs.Answers.{said};
 ghost use Rattle.diagram_moves.specs.Decisions.{functionHolds, rowHolds, rowFree, waitVerdict};
 use crate::cells;
-use crate::kinds;
 use crate::steps;
 use crate::uses;
 use effbd::Answer;
+use words::kinds;
 
 // A FUNCTION holds a wait if it is ready with all its takes, or if its clock would pass its β.
 fn function_holds(

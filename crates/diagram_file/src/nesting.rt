@@ -4,6 +4,7 @@ ghost use mathlib.Core.Path.{_≡_};
 ghost use Prim.Native.Nat.{_≤_, _<_};
 ghost use lib.ListN.{length};
 ghost use Rattle.diagram_file.specs.Runs.{partOf, kindIn, beforeIn, topIn, isAndOr, standsOf, followsOf, brokenOf, exitFits, misplacedOf, loopsIn, deepOf, faultIn, RunRead, ConstructRead, NestingRead};
+use words::kinds;
 
 // What a row does to the constructs that are open: adds one, turns the innermost to its next branch, takes it off, or nothing.
 pub enum Part {
@@ -44,15 +45,15 @@ pub(crate) fn part_of(kind: u16) -> Part
     ensures { λ r. ⌜ r ≡ partOf kind ⌝ }
 {
     match kind {
-        17 => Part::Opens,
-        18 => Part::Turns,
-        19 => Part::Closes,
-        20 => Part::Opens,
-        21 => Part::Closes,
-        22 => Part::Opens,
-        23 => Part::Closes,
-        24 => Part::Opens,
-        25 => Part::Closes,
+        kinds::AND_OPEN => Part::Opens,
+        kinds::BRANCH => Part::Turns,
+        kinds::AND_CLOSE => Part::Closes,
+        kinds::OR_OPEN => Part::Opens,
+        kinds::OR_CLOSE => Part::Closes,
+        kinds::IT_OPEN => Part::Opens,
+        kinds::IT_CLOSE => Part::Closes,
+        kinds::LP_OPEN => Part::Opens,
+        kinds::LP_CLOSE => Part::Closes,
         _ => Part::Stays,
     }
 }
@@ -65,7 +66,7 @@ fn kind_in(table: &[u16], rows: usize, row: usize) -> u16
     if row < rows {
         return table[row];
     }
-    27
+    kinds::END
 }
 
 // The kind of the row before, 0 before the first.
@@ -94,8 +95,8 @@ fn is_and_or(kind: u16) -> bool
     ensures { λ r. ⌜ r ≡ isAndOr kind ⌝ }
 {
     match kind {
-        17 => true,
-        20 => true,
+        kinds::AND_OPEN => true,
+        kinds::OR_OPEN => true,
         _ => false,
     }
 }
@@ -105,12 +106,12 @@ fn stands(kind: u16, top: u16, two: bool, last: bool) -> bool
     ensures { λ r. ⌜ r ≡ standsOf kind top two last ⌝ }
 {
     match kind {
-        18 => is_and_or(top),
-        19 => top == 17 && two,
-        21 => top == 20 && two,
-        23 => top == 22,
-        25 => top == 24,
-        27 => top == 0 && last,
+        kinds::BRANCH => is_and_or(top),
+        kinds::AND_CLOSE => top == kinds::AND_OPEN && two,
+        kinds::OR_CLOSE => top == kinds::OR_OPEN && two,
+        kinds::IT_CLOSE => top == kinds::IT_OPEN,
+        kinds::LP_CLOSE => top == kinds::LP_OPEN,
+        kinds::END => top == 0 && last,
         _ => true,
     }
 }
@@ -120,7 +121,7 @@ fn follows(before: u16, kind: u16) -> bool
     ensures { λ r. ⌜ r ≡ followsOf before kind ⌝ }
 {
     if is_and_or(before) {
-        return kind == 18;
+        return kind == kinds::BRANCH;
     }
     true
 }
@@ -136,7 +137,7 @@ fn broken(before: u16, kind: u16, top: u16, two: bool, last: bool) -> bool
         return true;
     }
     if last {
-        return kind != 27;
+        return kind != kinds::END;
     }
     false
 }
@@ -151,20 +152,20 @@ fn exit_fits(next: u16, top: u16, looped: bool) -> bool
     if !is_and_or(top) {
         return false;
     }
-    if next == 18 {
+    if next == kinds::BRANCH {
         return true;
     }
-    if top == 17 {
-        return next == 19;
+    if top == kinds::AND_OPEN {
+        return next == kinds::AND_CLOSE;
     }
-    next == 21
+    next == kinds::OR_CLOSE
 }
 
 // 8
 fn misplaced(kind: u16, next: u16, top: u16, looped: bool) -> bool
     ensures { λ r. ⌜ r ≡ misplacedOf kind next top looped ⌝ }
 {
-    if kind != 26 {
+    if kind != kinds::LOOP_EXIT {
         return false;
     }
     !exit_fits(next, top, looped)
@@ -174,7 +175,7 @@ fn misplaced(kind: u16, next: u16, top: u16, looped: bool) -> bool
 fn loops(kind: u16, looped: bool) -> bool
     ensures { λ r. ⌜ r ≡ loopsIn kind looped ⌝ }
 {
-    if kind == 24 {
+    if kind == kinds::LP_OPEN {
         return true;
     }
     looped

@@ -6,6 +6,7 @@ ghost use Rattle.effbd.specs.Diagrams.{usesAt, usesFine, headFault, itemFault, 
 ghost use Rattle.diagram_file.specs.Fields.{useFine, functionRight, functionFine, turnLimitFine, headFine, isRow};
 ghost use Rattle.diagram_file.specs.Reading.{putRow, fillRow, ItemsRead, RowsRead, Recorded};
 use crate::Diagram;
+use words::kinds;
 
 // Where reading stopped, and the fault of the record there, 0 for none.
 pub struct Reached {
@@ -58,7 +59,7 @@ fn use_count(length: u16) -> u16
 fn is_row(kind: u16) -> bool
     ensures { λ r. ⌜ r ≡ isRow kind ⌝ }
 {
-    16 <= kind && kind <= 27
+    kinds::FUNCTION <= kind && kind <= kinds::END
 }
 
 fn function_right(length: u16, items: u16) -> bool
@@ -93,19 +94,19 @@ fn row_fault(bytes: &[u8], items: u16) -> u16
     let kind = words::word(bytes, 2);
     let length = words::word(bytes, 0);
     match kind {
-        16 => {
+        kinds::FUNCTION => {
             let right = function_right(length, items);
             let fine = function_fine(bytes, items);
             words::record_fault(bytes, true, right, fine, 5)
         }
-        22 => {
-            let right = words::kinds::length_of(22);
+        kinds::IT_OPEN => {
+            let right = kinds::length_of(kinds::IT_OPEN);
             let fine = turn_limit_fine(words::word(bytes, 4));
             words::record_fault(bytes, true, length == right, fine, 5)
         }
         _ => {
             let due = is_row(kind);
-            let right = words::kinds::length_of(kind);
+            let right = kinds::length_of(kind);
             words::record_fault(bytes, due, length == right, true, 5)
         }
     }
@@ -116,8 +117,8 @@ fn item_fault(bytes: &[u8]) -> u16
 {
     let kind = words::word(bytes, 2);
     let length = words::word(bytes, 0);
-    let right = words::kinds::length_of(2);
-    words::record_fault(bytes, kind == 2, length == right, true, 5)
+    let right = kinds::length_of(kinds::ITEM);
+    words::record_fault(bytes, kind == kinds::ITEM, length == right, true, 5)
 }
 
 fn head_fine(edition: u16, rows: u16, items: u16) -> bool
@@ -136,8 +137,8 @@ fn head_fault(bytes: &[u8]) -> u16
         words::word(bytes, 6),
         words::word(bytes, 8),
     );
-    let right = words::kinds::length_of(1);
-    words::record_fault(bytes, kind == 1, length == right, fine, 4)
+    let right = kinds::length_of(kinds::HEAD);
+    words::record_fault(bytes, kind == kinds::HEAD, length == right, fine, 4)
 }
 
 fn put_row(
@@ -168,13 +169,13 @@ fn fill_row(table: &mut [u16], row: usize, bytes: &[u8], at: usize)
 {
     let kind = words::word(bytes, 2);
     match kind {
-        16 => {
+        kinds::FUNCTION => {
             let first = words::word(bytes, 4);
             let second = words::word(bytes, 6);
             let number = use_count(words::word(bytes, 0));
             put_row(table, row, kind, first, second, (at + 8) as u16, number);
         }
-        22 => {
+        kinds::IT_OPEN => {
             put_row(table, row, kind, words::word(bytes, 4), 0, 0, 0);
         }
         _ => {

@@ -5,6 +5,7 @@ ghost use lib.ListN.{length};
 ghost use Rattle.diagram_file.specs.Structure.{putStructure, loopingIn, followed, structured};
 use crate::nesting;
 use crate::nesting::Part;
+use words::kinds;
 
 // Owner, latest BRANCH and innermost LP of a row, and that it has no close: the number of rows stands for none.
 fn put_structure(table: &mut [u16], rows: u16, row: usize, owner: u16, latest: u16, looping: u16)
@@ -21,7 +22,7 @@ fn put_structure(table: &mut [u16], rows: u16, row: usize, owner: u16, latest: u
 fn looping_in(kind: u16, row: u16, looping: u16) -> u16
     ensures { λ r. ⌜ r ≡ loopingIn kind row looping ⌝ }
 {
-    if kind == 24 {
+    if kind == kinds::LP_OPEN {
         return row;
     }
     looping

@@ -7,8 +7,8 @@ ghost use Prim.Native.Nat.{_+_};
 ghost use Rattle.diagram_moves.specs.Cells.{ownerIn, closeIn};
 ghost use Rattle.diagram_moves.specs.Changes.{rowSet, entered, branchesTurned, itOpenChange, exitChange, functionChange, rowChange, moveChange, tableOutcome};
 use diagram_decide::cells;
-use diagram_decide::kinds;
 use effbd::Answer;
+use words::kinds;
 
 mod counts;
 mod tokens;

@@ -2,7 +2,7 @@
 ghost use mathlib.Core.Path.{_≡_};
 ghost use Rattle.diagram_moves.specs.Changes.{rowSet, enteredIn, entered, tokenPassed, branchTurn, branchesTurned, clearTurn, rowsCleared};
 use diagram_decide::cells;
-use diagram_decide::kinds;
+use words::kinds;
 
 // Activity of a row, clock 0.
 pub(crate) fn set_row(state: &mut [u16], row: u32, activity: u16)

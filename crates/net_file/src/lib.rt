@@ -1,5 +1,12 @@
 // The reader of net files: the places that stand right, then one loop over the records, each checked against what is due.
 use effbd::Answer;
+use words::kinds;
+use words::kinds::CLEAR;
+use words::kinds::GIVE;
+use words::kinds::NET_HEAD;
+use words::kinds::PLACE;
+use words::kinds::TAKE;
+use words::kinds::TRANSITION;
 ghost use mathlib.Core.Path.{_≡_};
 ghost use mathlib.Core.Bool.{cond};
 ghost use Prim.Native.Nat.{_-_};
@@ -9,19 +16,7 @@ ghost use Rattle.effbd.specs.Nets.{arcFine, above as aboveOf, transitionFine, n
 ghost use Rattle.net_file.specs.Contents.{headFine};
 ghost use Rattle.net_file.specs.Due.{start as startOf, arcOf, timed, arcNext, dueKind, arcRight, fieldsFine, faultIn, nextDue, ended as endedBy, placeRight, RightPlaces, wordsOf};
 
-// The kinds of net records, and the limits that a net's head has to keep.
-const HEAD: u16 = 32;
-
-const PLACE: u16 = 33;
-
-const TRANSITION: u16 = 34;
-
-pub const TAKE: u16 = 35;
-
-pub const CLEAR: u16 = 36;
-
-pub const GIVE: u16 = 37;
-
+// The limits that a net's head has to keep, and its labels.
 const MOST_PLACES: u16 = 208;
 
 const MOST_TRANSITIONS: u16 = 128;
@@ -62,8 +57,8 @@ fn head_fine(places: u16, transitions: u16) -> bool
 fn head_fault(net: &[u8]) -> u16
     ensures { λ r. ⌜ r ≡ netHeadFault (now (net .entry)) ⌝ }
 {
-    let due = words::word(net, 2) == HEAD;
-    let right = words::word(net, 0) == words::kinds::length_of(HEAD);
+    let due = words::word(net, 2) == NET_HEAD;
+    let right = words::word(net, 0) == kinds::length_of(NET_HEAD);
     let fine = head_fine(words::word(net, 4), words::word(net, 6));
     words::record_fault(net, due, right, fine, 4)
 }
@@ -150,7 +145,7 @@ fn arc_right(count: u16, due: Due, rest: &[u8]) -> bool
     if !arc_next(due.kind, rest) {
         return false;
     }
-    if words::word(rest, 0) != words::kinds::length_of(TAKE) {
+    if words::word(rest, 0) != kinds::length_of(TAKE) {
         return false;
     }
     arc_fine(count, due, kind, words::word(rest, 4), words::word(rest, 6))
@@ -168,7 +163,7 @@ fn fault(count: u16, due: Due, rest: &[u8]) -> u16
         return 6;
     }
     let stands = words::word(rest, 2) == kind;
-    let right = words::word(rest, 0) == words::kinds::length_of(kind);
+    let right = words::word(rest, 0) == kinds::length_of(kind);
     words::record_fault(rest, stands, right, fields_fine(count, due, kind, rest), 5)
 }
 
@@ -232,7 +227,7 @@ fn place_right(rest: &[u8]) -> bool
     ensures { λ r. ⌜ r ≡ placeRight (now (rest .entry)) ⌝ }
 {
     6 <= rest.len()
-        && (words::word(rest, 2) == PLACE && words::word(rest, 0) == words::kinds::length_of(PLACE))
+        && (words::word(rest, 2) == PLACE && words::word(rest, 0) == kinds::length_of(PLACE))
 }
 
 // How many places with nothing off stand at the start, of `count`: a loop of their own, since most records are places.

@@ -1,10 +1,10 @@
 // The stepper of nets, on any net file: a state is its marks, then the clocks of its transitions.
 // A move is decided first and written last: what is turned away has written nothing.
 use effbd::Answer;
-use net_file::CLEAR;
-use net_file::GIVE;
-use net_file::TAKE;
 use net_walk::Sums;
+use words::kinds::CLEAR;
+use words::kinds::GIVE;
+use words::kinds::TAKE;
 ghost use mathlib.Core.Path.{_≡_};
 ghost use mathlib.Core.List.{_++_};
 ghost use Prim.Native.Nat.{_+_, _≤_};

@@ -1,8 +1,8 @@
 // Walks over the arcs and transitions of a net file, on its bytes. Nothing is asked of the file: what its bytes say, accepted
 // or not, is defined in net_file's specs/Contents.antt.
-use net_file::CLEAR;
-use net_file::GIVE;
-use net_file::TAKE;
+use words::kinds::CLEAR;
+use words::kinds::GIVE;
+use words::kinds::TAKE;
 ghost use mathlib.Core.Path.{_≡_};
 ghost use Prim.Native.Nat.{_+_, _-_, min};
 ghost use Rattle.effbd.specs.Nets.{arcAt};

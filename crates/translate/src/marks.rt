@@ -5,12 +5,12 @@ ghost use Rattle.translate.specs.Writing.{Wrote, runs};
 ghost use Rattle.translate.specs.Rows.{pair, entered};
 ghost use Rattle.translate.specs.Whole.{firstMark, remaining as remainingOf, rowMarks, itemMark, numberAs, tally as tallyOf};
 use crate::records;
-use crate::records::HEAD;
 use crate::rows;
 use crate::rows::COUNTS;
 use crate::rows::FIRSTS;
 use crate::rows::KINDS;
 use crate::rows::OWNERS;
+use words::kinds;
 
 // P of the row that entering row 0 changes has a token.
 fn first_mark(first: usize, row: usize) -> u16
@@ -27,7 +27,7 @@ fn remaining(table: &[u16], row: usize) -> u16
     requires { ⌜ row < 65536 ⌝ }
     ensures { λ r. ⌜ r ≡ remainingOf (now (table .entry)) row ⌝ }
 {
-    if rows::cell(table, KINDS, row) == 22 {
+    if rows::cell(table, KINDS, row) == kinds::IT_OPEN {
         return rows::cell(table, FIRSTS, row);
     }
     0
@@ -73,16 +73,16 @@ pub(crate) fn of_items(table: &[u16], items: u16, area: &mut [u8], at: usize) ->
 }
 
 // How many transitions a row of a kind has; a BRANCH, by its construct's open row.
-fn number(owner_kind: u16, kind: u16) -> usize
-    ensures { λ r. ⌜ (r ≡ numberAs «owner_kind» kind) × (r ≤ 2) ⌝ }
+fn number(construct: u16, kind: u16) -> usize
+    ensures { λ r. ⌜ (r ≡ numberAs construct kind) × (r ≤ 2) ⌝ }
 {
     match kind {
-        16 => 2,
-        22 => 2,
-        27 => 0,
-        20 => 0,
-        18 => {
-            if owner_kind == 20 {
+        kinds::FUNCTION => 2,
+        kinds::IT_OPEN => 2,
+        kinds::END => 0,
+        kinds::OR_OPEN => 0,
+        kinds::BRANCH => {
+            if construct == kinds::OR_OPEN {
                 return 1;
             }
             0
@@ -99,9 +99,9 @@ fn tally(table: &[u16], rows: u16) -> usize
     let mut row: usize = 0;
     while row < end {
         let opened = rows::cell(table, OWNERS, row) as usize;
-        let owner_kind = rows::cell(table, KINDS, opened);
+        let construct = rows::cell(table, KINDS, opened);
         let kind = rows::cell(table, KINDS, row);
-        sum += number(owner_kind, kind);
+        sum += number(construct, kind);
         row += 1;
     }
     sum
@@ -114,7 +114,7 @@ pub(crate) fn head(table: &[u16], rows: u16, items: u16, area: &mut [u8], at: us
     records::pair(
         area,
         at,
-        HEAD,
+        kinds::NET_HEAD,
         3 * (rows as usize) + (items as usize),
         transitions,
     )

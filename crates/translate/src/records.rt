@@ -9,19 +9,8 @@ ghost use lib.Seq.{sets};
 ghost use Rattle.translate.specs.Writing.{encode, past as pastOf, Wrote};
 ghost use Rattle.translate.specs.Rows.{transition as transitionRecord, pair as pairRecord, arc as arcRecord};
 ghost use Rattle.translate.specs.Whole.{mark as markRecord};
-
-// The kinds of a net's records.
-pub(crate) const HEAD: u16 = 32;
-
-const PLACE: u16 = 33;
-
-const TRANSITION: u16 = 34;
-
-pub(crate) const TAKE: u16 = 35;
-
-pub(crate) const CLEAR: u16 = 36;
-
-pub(crate) const GIVE: u16 = 37;
+use words::kinds::PLACE;
+use words::kinds::TRANSITION;
 
 // Far above the length of every net.
 const OFFSET_LIMIT: usize = 1000000000;

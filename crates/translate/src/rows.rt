@@ -6,9 +6,10 @@ ghost use Prim.Native.Nat.{_+_, _*_, _<_, _≤_};
 ghost use Rattle.translate.specs.Writing.{Wrote, runs, span};
 ghost use Rattle.translate.specs.Rows.{cell as cellOf, entered as enteredOf, entry as entryOf, token as tokenRecords, useArcs, functionStart, functionEnd, isBranchOf, branchPlace, branchArc, branchArcs, andOpen, andClose, early as earlyOf, late as lateOf, itTurn, itOpen, restore as restoreRecords, leave as leaveRecords, loopExit, branchToken, onward as onwardRecords, back as backRecords, rowRecords};
 use crate::records;
-use crate::records::CLEAR;
-use crate::records::GIVE;
-use crate::records::TAKE;
+use words::kinds;
+use words::kinds::CLEAR;
+use words::kinds::GIVE;
+use words::kinds::TAKE;
 
 // Where each column of a table starts.
 pub(crate) const KINDS: usize = 0;
@@ -45,14 +46,14 @@ pub(crate) fn entered(table: &[u16], row: usize) -> usize
     ensures { λ r. ⌜ (r ≡ enteredOf (now (table .entry)) row) × (r ≤ 65536) ⌝ }
 {
     let kind = cell(table, KINDS, row);
-    if kind == 18 {
+    if kind == kinds::BRANCH {
         let owner = cell(table, OWNERS, row) as usize;
-        if cell(table, KINDS, owner) == 17 {
+        if cell(table, KINDS, owner) == kinds::AND_OPEN {
             return cell(table, LATESTS, row) as usize;
         }
         return cell(table, CLOSES, owner) as usize;
     }
-    if kind == 19 {
+    if kind == kinds::AND_CLOSE {
         return cell(table, LATESTS, row) as usize;
     }
     row
@@ -152,7 +153,7 @@ fn is_branch_of(table: &[u16], opened: usize, row: usize) -> bool
     requires { ⌜ row ≤ 65536 ⌝ }
     ensures { λ r. ⌜ r ≡ isBranchOf (now (table .entry)) opened row ⌝ }
 {
-    cell(table, KINDS, row) == 18 && cell(table, OWNERS, row) as usize == opened
+    cell(table, KINDS, row) == kinds::BRANCH && cell(table, OWNERS, row) as usize == opened
 }
 
 // P of a BRANCH row, which an AND close takes from, or the entry behind it, which an AND open gives to.
@@ -278,7 +279,7 @@ fn restore(table: &[u16], row: usize, area: &mut [u8], at: usize) -> usize
     requires { ⌜ row < 65536 ⌝ }
     ensures { λ r. ⌜ Wrote (now (area .entry)) at (now (area .exit)) r (restoreRecords (now (table .entry)) row) ⌝ }
 {
-    if cell(table, KINDS, row) == 22 {
+    if cell(table, KINDS, row) == kinds::IT_OPEN {
         let count = cell(table, FIRSTS, row);
         return records::arc(area, at, GIVE, 3 * row + 2, count);
     }
@@ -336,7 +337,7 @@ fn branch(table: &[u16], row: usize, area: &mut [u8], at: usize) -> usize
     ensures { λ r. ⌜ Wrote (now (area .entry)) at (now (area .exit)) r (branchToken (now (table .entry)) row) ⌝ }
 {
     let opened = cell(table, OWNERS, row) as usize;
-    if cell(table, KINDS, opened) == 20 {
+    if cell(table, KINDS, opened) == kinds::OR_OPEN {
         let to = entry(table, row + 1);
         return token(row, 3 * opened, to, area, at);
     }
@@ -375,16 +376,16 @@ fn row_transitions(
 {
     let kind = cell(table, KINDS, row);
     match kind {
-        16 => function(table, file, rows, row, area, at),
-        17 => and_open(table, row, area, at),
-        18 => branch(table, row, area, at),
-        19 => and_close(table, row, area, at),
-        21 => onward(table, row, area, at),
-        22 => it_open(table, row, area, at),
-        23 => back(table, row, area, at),
-        24 => onward(table, row, area, at),
-        25 => back(table, row, area, at),
-        26 => loop_exit(table, row, area, at),
+        kinds::FUNCTION => function(table, file, rows, row, area, at),
+        kinds::AND_OPEN => and_open(table, row, area, at),
+        kinds::BRANCH => branch(table, row, area, at),
+        kinds::AND_CLOSE => and_close(table, row, area, at),
+        kinds::OR_CLOSE => onward(table, row, area, at),
+        kinds::IT_OPEN => it_open(table, row, area, at),
+        kinds::IT_CLOSE => back(table, row, area, at),
+        kinds::LP_OPEN => onward(table, row, area, at),
+        kinds::LP_CLOSE => back(table, row, area, at),
+        kinds::LOOP_EXIT => loop_exit(table, row, area, at),
         _ => at,
     }
 }

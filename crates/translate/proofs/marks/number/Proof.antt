@@ -11,19 +11,19 @@ returns c = (rw (c .before .match .keys5, eq-eqb _ _ (c .if1 .taken)) refl, omeg
 
 returns-2 : tie.Need-returns-2
 unfolding numberAs
-returns-2 c = (sym (ap (numberAs (c .before .args .owner-kind)) (c .match .keys1)), omega arith)
+returns-2 c = (sym (ap (numberAs (c .before .args .construct)) (c .match .keys1)), omega arith)
 
 returns-3 : tie.Need-returns-3
 unfolding numberAs
-returns-3 c = (sym (ap (numberAs (c .before .args .owner-kind)) (c .match .keys2)), omega arith)
+returns-3 c = (sym (ap (numberAs (c .before .args .construct)) (c .match .keys2)), omega arith)
 
 returns-4 : tie.Need-returns-4
 unfolding numberAs
-returns-4 c = (sym (ap (numberAs (c .before .args .owner-kind)) (c .match .keys3)), omega arith)
+returns-4 c = (sym (ap (numberAs (c .before .args .construct)) (c .match .keys3)), omega arith)
 
 returns-5 : tie.Need-returns-5
 unfolding numberAs
-returns-5 c = (sym (ap (numberAs (c .before .args .owner-kind)) (c .match .keys4)), omega arith)
+returns-5 c = (sym (ap (numberAs (c .before .args .construct)) (c .match .keys4)), omega arith)
 
 returns-6 : tie.Need-returns-6
 unfolding numberAs
