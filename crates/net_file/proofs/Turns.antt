@@ -1,7 +1,7 @@
 -- A turn of the reader: one law for every record, by what is due.
 use Prim.Native.Nat.{ℕ, zero, suc, _-_, _≤_}
 use mathlib.Core.Path.{_≡_, refl, sym, _∙_, ap}
-use mathlib.Core.Bool.{true, false, _&&_}
+use mathlib.Core.Bool.{true, false, not, _&&_}
 use mathlib.Core.List.{List}
 use native.Mathlib.Omega.{arith}
 use lib.ListN.{length, drop, length-drop}
@@ -10,9 +10,10 @@ use borrow.Author.Tests.{leb-true, eqb-true, eqb-false, eq-eqb, ne-eqb, le-ltb}
 use Rattle.words.proofs.Tests.{decide, clash, and-left, and-right}
 use Rattle.effbd.specs.Answers.{Outcome, accepted, refused, unless, andThen, returningZero}
 use Rattle.effbd.specs.Records.{word, lengthAt, kindAt, lengthOf, kindTable, entryIn, faultAt, adding, readMany}
-use Rattle.effbd.specs.Nets.{takeArc, arcDue, arcFine, above, arcAt, transitionAt, Arc, Transition, markAt, markFault, Tail, withArc, withTransition, arcFault, transitionFault, readTail}
+use Rattle.effbd.specs.Nets.{takeArc, arcDue, arcFine, transitionFine, above, arcAt, transitionAt, Arc, Transition, markAt, markFault, Tail, withArc, withTransition, arcFault, transitionFault, readTail}
 use Rattle.net_file.specs.declared.Due.{Due}
-use Rattle.net_file.specs.Due.{arcNext, arcRight, dueKind, fieldsFine, faultIn, nextDue, ended, verdict}
+use Rattle.net_file.specs.Due.{arcNext, arcRight, transitionRight, dueKind, fieldsFine, faultIn, nextDue, ended, verdict}
+use Rattle.agreement.specs.Basics.{not-true}
 use Rattle.agreement.specs.ByteLaws.{none-clean}
 use Rattle.net_file.proofs.Records.{unless-same, unless-then, adding-then}
 use Rattle.net_file.proofs.Tails.{Arcs, arc-kind, arc-length, arc-read, transition-read, tail-arc, tail-end, tail-over, tail-transition, tail-fuel}
@@ -75,6 +76,28 @@ right-arc count due rest h =
     no-fault count due rest (leb-true 8 (length rest) (and-left (leb 8 (length rest)) _ h)) (and-left (eqb (due .places) 0) _ q) n (record { least = least; most = most })
     (eqb-true (lengthAt rest) (lengthOf 35) (and-left (eqb (lengthAt rest) (lengthOf 35)) _ t) ∙ arc-length 35 (record { least = omega arith; most = omega arith }))
     (and-right (eqb (lengthAt rest) (lengthOf 35)) _ t)
+
+-- a transition with nothing off has none
+due-transition : (due : Due) (rest : List ℕ) → eqb (due .places) 0 ≡ true → eqb (due .transitions) 0 ≡ false → kindAt rest ≡ 34 → dueKind due rest ≡ 34
+unfolding dueKind
+due-transition due rest p t k = decide (arcNext (due .kind) rest) (λ a. rw (p, a) k) (λ a. rw (p, a, t))
+
+none-off : (count : ℕ) (due : Due) (rest : List ℕ) → 10 ≤ length rest → dueKind due rest ≡ 34 → kindAt rest ≡ 34 → lengthAt rest ≡ 10 → transitionFine (due .label) (transitionAt rest) ≡ true
+    → faultIn count due rest ≡ 0
+unfolding faultIn fieldsFine faultAt lengthOf entryIn kindTable
+none-off count due rest l d k e f = rw (d, k, e, f, le-ltb (length rest) 4 (omega arith), le-ltb (length rest) 10 l)
+
+pub right-transition : (count : ℕ) (due : Due) (rest : List ℕ) → transitionRight due rest ≡ true → faultIn count due rest ≡ 0
+unfolding transitionRight lengthOf entryIn kindTable
+right-transition count due rest h =
+    let p = and-right (leb 10 (length rest)) _ h in
+    let t = and-right (eqb (due .places) 0) _ p in
+    let k = and-right (not (eqb (due .transitions) 0)) _ t in
+    let e = and-right (eqb (kindAt rest) 34) _ k in
+    let is = eqb-true (kindAt rest) 34 (and-left (eqb (kindAt rest) 34) _ k) in
+    none-off count due rest (leb-true 10 (length rest) (and-left (leb 10 (length rest)) _ h))
+    (due-transition due rest (and-left (eqb (due .places) 0) _ p) (not-true (eqb (due .transitions) 0) (and-left (not (eqb (due .transitions) 0)) _ t)) is) is
+    (eqb-true (lengthAt rest) 10 (and-left (eqb (lengthAt rest) 10) _ e)) (and-right (eqb (lengthAt rest) 10) _ e)
 
 module _ (count total : ℕ) where
   -- the fault that each way gives

@@ -1,7 +1,7 @@
 -- A net file read as one row of records: what is due next decides what a record is checked for. Assumes nothing.
 use Prim.Native.Nat.{ℕ, suc, _-_, _*_, _≤_, _<_}
 use mathlib.Core.Path.{_≡_}
-use mathlib.Core.Bool.{Bool, true, cond, _&&_}
+use mathlib.Core.Bool.{Bool, true, not, cond, _&&_}
 use mathlib.Core.List.{List, []}
 use lib.ListN.{length, drop}
 use lib.Dec.{leb, eqb}
@@ -30,6 +30,11 @@ arcNext kind rest = leb 4 (length rest) && arcDue kind (kindAt rest)
 unfoldable pub arcRight : ℕ → Due → List ℕ → Bool
 arcRight count due rest = leb 8 (length rest) && (eqb (due .places) 0 && (leb takeArc (kindAt rest) && (arcNext (due .kind) rest
     && (eqb (lengthAt rest) (lengthOf takeArc) && arcFine count (due .kind) (due .from) (arcAt rest)))))
+
+-- a transition that is due and has nothing off stands at the start
+unfoldable pub transitionRight : Due → List ℕ → Bool
+transitionRight due rest = leb 10 (length rest) && (eqb (due .places) 0 && (not (eqb (due .transitions) 0) && (eqb (kindAt rest) 34
+    && (eqb (lengthAt rest) (lengthOf 34) && transitionFine (due .label) (transitionAt rest)))))
 
 -- the kind that the next record has to have; 0 where all that must come has come
 unfoldable pub dueKind : Due → List ℕ → ℕ

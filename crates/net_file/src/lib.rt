@@ -14,7 +14,7 @@ ghost use lib.Dec.{eqb};
 ghost use Rattle.effbd.specs.Answers.{said};
 ghost use Rattle.effbd.specs.Nets.{arcFine, above as aboveOf, transitionFine, netHeadFault, readNet};
 ghost use Rattle.net_file.specs.Contents.{headFine};
-ghost use Rattle.net_file.specs.Due.{start as startOf, arcOf, timed, arcNext, dueKind, arcRight, fieldsFine, faultIn, nextDue, ended as endedBy, placeRight, RightPlaces, wordsOf};
+ghost use Rattle.net_file.specs.Due.{start as startOf, arcOf, timed, arcNext, dueKind, arcRight, transitionRight, fieldsFine, faultIn, nextDue, ended as endedBy, placeRight, RightPlaces, wordsOf};
 
 // The limits that a net's head has to keep, and its labels.
 const MOST_PLACES: u16 = 208;
@@ -151,11 +151,41 @@ fn arc_right(count: u16, due: Due, rest: &[u8]) -> bool
     arc_fine(count, due, kind, words::word(rest, 4), words::word(rest, 6))
 }
 
+// The same of a transition.
+fn transition_right(due: Due, rest: &[u8]) -> bool
+    ensures { λ r. ⌜ r ≡ transitionRight due (now (rest .entry)) ⌝ }
+{
+    if rest.len() < 10 {
+        return false;
+    }
+    if due.places != 0 {
+        return false;
+    }
+    if due.transitions == 0 {
+        return false;
+    }
+    if words::word(rest, 2) != TRANSITION {
+        return false;
+    }
+    if words::word(rest, 0) != kinds::length_of(TRANSITION) {
+        return false;
+    }
+    transition_fine(
+        due.label,
+        words::word(rest, 4),
+        words::word(rest, 6),
+        words::word(rest, 8),
+    )
+}
+
 // The fault of the record at the start of `rest`, 0 for none.
 fn fault(count: u16, due: Due, rest: &[u8]) -> u16
     ensures { λ r. ⌜ r ≡ faultIn count due (now (rest .entry)) ⌝ }
 {
     if arc_right(count, due, rest) {
+        return 0;
+    }
+    if transition_right(due, rest) {
         return 0;
     }
     let kind = due_kind(due, rest);

@@ -1,7 +1,7 @@
 use mathlib.Core.Path.{sym, _∙_}
 use borrow.Author.Tests.{eq-eqb, ne-eqb}
 use Rattle.net_file.specs.Due.{faultIn}
-use Rattle.net_file.proofs.Turns.{right-arc}
+use Rattle.net_file.proofs.Turns.{right-arc, right-transition}
 use borrow.Author.Needs.{needs}
 use Rattle.net_file.proofs.fault.Statement.{statement}
 use Rattle.net_file.proofs.fault.Tie as tie
@@ -12,12 +12,18 @@ arc-right-requires c κs = search needs
 returns : tie.Need-returns
 returns c = sym (right-arc (c .before .before .before .args .count) (c .before .before .before .args .due) (c .before .before .before .args .rest .now) (sym (c .before .arc-right .ensures) ∙ c .if1 .taken))
 
+transition-right-requires : tie.Need-transition-right-requires
+transition-right-requires c κs = search needs
+
+returns-2 : tie.Need-returns-2
+returns-2 c = sym (right-transition (c .before .before .before .before .before .args .count) (c .before .before .before .before .before .args .due) (c .before .before .before .before .before .args .rest .now) (sym (c .before .transition-right .ensures) ∙ c .if2 .taken))
+
 due-kind-requires : tie.Need-due-kind-requires
 due-kind-requires c κs = search needs
 
-returns-2 : tie.Need-returns-2
+returns-3 : tie.Need-returns-3
 unfolding faultIn
-returns-2 c = rw (← c .before .due-kind .ensures, eq-eqb _ _ (c .if2 .taken))
+returns-3 c = rw (← c .before .due-kind .ensures, eq-eqb _ _ (c .if3 .taken))
 
 word-requires : tie.Need-word-requires
 word-requires c κs = search needs
@@ -34,9 +40,9 @@ fields-fine-requires c κs = search needs
 record-fault-requires : tie.Need-record-fault-requires
 record-fault-requires c κs = search needs
 
-returns-3 : tie.Need-returns-3
+returns-4 : tie.Need-returns-4
 unfolding faultIn
-returns-3 c = rw (← c .before .before .before .before .before .before .due-kind .ensures, ne-eqb _ _ (c .before .before .before .before .before .if2 .left), ← c .before .before .before .before .word .ensures, ← c .before .before .before .word2 .ensures, ← c .before .before .length-of .ensures, ← c .before .fields-fine .ensures) (c .record-fault .ensures)
+returns-4 c = rw (← c .before .before .before .before .before .before .due-kind .ensures, ne-eqb _ _ (c .before .before .before .before .before .if3 .left), ← c .before .before .before .before .word .ensures, ← c .before .before .before .word2 .ensures, ← c .before .before .length-of .ensures, ← c .before .fields-fine .ensures) (c .record-fault .ensures)
 
 pub fault-spec : {M : Type 1} → statement M
 fault-spec =
@@ -44,11 +50,13 @@ fault-spec =
     (tie.spec
     arc-right-requires
     returns
-    due-kind-requires
+    transition-right-requires
     returns-2
+    due-kind-requires
+    returns-3
     word-requires
     word-requires-2
     length-of-requires
     fields-fine-requires
     record-fault-requires
-    returns-3)
+    returns-4)
