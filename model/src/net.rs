@@ -7,6 +7,11 @@ use std::ops::Range;
 
 pub const MOST_PLACES: usize = 208;
 pub const MOST_TRANSITIONS: usize = 128;
+/// Bytes of each kind of record.
+const HEAD_LENGTH: usize = 8;
+const PLACE_LENGTH: usize = 6;
+const TRANSITION_LENGTH: usize = 10;
+const ARC_LENGTH: usize = 8;
 /// "Label below 64."
 pub const LABELS: u16 = 64;
 
@@ -50,10 +55,15 @@ impl Arc {
 impl Net {
     /// A net of these fresh marks, without transitions.
     pub fn new(marks: Vec<u16>) -> Self {
+        Net::with_room(marks, 0, 0)
+    }
+
+    /// The same, with room for so many transitions and arcs.
+    pub fn with_room(marks: Vec<u16>, transitions: usize, arcs: usize) -> Self {
         Net {
             marks,
-            transitions: Vec::new(),
-            arcs: Vec::new(),
+            transitions: Vec::with_capacity(transitions),
+            arcs: Vec::with_capacity(arcs),
         }
     }
 
@@ -86,9 +96,17 @@ impl Net {
         }
     }
 
+    /// Bytes of its file.
+    fn file_length(&self) -> usize {
+        HEAD_LENGTH
+            + PLACE_LENGTH * self.marks.len()
+            + TRANSITION_LENGTH * self.transitions.len()
+            + ARC_LENGTH * self.arcs.len()
+    }
+
     /// The net file.
     pub fn encode(&self) -> Vec<u8> {
-        let mut bytes = Vec::new();
+        let mut bytes = Vec::with_capacity(self.file_length());
         let head_fields = [self.marks.len() as u16, self.transitions.len() as u16];
         push_record(&mut bytes, NET_HEAD, &head_fields);
         for mark in &self.marks {
@@ -126,7 +144,7 @@ pub fn parse(file: &[u8]) -> Result<Net, Refusal> {
     for _ in 0..place_count {
         marks.push(reader.due(|kind| kind == PLACE, 0)?.field(0));
     }
-    let mut net = Net::new(marks);
+    let mut net = Net::with_room(marks, transition_count, reader.left() / ARC_LENGTH);
     let mut arc_due = ArcDue::none(place_count);
     while net.transitions.len() < transition_count {
         let record = reader.due(|kind| kind == TRANSITION || arc_due.has(kind), 0)?;

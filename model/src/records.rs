@@ -127,6 +127,11 @@ impl<'a> Reader<'a> {
         self.rest().is_empty()
     }
 
+    /// Bytes not yet read.
+    pub fn left(&self) -> usize {
+        self.rest().len()
+    }
+
     /// Kind of the record that starts here, if 4 bytes are left.
     pub fn kind_here(&self) -> Option<u16> {
         (self.rest().len() >= PREFIX_LENGTH).then(|| word(self.rest(), 1))

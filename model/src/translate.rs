@@ -33,7 +33,8 @@ fn entry(diagram: &Diagram, row: usize) -> usize {
 
 /// The net's table.
 pub fn table(diagram: &Diagram) -> Net {
-    let mut net = Net::new(fresh_marks(diagram));
+    let rows = diagram.rows.len();
+    let mut net = Net::with_room(fresh_marks(diagram), 2 * rows, 4 * rows);
     for (number, row) in diagram.rows.iter().enumerate() {
         add_row(&mut net, diagram, number, row);
     }
@@ -43,7 +44,8 @@ pub fn table(diagram: &Diagram) -> Net {
 /// "Fresh marks: 1 at the place that entering row 0 marks, R = count at each IT
 /// open, initial counts, else 0."
 fn fresh_marks(diagram: &Diagram) -> Vec<u16> {
-    let mut marks = vec![0; 3 * diagram.rows.len()];
+    let mut marks = Vec::with_capacity(diagram.state_length());
+    marks.resize(3 * diagram.rows.len(), 0);
     marks.extend(&diagram.items);
     marks[entry(diagram, 0)] = 1;
     for (row, count) in it_opens(diagram, 0, diagram.rows.len()) {

@@ -1,6 +1,8 @@
 //! `benchmark`: the time of each proved function, of the model, and their ratio, at 5, 30 and 64 rows, in one run.
 //!
 //! Both are built for release and get the same inputs in the same order; states and areas are copied anew before each call, for both.
+//! At each size the calls go round plants of 960 rows in all: no single diagram's mix of rows decides the ratio, and the processor has as
+//! much to foresee at each size.
 
 use model::bus::Telegram;
 use model::generate::{diagram_up_to, Random};
@@ -9,45 +11,56 @@ use std::hint::black_box;
 use std::time::Instant;
 
 const STATION: u16 = 9;
+/// Words of the longest state: 208 places and 128 clocks.
+const STATE_ROOM: usize = 336;
+const ROWS: usize = 960;
 const MOVES: usize = 24;
-const CALLS: usize = 100 * MOVES;
+const CALLS: usize = 6 * ROWS;
 const ROUNDS: usize = 20;
 const SWEEPS: usize = 5;
 
-/// A diagram of just so many rows with as many accepted moves as asked, and these moves with the states before them.
+/// A diagram of just so many rows, its net, and accepted moves.
 struct Plant {
     file: Vec<u8>,
     net: Vec<u8>,
-    moves: Vec<(Vec<u16>, u16, u16)>,
+    moves: Vec<Move>,
 }
 
-fn plant(rows: usize, wanted: usize) -> Plant {
+/// A move with the diagram's state before it, that state's image and the telegram that carries it.
+struct Move {
+    before: Vec<u16>,
+    image: Vec<u16>,
+    telegram: Vec<u8>,
+    code: u16,
+    argument: u16,
+}
+
+/// The plants of one size.
+fn plants(rows: usize) -> Vec<Plant> {
     let mut random = Random::new(rows as u64);
-    loop {
+    let mut plants = Vec::new();
+    while plants.len() < ROWS / rows {
         let file = diagram_up_to(&mut random, rows);
-        let exact = model::diagram::parse(&file).is_ok_and(|diagram| diagram.rows.len() == rows);
-        if !exact {
-            continue;
-        }
-        let moves = accepted_moves(&mut random, &file, wanted);
-        let Ok(net) = net_of(&file) else { continue };
-        if moves.len() == wanted {
-            return Plant { file, net, moves };
-        }
+        plants.extend(plant(&mut random, file, rows));
     }
+    plants
 }
 
-/// Accepted moves from the fresh state on, at most `wanted`; fewer where the plant comes to its end.
-fn accepted_moves(random: &mut Random, file: &[u8], wanted: usize) -> Vec<(Vec<u16>, u16, u16)> {
-    let Ok(words) = model::diagram::read(file) else {
-        return Vec::new();
-    };
-    let mut state = vec![0; words as usize];
-    let _ = model::diagram_step::fresh(file, &mut state);
-    let rows = model::diagram::parse(file).map_or(0, |diagram| diagram.rows.len());
+/// The plant of a file that has just so many rows and enough accepted moves.
+fn plant(random: &mut Random, file: Vec<u8>, rows: usize) -> Option<Plant> {
+    let diagram = model::diagram::parse(&file).ok()?;
+    let moves = (diagram.rows.len() == rows).then(|| accepted_moves(random, &file, rows))??;
+    let net = net_of(&file).ok()?;
+    (moves.len() == MOVES).then_some(Plant { file, net, moves })
+}
+
+/// Accepted moves from the fresh state on; fewer than asked for where the plant comes to its end.
+fn accepted_moves(random: &mut Random, file: &[u8], rows: usize) -> Option<Vec<Move>> {
+    let mut state = vec![0; model::diagram::read(file).ok()? as usize];
+    model::diagram_step::fresh(file, &mut state).ok()?;
     let mut moves = Vec::new();
     let mut idle = 0;
-    while moves.len() < wanted && idle < 200 {
+    while moves.len() < MOVES && idle < 200 {
         let (code, argument) = if random.chance(80) {
             (1, random.below(rows) as u16)
         } else {
@@ -57,12 +70,35 @@ fn accepted_moves(random: &mut Random, file: &[u8], wanted: usize) -> Vec<(Vec<u
         if model::diagram_step::step(file, &mut state, code, argument).is_ok() {
             // Waits at the very end would measure nothing but waits.
             idle = if code == 1 { 0 } else { idle + 1 };
-            moves.push((before, code, argument));
+            moves.push(carried(file, before, code, argument)?);
         } else {
             idle += 1;
         }
     }
-    moves
+    Some(moves)
+}
+
+/// The move with its image and its telegram.
+fn carried(file: &[u8], before: Vec<u16>, code: u16, argument: u16) -> Option<Move> {
+    let telegram = Telegram {
+        number: 4,
+        station: STATION,
+        code,
+        argument,
+    };
+    Some(Move {
+        image: model::image::image(file, &before)?,
+        telegram: telegram.encode(),
+        before,
+        code,
+        argument,
+    })
+}
+
+/// The plant of a call and its move: the plants take turns, each with its moves in order.
+fn turn(plants: &[Plant], number: usize) -> (&Plant, &Move) {
+    let plant = &plants[number % plants.len()];
+    (plant, &plant.moves[number / plants.len() % MOVES])
 }
 
 /// The time of `calls` calls, in nanoseconds a call; the compiler must not leave a result out.
@@ -114,50 +150,56 @@ fn compare<P, M>(
 }
 
 /// Reading and translating.
-fn compare_files(table: &mut Vec<Times>, rows: usize, plant: &Plant) {
-    let (file, net) = (&plant.file, &plant.net);
+fn compare_files(table: &mut Vec<Times>, rows: usize, plants: &[Plant]) {
+    let file = |number| black_box(&turn(plants, number).0.file);
+    let net = |number| black_box(&turn(plants, number).0.net);
     let mut areas = (vec![0; 65_536], vec![0; 65_536]);
     compare(
         table,
         "read",
         rows,
-        |_| effbd::read_diagram(black_box(file)),
-        |_| model::diagram::read(black_box(file)),
+        |number| effbd::read_diagram(file(number)),
+        |number| model::diagram::read(file(number)),
     );
     compare(
         table,
         "read net",
         rows,
-        |_| effbd::read_net(black_box(net)),
-        |_| model::net::read(black_box(net)),
+        |number| effbd::read_net(net(number)),
+        |number| model::net::read(net(number)),
     );
     compare(
         table,
         "translate",
         rows,
-        |_| effbd::translate(black_box(file), &mut areas.0),
-        |_| model::translate::translate(black_box(file), &mut areas.1),
+        |number| effbd::translate(file(number), &mut areas.0),
+        |number| model::translate::translate(file(number), &mut areas.1),
     );
 }
 
+/// Lends a state: the first words of the buffer, copied anew.
+fn lent<'a>(buffer: &'a mut [u16], before: &[u16]) -> &'a mut [u16] {
+    let state = &mut buffer[..before.len()];
+    state.copy_from_slice(before);
+    state
+}
+
 /// The diagram's step and the leader's call.
-fn compare_diagram(table: &mut Vec<Times>, rows: usize, plant: &Plant) {
-    let file = &plant.file;
-    let moves = |number: usize| &plant.moves[number % plant.moves.len()];
-    let mut states = (plant.moves[0].0.clone(), plant.moves[0].0.clone());
+fn compare_diagram(table: &mut Vec<Times>, rows: usize, plants: &[Plant]) {
+    let mut states = ([0; STATE_ROOM], [0; STATE_ROOM]);
     compare(
         table,
         "diagram step",
         rows,
         |number| {
-            let (before, code, argument) = moves(number);
-            states.0.copy_from_slice(before);
-            effbd::step_diagram(file, &mut states.0, *code, *argument)
+            let (plant, made) = turn(plants, number);
+            let state = lent(&mut states.0, &made.before);
+            effbd::step_diagram(&plant.file, state, made.code, made.argument)
         },
         |number| {
-            let (before, code, argument) = moves(number);
-            states.1.copy_from_slice(before);
-            model::diagram_step::step(file, &mut states.1, *code, *argument)
+            let (plant, made) = turn(plants, number);
+            let state = lent(&mut states.1, &made.before);
+            model::diagram_step::step(&plant.file, state, made.code, made.argument)
         },
     );
     let mut areas = ([0; 14], [0; 14]);
@@ -166,66 +208,52 @@ fn compare_diagram(table: &mut Vec<Times>, rows: usize, plant: &Plant) {
         "offer",
         rows,
         |number| {
-            let (before, code, argument) = moves(number);
-            states.0.copy_from_slice(before);
+            let (plant, made) = turn(plants, number);
+            let state = lent(&mut states.0, &made.before);
+            let area = &mut areas.0;
             effbd::offer(
-                file,
-                &mut states.0,
+                &plant.file,
+                state,
                 3,
                 STATION,
-                *code,
-                *argument,
-                &mut areas.0,
+                made.code,
+                made.argument,
+                area,
             )
         },
         |number| {
-            let (before, code, argument) = moves(number);
-            states.1.copy_from_slice(before);
+            let (plant, made) = turn(plants, number);
+            let state = lent(&mut states.1, &made.before);
+            let area = &mut areas.1;
             model::bus::offer(
-                file,
-                &mut states.1,
+                &plant.file,
+                state,
                 3,
                 STATION,
-                *code,
-                *argument,
-                &mut areas.1,
+                made.code,
+                made.argument,
+                area,
             )
         },
     );
 }
 
 /// The net's step and the follower's call, on the same moves.
-fn compare_net(table: &mut Vec<Times>, rows: usize, plant: &Plant) {
-    let net = &plant.net;
-    let before: Vec<Vec<u16>> = plant
-        .moves
-        .iter()
-        .filter_map(|(before, _, _)| model::image::image(&plant.file, before))
-        .collect();
-    let telegram = |&(_, code, argument): &(Vec<u16>, u16, u16)| Telegram {
-        number: 4,
-        station: STATION,
-        code,
-        argument,
-    };
-    let telegrams: Vec<Vec<u8>> = plant
-        .moves
-        .iter()
-        .map(|move_| telegram(move_).encode())
-        .collect();
-    let mut states = (before[0].clone(), before[0].clone());
-    let moves = |number: usize| &plant.moves[number % before.len()];
+fn compare_net(table: &mut Vec<Times>, rows: usize, plants: &[Plant]) {
+    let mut states = ([0; STATE_ROOM], [0; STATE_ROOM]);
     compare(
         table,
         "net step",
         rows,
         |number| {
-            states.0.copy_from_slice(&before[number % before.len()]);
-            effbd::step_net(net, &mut states.0, moves(number).1, moves(number).2)
+            let (plant, made) = turn(plants, number);
+            let state = lent(&mut states.0, &made.image);
+            effbd::step_net(&plant.net, state, made.code, made.argument)
         },
         |number| {
-            states.1.copy_from_slice(&before[number % before.len()]);
-            model::net_step::step(net, &mut states.1, moves(number).1, moves(number).2)
+            let (plant, made) = turn(plants, number);
+            let state = lent(&mut states.1, &made.image);
+            model::net_step::step(&plant.net, state, made.code, made.argument)
         },
     );
     compare(
@@ -233,36 +261,26 @@ fn compare_net(table: &mut Vec<Times>, rows: usize, plant: &Plant) {
         "take",
         rows,
         |number| {
-            states.0.copy_from_slice(&before[number % before.len()]);
-            effbd::take(
-                net,
-                &mut states.0,
-                3,
-                STATION,
-                &telegrams[number % before.len()],
-            )
+            let (plant, made) = turn(plants, number);
+            let state = lent(&mut states.0, &made.image);
+            effbd::take(&plant.net, state, 3, STATION, &made.telegram)
         },
         |number| {
-            states.1.copy_from_slice(&before[number % before.len()]);
-            model::bus::take(
-                net,
-                &mut states.1,
-                3,
-                STATION,
-                &telegrams[number % before.len()],
-            )
+            let (plant, made) = turn(plants, number);
+            let state = lent(&mut states.1, &made.image);
+            model::bus::take(&plant.net, state, 3, STATION, &made.telegram)
         },
     );
 }
 
 fn main() {
-    let plants = [5, 30, 64].map(|rows| (rows, plant(rows, MOVES)));
+    let sizes = [5, 30, 64].map(|rows| (rows, plants(rows)));
     let mut table = Vec::new();
     for _ in 0..SWEEPS {
-        for (rows, plant) in &plants {
-            compare_files(&mut table, *rows, plant);
-            compare_diagram(&mut table, *rows, plant);
-            compare_net(&mut table, *rows, plant);
+        for (rows, plants) in &sizes {
+            compare_files(&mut table, *rows, plants);
+            compare_diagram(&mut table, *rows, plants);
+            compare_net(&mut table, *rows, plants);
         }
     }
     println!(
