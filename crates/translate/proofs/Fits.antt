@@ -8,7 +8,7 @@ use native.Mathlib.Omega.{arith}
 use native.Mathlib.Nat.{zero-add}
 use lib.ListN.{length, drop, length-append}
 use lib.Seq.{sets, sets-eq}
-use borrow.Author.Tests.{le-leb, lt-ltb, le-ltb}
+use borrow.Author.Tests.{lt-ltb, le-ltb}
 use Rattle.effbd.specs.Answers.{Outcome, accepted, refused}
 use Rattle.effbd.specs.Records.{areBytes}
 use Rattle.effbd.specs.Nets.{netBytes}
@@ -18,30 +18,11 @@ use Rattle.effbd.specs.Diagrams.{Diagram as Read}
 use Rattle.effbd.specs.Nesting.{readDiagram}
 use Rattle.diagram_file.specs.declared.Diagram.{Diagram}
 use Rattle.diagram_file.specs.Tables.{HoldsFile, Parsed, refusalNumber, refusalValue}
-use Rattle.translate.specs.Writing.{Records, encode, flat, offsetLimit, past, laid, reach, Wrote}
+use Rattle.net_records.specs.Writing.{flat, offsetLimit, Wrote}
+use Rattle.net_records.proofs.Bytes.{reach-fits, laid-fits}
 use Rattle.translate.specs.Whole.{netRecords}
 use Rattle.translate.proofs.NetRecords.{net-is}
 use Rattle.translate.proofs.Sizes.{net-small}
-use Rattle.translate.proofs.Writing.{sets-append}
-
-past-fits : (at k : ℕ) → at + k ≤ offsetLimit → past at k ≡ at + k
-unfolding past
-past-fits at k h = rw (le-leb at offsetLimit (omega arith))
-
-reach-fits : (rs : Records) (at : ℕ) → at + length (flat rs) ≤ offsetLimit → reach at rs ≡ at + length (flat rs)
-unfolding reach flat
-reach-fits [] at h = omega arith
-reach-fits (r ∷ rs) at h =
-    let l : length (encode r ++ flat rs) ≡ length (encode r) + length (flat rs) = length-append (encode r) (flat rs) in
-    ap (λ (k : ℕ). reach k rs) (past-fits at (length (encode r)) (omega arith)) ∙ (reach-fits rs (at + length (encode r)) (omega arith) ∙ omega arith)
-
-laid-fits : (rs : Records) (area : List ℕ) (at : ℕ) → at + length (flat rs) ≤ offsetLimit → laid area at rs ≡ sets area at (flat rs)
-unfolding laid flat
-laid-fits [] area at h = refl
-laid-fits (r ∷ rs) area at h =
-    let l : length (encode r ++ flat rs) ≡ length (encode r) + length (flat rs) = length-append (encode r) (flat rs) in
-    ap (λ (k : ℕ). laid (sets area at (encode r)) k rs) (past-fits at (length (encode r)) (omega arith))
-    ∙ (laid-fits rs (sets area at (encode r)) (at + length (encode r)) (omega arith) ∙ sym (sets-append (encode r) (flat rs) area at))
 
 -- an accepted file, its diagram's table
 module _ (file : List ℕ) (rows items : ℕ) (table : List ℕ) (h : HoldsFile file rows items table) (bytes : areBytes file ≡ true) where

@@ -1,13 +1,3 @@
-pub mod Runs
-pub mod Weights
-pub mod Ranges
-pub mod Uses
-pub mod Nesting
-pub mod Branches
-pub mod Cells
-pub mod RowRecords
 pub mod NetRecords
 pub mod Sizes
-pub mod Writing
 pub mod Fits
-pub mod Steps

@@ -1,34 +1,10 @@
 -- The records of a whole net, from a diagram's table and its file's bytes. Assumes nothing.
-use Prim.Native.Nat.{ℕ, zero, suc, _+_, _*_}
-use mathlib.Core.Bool.{cond}
-use mathlib.Core.List.{List, [], _∷_, _++_}
-use lib.Dec.{eqb}
-use Rattle.translate.specs.Writing.{Records, runs}
-use Rattle.translate.specs.Rows.{kinds, firsts, owners, counts, cell, entered, pair, rowRecords}
-
-unfoldable pub mark : ℕ → Records
-mark weight = (6 ∷ 33 ∷ weight ∷ []) ∷ []
-
--- the fresh marks of a row's three places; `first` is the row that entering row 0 changes
-unfoldable pub firstMark : (first row : ℕ) → ℕ
-firstMark first row = cond (eqb row first) 1 0
-
-unfoldable pub remaining : (table : List ℕ) (row : ℕ) → ℕ
-remaining table row = cond (eqb (cell table kinds row) 22) (cell table firsts row) 0
-
-unfoldable pub rowMarks : (table : List ℕ) (first row : ℕ) → Records
-rowMarks table first row = mark (firstMark first row) ++ mark 0 ++ mark (remaining table row)
-
-unfoldable pub itemMark : (table : List ℕ) (k : ℕ) → Records
-itemMark table k = mark (cell table counts k)
-
--- how many transitions a row of kind k has whose construct's open row is of kind j
-unfoldable pub numberAs : (j k : ℕ) → ℕ
-numberAs j k = cond (eqb k 16) 2 (cond (eqb k 22) 2 (cond (eqb k 27) 0 (cond (eqb k 20) 0 (cond (eqb k 18) (cond (eqb j 20) 1 0) 1))))
-
-unfoldable pub tally : (table : List ℕ) → ℕ → ℕ
-tally table zero = 0
-tally table (suc r) = tally table r + numberAs (cell table kinds (cell table owners r)) (cell table kinds r)
+use Prim.Native.Nat.{ℕ, _+_, _*_}
+use mathlib.Core.List.{List, _++_}
+use Rattle.net_records.specs.Writing.{Records, runs}
+use Rattle.net_records.specs.Records.{pair}
+use Rattle.net_rows.specs.Rows.{entered, rowRecords}
+use Rattle.net_rows.specs.Marks.{rowMarks, itemMark, tally}
 
 unfoldable pub netRecords : (table file : List ℕ) (rows items : ℕ) → Records
 netRecords table file rows items = pair 32 (3 * rows + items) (tally table rows)

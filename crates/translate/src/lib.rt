@@ -3,13 +3,11 @@ ghost use mathlib.Core.Path.{_≡_};
 ghost use Rattle.effbd.specs.Answers.{said};
 ghost use Rattle.effbd.specs.Patterns.{translated};
 ghost use Rattle.diagram_file.specs.Tables.{HoldsFile};
-ghost use Rattle.translate.specs.Writing.{Wrote};
+ghost use Rattle.net_records.specs.Writing.{Wrote};
 ghost use Rattle.translate.specs.Whole.{netRecords};
 use effbd::Answer;
-
-mod marks;
-mod records;
-mod rows;
+use net_rows::marks;
+use net_rows::rows;
 
 // The whole net: its head, the marks of its places, the transitions.
 fn put_net(table: &[u16], file: &[u8], rows: u16, items: u16, area: &mut [u8], at: usize) -> usize

@@ -1,5 +1,5 @@
 use Rattle.translate.specs.Whole.{netRecords}
-use Rattle.translate.proofs.Writing.{and-then}
+use Rattle.net_records.proofs.Writing.{and-then}
 use borrow.Author.Needs.{needs}
 use Rattle.translate.proofs.put_net.Statement.{statement}
 use Rattle.translate.proofs.put_net.Tie as tie

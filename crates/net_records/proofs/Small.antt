@@ -1,0 +1,48 @@
+-- How many bytes records have at most.
+use Prim.Native.Nat.{ℕ, zero, suc, _+_, _*_, _≤_, _<_, zero-le}
+use mathlib.Core.Path.{_≡_, subst}
+use mathlib.Core.Bool.{Bool, true, false, cond}
+use mathlib.Core.List.{[], _++_}
+use native.Mathlib.Omega.{arith}
+use lib.ListN.{length, length-append}
+use lib.Dec.{eqb}
+use Rattle.net_records.specs.Writing.{Records, encode, flat, runs}
+use Rattle.net_records.specs.Records.{transition, pair, arc, mark}
+use Rattle.net_records.proofs.Bytes.{flat-append}
+
+-- records of at most n bytes
+pub record Small (records : Records) (n : ℕ) : Type 0 where
+  pub size : length (flat records) ≤ n
+
+pub none-small : Small [] 0
+none-small = record { size = unfold flat in zero-le }
+
+pub more : {xs : Records} {m n : ℕ} → m ≤ n → Small xs m → Small xs n
+more {m = m} l s = record { size = let h : _ ≤ m = s .size in omega arith }
+
+-- one list after another; one of two; the turns of a loop
+infixl 20 _then_
+pub _then_ : {xs ys : Records} {m n : ℕ} → Small xs m → Small ys n → Small (xs ++ ys) (m + n)
+_then_ {xs} {ys} s t = record { size = rw (flat-append xs ys, length-append (flat xs) (flat ys)) (let a = s .size in let b = t .size in omega arith) }
+
+pub either : (b : Bool) {xs ys : Records} {n : ℕ} → Small xs n → Small ys n → Small (cond b xs ys) n
+either true s t = s
+either false s t = t
+
+pub turns : (f : ℕ → Records) (m n : ℕ) → ((i : ℕ) → i < n → Small (f i) m) → Small (runs f n) (n * m)
+unfolding runs
+turns f m zero h = more zero-le none-small
+turns f m (suc n) h = let e : n * m + m ≡ suc n * m = omega arith in subst (Small (runs f n ++ f n)) e (turns f m n (λ i l. h i (omega arith)) then h n (omega arith))
+
+pub transition-small : (r a b : ℕ) → Small (transition r a b) 10
+transition-small r a b = record { size = unfold transition flat encode in omega arith }
+
+pub pair-small : (k a b : ℕ) → Small (pair k a b) 8
+pair-small k a b = record { size = unfold pair flat encode in omega arith }
+
+pub arc-small : (k p w : ℕ) → Small (arc k p w) 8
+unfolding arc
+arc-small k p w = either (eqb w 0) (more zero-le none-small) (record { size = unfold flat encode in omega arith })
+
+pub mark-small : (w : ℕ) → Small (mark w) 6
+mark-small w = record { size = unfold mark flat encode in omega arith }

@@ -1,0 +1,10 @@
+pub mod Weights
+pub mod Ranges
+pub mod Uses
+pub mod Nesting
+pub mod Branches
+pub mod Cells
+pub mod RowRecords
+pub mod NetParts
+pub mod RowSizes
+pub mod Steps

@@ -1,0 +1,19 @@
+use Prim.Native.Nat.{ℕ, _*_}
+use mathlib.Core.Path.{ap}
+use Rattle.net_rows.specs.Rows.{entry}
+use borrow.Author.Needs.{needs}
+use Rattle.net_rows.proofs.rows.entry.Statement.{statement}
+use Rattle.net_rows.proofs.rows.entry.Tie as tie
+
+entered-requires : tie.Need-entered-requires
+entered-requires c κs = search needs
+
+mul-result : tie.Need-mul-result
+mul-result c = search needs
+
+returns : tie.Need-returns
+unfolding entry
+returns c = ap (λ (q : ℕ). 3 * q) (c .entered .ensures .0)
+
+pub entry-spec : {M : Type 1} → statement M
+entry-spec = tie.close (tie.spec entered-requires mul-result returns)

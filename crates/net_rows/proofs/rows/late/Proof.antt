@@ -1,0 +1,15 @@
+use borrow.Author.Tests.{le-leb, lt-leb}
+use Rattle.net_rows.specs.Rows.{late}
+use Rattle.net_rows.proofs.rows.late.Statement.{statement}
+use Rattle.net_rows.proofs.rows.late.Tie as tie
+
+returns : tie.Need-returns
+unfolding late
+returns c = simp (le-leb _ _ (c .if1 .taken))
+
+returns-2 : tie.Need-returns-2
+unfolding late
+returns-2 c = simp (lt-leb _ _ (c .if1 .left))
+
+pub late-spec : {M : Type 1} → statement M
+late-spec = tie.close (tie.spec returns returns-2)

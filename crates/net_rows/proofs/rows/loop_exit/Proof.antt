@@ -1,0 +1,47 @@
+use Rattle.net_records.proofs.Writing.{same}
+use Rattle.net_rows.proofs.Steps.{exit-turn}
+use borrow.Author.Needs.{needs}
+use Rattle.net_rows.proofs.rows.loop_exit.Statement.{statement}
+use Rattle.net_rows.proofs.rows.loop_exit.Tie as tie
+
+cell-requires : tie.Need-cell-requires
+cell-requires c κs = search needs
+
+cast-opened : tie.Need-cast-opened
+cast-opened c = search needs
+
+cell-requires-2 : tie.Need-cell-requires-2
+cell-requires-2 c κs = search needs
+
+cast-closed : tie.Need-cast-closed
+cast-closed c = search needs
+
+add-entry : tie.Need-add-entry
+add-entry c = search needs
+
+entry-requires : tie.Need-entry-requires
+entry-requires c κs = search needs
+
+leave-requires : tie.Need-leave-requires
+leave-requires c κs = search needs
+
+same-length : tie.Need-same-length
+same-length c = search needs
+
+returns : tie.Need-returns
+returns c = let a = c .before .before .before .before .before .before .before .before .before .args in
+    same (exit-turn (a .table .now) (a .row) (c .before .before .before .before .before .before .cell .result) (c .before .before .before .before .before .cell2 .result) (c .before .before .before .before .entry .result) (c .before .before .before .before .before .before .cell .ensures) (c .before .before .before .before .before .cell2 .ensures) (c .before .before .before .before .entry .ensures)) (c .before .before .leave .ensures)
+
+pub loop-exit-spec : {M : Type 1} → statement M
+loop-exit-spec =
+    tie.close
+    (tie.spec
+    cell-requires
+    cast-opened
+    cell-requires-2
+    cast-closed
+    add-entry
+    entry-requires
+    leave-requires
+    same-length
+    returns)

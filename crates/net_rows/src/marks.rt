@@ -1,0 +1,121 @@
+// A net's head and its places with their fresh marks.
+ghost use mathlib.Core.Path.{_≡_};
+ghost use Prim.Native.Nat.{_+_, _*_, _<_, _≤_};
+ghost use Rattle.net_records.specs.Writing.{Wrote, runs};
+ghost use Rattle.net_records.specs.Records.{pair};
+ghost use Rattle.net_rows.specs.Rows.{entered};
+ghost use Rattle.net_rows.specs.Marks.{firstMark, remaining as remainingOf, rowMarks, itemMark, numberAs, tally as tallyOf};
+use crate::rows;
+use crate::rows::COUNTS;
+use crate::rows::FIRSTS;
+use crate::rows::KINDS;
+use crate::rows::OWNERS;
+use words::kinds;
+
+// P of the row that entering row 0 changes has a token.
+fn first_mark(first: usize, row: usize) -> u16
+    ensures { λ r. ⌜ r ≡ firstMark first row ⌝ }
+{
+    if row == first {
+        return 1;
+    }
+    0
+}
+
+// R of an IT open has its count.
+fn remaining(table: &[u16], row: usize) -> u16
+    requires { ⌜ row < 65536 ⌝ }
+    ensures { λ r. ⌜ r ≡ remainingOf (now (table .entry)) row ⌝ }
+{
+    if rows::cell(table, KINDS, row) == kinds::IT_OPEN {
+        return rows::cell(table, FIRSTS, row);
+    }
+    0
+}
+
+fn row_marks(table: &[u16], first: usize, row: usize, area: &mut [u8], at: usize) -> usize
+    requires { ⌜ row < 65536 ⌝ }
+    ensures { λ r. ⌜ Wrote (now (area .entry)) at (now (area .exit)) r (rowMarks (now (table .entry)) first row) ⌝ }
+{
+    let ready = first_mark(first, row);
+    let count = remaining(table, row);
+    let at_q = net_records::mark(area, at, ready);
+    let at_r = net_records::mark(area, at_q, 0);
+    net_records::mark(area, at_r, count)
+}
+
+pub fn of_rows(table: &[u16], rows: u16, area: &mut [u8], at: usize) -> usize
+    ensures { λ r. ⌜ Wrote (now (area .entry)) at (now (area .exit)) r (runs (rowMarks (now (table .entry)) (entered (now (table .entry)) 0)) rows) ⌝ }
+{
+    let first = rows::entered(table, 0);
+    let end = rows as usize;
+    let mut next = at;
+    let mut row: usize = 0;
+    while row < end {
+        next = row_marks(table, first, row, area, next);
+        row += 1;
+    }
+    next
+}
+
+pub fn of_items(table: &[u16], items: u16, area: &mut [u8], at: usize) -> usize
+    ensures { λ r. ⌜ Wrote (now (area .entry)) at (now (area .exit)) r (runs (itemMark (now (table .entry))) items) ⌝ }
+{
+    let end = items as usize;
+    let mut next = at;
+    let mut item: usize = 0;
+    while item < end {
+        let count = rows::cell(table, COUNTS, item);
+        next = net_records::mark(area, next, count);
+        item += 1;
+    }
+    next
+}
+
+// How many transitions a row of a kind has; a BRANCH, by its construct's open row.
+fn number(construct: u16, kind: u16) -> usize
+    ensures { λ r. ⌜ (r ≡ numberAs construct kind) × (r ≤ 2) ⌝ }
+{
+    match kind {
+        kinds::FUNCTION => 2,
+        kinds::IT_OPEN => 2,
+        kinds::END => 0,
+        kinds::OR_OPEN => 0,
+        kinds::BRANCH => {
+            if construct == kinds::OR_OPEN {
+                return 1;
+            }
+            0
+        }
+        _ => 1,
+    }
+}
+
+fn tally(table: &[u16], rows: u16) -> usize
+    ensures { λ r. ⌜ r ≡ tallyOf (now (table .entry)) rows ⌝ }
+{
+    let end = rows as usize;
+    let mut sum: usize = 0;
+    let mut row: usize = 0;
+    while row < end {
+        let opened = rows::cell(table, OWNERS, row) as usize;
+        let construct = rows::cell(table, KINDS, opened);
+        let kind = rows::cell(table, KINDS, row);
+        sum += number(construct, kind);
+        row += 1;
+    }
+    sum
+}
+
+pub fn head(table: &[u16], rows: u16, items: u16, area: &mut [u8], at: usize) -> usize
+    ensures { λ r. ⌜ Wrote (now (area .entry)) at (now (area .exit)) r (pair 32 (3 * rows + items) (tallyOf (now (table .entry)) rows)) ⌝ }
+{
+    let transitions = tally(table, rows);
+    net_records::pair(
+        area,
+        at,
+        kinds::NET_HEAD,
+        3 * (rows as usize) + (items as usize),
+        transitions,
+    )
+}
