@@ -3,14 +3,14 @@ use Prim.Native.Nat.{ℕ, zero, suc, _+_, _*_, _%_, _≤_, _<_}
 use mathlib.Core.Path.{_≡_, refl, ap, ap₂, _∙_}
 use mathlib.Core.Logic.{_≢_}
 use mathlib.Core.Bool.{Bool, cond}
-use mathlib.Core.List.{List, [], _∷_, _++_, map, map-append, append-nil}
+use mathlib.Core.List.{[], _∷_, _++_, map, map-append, append-nil}
 use native.Mathlib.Omega.{arith}
 use lib.Dec.{leb, eqb}
 use borrow.Author.Tests.{leb-true, leb-false, ne-eqb}
 use Rattle.effbd.specs.Ranges.{only}
 use Rattle.effbd.specs.Diagrams.{Diagram, rowCount, countTotal}
 use Rattle.effbd.specs.Layout.{Place, P, Q, R, Count, byPlace, places, placeOf}
-use Rattle.effbd.specs.Nets.{Arc, giveArc}
+use Rattle.effbd.specs.Nets.{giveArc}
 use Rattle.effbd.specs.Patterns.{none, oneAt, marksP, arcsOf}
 use Rattle.agreement.specs.Basics.{decide, only-refl}
 use Rattle.agreement.specs.Numbering.{place-P, place-Q, place-R, place-I}
