@@ -9,31 +9,9 @@ use lib.Dec.{eqb}
 use borrow.Author.Tests.{lt-ltb, le-ltb}
 use Rattle.effbd.specs.Records.{word, kindAt}
 use Rattle.effbd.specs.Annex.{number}
-use Rattle.annex_text.specs.Laid.{Laid}
+use Rattle.text.specs.Laid.{Laid}
 use Rattle.annex_text.specs.Lines.{recordLine, recordSize, transitionsAt, recordLines, markNumbers}
-use Rattle.annex_text.proofs.Laws.{still, and-then, same, laid-length}
-
-pub record Ongoing (before : List ℕ) (at : ℕ) (after : List ℕ) (next : ℕ) (left whole : List ℕ) : Type 0 where
-  pub written : List ℕ
-  pub laid : Laid before at after next written
-  pub all : written ++ left ≡ whole
-
-pub begun : (area : List ℕ) (at : ℕ) (whole : List ℕ) → Ongoing area at area at whole whole
-begun area at whole = record { written = []; laid = still area at; all = refl }
-
-onward : {a b c : List ℕ} {at n m : ℕ} {whole : List ℕ} (part left left′ : List ℕ) → left ≡ part ++ left′
-    → Ongoing a at b n left whole → Laid b n c m part → Ongoing a at c m left′ whole
-onward part left left′ e o w = record {
-  written = o .written ++ part;
-  laid = and-then (o .laid) w;
-  all = append-assoc (o .written) part left′ ∙ (ap (λ (l : List ℕ). o .written ++ l) (sym e) ∙ o .all);
-}
-
-done : {a b : List ℕ} {at n : ℕ} {left whole : List ℕ} → left ≡ [] → Ongoing a at b n left whole → Laid a at b n whole
-done e o = same (sym (append-nil (o .written)) ∙ (ap (λ (l : List ℕ). o .written ++ l) (sym e) ∙ o .all)) (o .laid)
-
-pub ongoing-length : {a b : List ℕ} {at n : ℕ} {left whole : List ℕ} → Ongoing a at b n left whole → length b ≡ length a
-ongoing-length o = laid-length (o .laid)
+use Rattle.text.specs.LaidLaws.{Ongoing, begun, onward, done}
 
 -- the marks of the places
 mark-next : (places i : ℕ) (rest : List ℕ) → i < places → markNumbers (places - i) rest ≡ number (word rest 4) ++ markNumbers (places - (i + 1)) (drop 6 rest)

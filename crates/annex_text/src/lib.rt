@@ -1,86 +1,13 @@
-// The text of the annex, written into lent bytes. Each writer lays its bytes from `at` on and returns the position behind them.
-// Past the end of the lent bytes nothing is changed and positions go on, so no writer asks for room and the result is the text's length.
-use words::kinds;
+// The text of the annex, written into lent bytes.
 ghost use mathlib.Core.Path.{_≡_};
-ghost use mathlib.Core.List.{[], _∷_, _++_};
 ghost use lib.ListN.{length, take};
 ghost use Rattle.effbd.specs.Answers.{said};
-ghost use Rattle.effbd.specs.Annex.{digits, number as numberText, line, annexIn};
+ghost use Rattle.effbd.specs.Annex.{annexIn};
 ghost use Rattle.effbd.specs.Patterns.{translated};
-ghost use Rattle.annex_text.specs.Laid.{behind as behindOf, Laid};
+ghost use Rattle.text.specs.Laid.{Laid, over};
 ghost use Rattle.annex_text.specs.Lines.{transitionLine, arcLine, recordLine, recordSize, transitionsAt, recordLines, markNumbers, netText, answerText};
-ghost use Rattle.annex_text.specs.Over.{over};
 use effbd::Answer;
-
-// The position behind `at`. It stops far above any text, so that no sum wraps.
-fn behind(at: usize) -> usize
-    ensures { λ r. ⌜ r ≡ behindOf at ⌝ }
-{
-    if at < 1000000000000 {
-        return at + 1;
-    }
-    at
-}
-
-// One byte.
-fn put(text: &mut [u8], at: usize, byte: u8) -> usize
-    ensures { λ r. ⌜ Laid (now (text .entry)) at (now (text .exit)) r (byte ∷ []) ⌝ }
-{
-    words::put_byte(text, at, byte);
-    behind(at)
-}
-
-// The letters of a word.
-fn put_letters(text: &mut [u8], at: usize, letters: &[u8]) -> usize
-    ensures { λ r. ⌜ Laid (now (text .entry)) at (now (text .exit)) r (now (letters .entry)) ⌝ }
-{
-    let mut next = at;
-    let mut i: usize = 0;
-    while i < letters.len() {
-        next = put(text, next, letters[i]);
-        i += 1;
-    }
-    next
-}
-
-// A number's digits, at most `most` of them.
-fn put_digits(text: &mut [u8], at: usize, most: u16, number: usize) -> usize
-    ensures { λ r. ⌜ Laid (now (text .entry)) at (now (text .exit)) r (digits most number) ⌝ }
-{
-    if most == 0 {
-        return at;
-    }
-    if number < 10 {
-        return put(text, at, b'0' + number as u8);
-    }
-    let next = put_digits(text, at, most - 1, number / 10);
-    put(text, next, b'0' + (number % 10) as u8)
-}
-
-// A space and a number.
-fn put_number(text: &mut [u8], at: usize, number: usize) -> usize
-    ensures { λ r. ⌜ Laid (now (text .entry)) at (now (text .exit)) r (numberText number) ⌝ }
-{
-    let next = put(text, at, b' ');
-    put_digits(text, next, 10, number)
-}
-
-// A word, a space and a number.
-fn put_named(text: &mut [u8], at: usize, letters: &[u8], number: usize) -> usize
-    ensures { λ r. ⌜ Laid (now (text .entry)) at (now (text .exit)) r (now (letters .entry) ++ numberText number) ⌝ }
-{
-    let next = put_letters(text, at, letters);
-    put_number(text, next, number)
-}
-
-// A word, two numbers and a newline.
-fn put_line(text: &mut [u8], at: usize, letters: &[u8], first: usize, second: usize) -> usize
-    ensures { λ r. ⌜ Laid (now (text .entry)) at (now (text .exit)) r (line (now (letters .entry)) (first ∷ second ∷ [])) ⌝ }
-{
-    let behind_first = put_named(text, at, letters, first);
-    let behind_second = put_number(text, behind_first, second);
-    put(text, behind_second, b'\n')
-}
+use words::kinds;
 
 // The line of an arc.
 fn put_arc(text: &mut [u8], at: usize, bytes: &[u8]) -> usize
@@ -90,23 +17,23 @@ fn put_arc(text: &mut [u8], at: usize, bytes: &[u8]) -> usize
     let first = words::word(bytes, 4) as usize;
     let second = words::word(bytes, 6) as usize;
     if kind == kinds::TAKE {
-        return put_line(text, at, b"take", first, second);
+        return text::put_line(text, at, b"take", first, second);
     }
     if kind == kinds::CLEAR {
-        return put_line(text, at, b"clear", first, second);
+        return text::put_line(text, at, b"clear", first, second);
     }
-    put_line(text, at, b"give", first, second)
+    text::put_line(text, at, b"give", first, second)
 }
 
 // The line of transition number j.
 fn put_transition(text: &mut [u8], at: usize, j: usize, bytes: &[u8]) -> usize
     ensures { λ r. ⌜ Laid (now (text .entry)) at (now (text .exit)) r (transitionLine j (now (bytes .entry))) ⌝ }
 {
-    let label = put_named(text, at, b"t", j);
-    let from = put_named(text, label, b" label", words::word(bytes, 4) as usize);
-    let to = put_named(text, from, b" from", words::word(bytes, 6) as usize);
-    let end = put_named(text, to, b" to", words::word(bytes, 8) as usize);
-    put(text, end, b'\n')
+    let label = text::put_named(text, at, b"t", j);
+    let from = text::put_named(text, label, b" label", words::word(bytes, 4) as usize);
+    let to = text::put_named(text, from, b" from", words::word(bytes, 6) as usize);
+    let end = text::put_named(text, to, b" to", words::word(bytes, 8) as usize);
+    text::put(text, end, b'\n')
 }
 
 // The line of the transition or the arc at the start of `bytes`; the next transition is number j.
@@ -163,7 +90,7 @@ fn put_marks(text: &mut [u8], at: usize, places: usize, bytes: &[u8]) -> usize
     let mut next = at;
     let mut i: usize = 0;
     while i < places {
-        next = put_number(text, next, words::word(rest, 4) as usize);
+        next = text::put_number(text, next, words::word(rest, 4) as usize);
         let more = words::tail(rest, 6);
         rest = more;
         i += 1;
@@ -176,10 +103,10 @@ fn put_net(text: &mut [u8], at: usize, net: &[u8]) -> usize
     ensures { λ r. ⌜ Laid (now (text .entry)) at (now (text .exit)) r (netText (now (net .entry))) ⌝ }
 {
     let places = words::word(net, 4) as usize;
-    let line = put_line(text, at, b"net", places, words::word(net, 6) as usize);
-    let marks = put_letters(text, line, b"marks");
+    let line = text::put_line(text, at, b"net", places, words::word(net, 6) as usize);
+    let marks = text::put_letters(text, line, b"marks");
     let end = put_marks(text, marks, places, words::tail(net, 8));
-    let records = put(text, end, b'\n');
+    let records = text::put(text, end, b'\n');
     put_records(text, records, words::tail(net, 8 + 6 * places))
 }
 
@@ -189,7 +116,7 @@ fn put_answer(text: &mut [u8], net: &[u8], answer: Answer) -> usize
 {
     match answer {
         Answer::Accepted(size) => put_net(text, 0, first(net, size as usize)),
-        Answer::Refused(number, value) => put_line(
+        Answer::Refused(number, value) => text::put_line(
             text,
             0,
             b"refused",

@@ -2,58 +2,33 @@
 // the words of the leader's state and of the follower's. Standard input is the diagram's file and the list: offers that are accepted or
 // refused, telegrams handed over once, twice, too early, late, of another station, one that is lost, and bytes that are no telegram.
 
-// Writes a byte, where there is room; answers the next place.
-fn put(text: &mut [u8], at: usize, byte: u8) -> usize {
-    if at < text.len() {
-        text[at] = byte;
-        return at + 1;
-    }
-    at
-}
-
-// Writes the digit of a number at a power of ten, but no zero in front of it.
-fn put_digit(text: &mut [u8], at: usize, value: u32, power: u32) -> usize {
-    if power == 0 {
-        return at;
-    }
-    if value < power {
-        if power > 1 {
-            return at;
-        }
-    }
-    put(text, at, (48 + value / power % 10) as u8)
-}
-
-// Writes a number after a space, in decimal.
-fn put_number(text: &mut [u8], at: usize, value: u32) -> usize {
-    let mut next = put(text, at, 32);
-    let mut power: u32 = 1000000000;
-    while power > 0 {
-        next = put_digit(text, next, value, power);
-        power = power / 10;
-    }
-    next
-}
+ghost use Rattle.text.specs.Laid.{Laid};
+ghost use Rattle.bus_play.specs.Shown.{wordsText, endsText};
 
 // Writes the words of a state.
-fn put_words(text: &mut [u8], at: usize, state: &[u16]) -> usize {
-    let mut next = put(text, at, 32);
-    next = put(text, next, 124);
+fn put_words(text: &mut [u8], at: usize, state: &[u16]) -> usize
+    ensures { λ r. ⌜ Laid (now (text .entry)) at (now (text .exit)) r (wordsText (now (state .entry))) ⌝ }
+{
+    let mut next = at;
     let mut i: usize = 0;
     while i < state.len() {
-        next = put_number(text, next, state[i] as u32);
+        next = text::put_number(text, next, state[i] as usize);
         i += 1;
     }
     next
 }
 
 // One line: both counts, both states.
-fn put_line(text: &mut [u8], sent: u32, taken: u32, leader: &[u16], follower: &[u16]) -> usize {
-    let first = put_number(text, 0, sent);
-    let second = put_number(text, first, taken);
-    let third = put_words(text, second, leader);
-    let fourth = put_words(text, third, follower);
-    put(text, fourth, 10)
+fn put_ends(text: &mut [u8], sent: u32, taken: u32, leader: &[u16], follower: &[u16]) -> usize
+    ensures { λ r. ⌜ Laid (now (text .entry)) 0 (now (text .exit)) r (endsText sent taken (now (leader .entry)) (now (follower .entry))) ⌝ }
+{
+    let behind_sent = text::put_number(text, 0, sent as usize);
+    let behind_taken = text::put_number(text, behind_sent, taken as usize);
+    let leader_from = text::put_letters(text, behind_taken, b" |");
+    let leader_to = put_words(text, leader_from, leader);
+    let follower_from = text::put_letters(text, leader_to, b" |");
+    let follower_to = put_words(text, follower_from, follower);
+    text::put(text, follower_to, b'\n')
 }
 
 // Plays a list and prints both ends.
@@ -63,7 +38,7 @@ fn show(file: &[u8], calls: &mut [u8]) {
     let result = play::play(file, &mut leader, &mut follower, 7, calls);
     let counts = result.counts;
     let mut text = [0u8; 256];
-    let size = put_line(&mut text, counts.sent, counts.taken, &leader, &follower);
+    let size = put_ends(&mut text, counts.sent, counts.taken, &leader, &follower);
     if size <= 256 {
         io::write_all(1, &text[..size]);
     }

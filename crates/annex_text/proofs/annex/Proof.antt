@@ -1,6 +1,6 @@
 use Rattle.agreement.specs.ByteLaws.{bytes-are}
-use Rattle.annex_text.proofs.Laws.{same}
-use Rattle.annex_text.specs.Over.{annexed}
+use Rattle.text.specs.LaidLaws.{same}
+use Rattle.annex_text.specs.Printed.{annexed}
 use Rattle.annex_text.specs.Lines.{answerText}
 use native.Mathlib.Omega.{arith}
 use mathlib.Core.Path.{ap₂}

@@ -1,4 +1,4 @@
-use Rattle.annex_text.proofs.Laws.{same}
+use Rattle.text.specs.LaidLaws.{same}
 use Rattle.annex_text.specs.Lines.{netText, answerText}
 use Rattle.effbd.specs.declared.Answer.{Answer}
 use Rattle.effbd.specs.Answers.{said}

@@ -1,4 +1,4 @@
-use Rattle.annex_text.proofs.Laws.{same}
+use Rattle.text.specs.LaidLaws.{same}
 use Rattle.annex_text.specs.RecordLaws.{arc-of, give-letters}
 use Rattle.effbd.specs.Annex.{arcLetters}
 use mathlib.Core.Path.{sym, ap}

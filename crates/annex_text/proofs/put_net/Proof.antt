@@ -1,4 +1,5 @@
-use Rattle.annex_text.proofs.Laws.{and-then, same, net-of}
+use Rattle.text.specs.LaidLaws.{and-then, same}
+use Rattle.annex_text.proofs.Laws.{net-of}
 use borrow.Author.Needs.{needs}
 use Rattle.annex_text.proofs.put_net.Statement.{statement}
 use Rattle.annex_text.proofs.put_net.Tie as tie

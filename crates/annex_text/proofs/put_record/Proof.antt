@@ -1,4 +1,4 @@
-use Rattle.annex_text.proofs.Laws.{same}
+use Rattle.text.specs.LaidLaws.{same}
 use Rattle.annex_text.specs.RecordLaws.{transition-line, arc-line}
 use borrow.Author.Needs.{needs}
 use Rattle.annex_text.proofs.put_record.Statement.{statement}

@@ -1,4 +1,5 @@
-use Rattle.annex_text.proofs.Loops.{InRecords, records-begun, records-turn, records-done, falls, counts-most, ongoing-length}
+use Rattle.text.specs.LaidLaws.{ongoing-length}
+use Rattle.annex_text.proofs.Loops.{InRecords, records-begun, records-turn, records-done, falls, counts-most}
 use lib.ListN.{length}
 use native.Mathlib.Omega.{arith}
 use borrow.Author.Needs.{needs}

@@ -1,25 +1,22 @@
-use borrow.Author.Needs.{needs}
+use Rattle.text.specs.LaidLaws.{Ongoing, begun, ongoing-length}
+use Rattle.bus_play.specs.Shown.{wordsText}
+use Rattle.bus_play.proofs.Shown.{words-turn, words-done}
+use mathlib.Core.Path.{refl}
 use native.Mathlib.Omega.{arith}
-use lib.ListN.{length}
-use mathlib.Core.Path.{_≡_}
 use Prim.Native.Nat.{_-_}
+use lib.ListN.{length, drop}
+use borrow.Author.Needs.{needs}
 use Rattle.bus_play.proofs.put_words.Statement.{statement}
 use Rattle.bus_play.proofs.put_words.Tie as tie
 
 abbrev Inv-loop : tie.InvT-loop
-Inv-loop text₀ at state next₀ i₀ text next i = length text ≡ length text₀
+Inv-loop text₀ at state next₀ i₀ text next i = Ongoing text₀ next₀ text next (wordsText (drop i state)) (wordsText state)
 
 abbrev μ-loop : tie.MeasureT-loop
 μ-loop text₀ at state next₀ i₀ text next i = length state - i
 
-put-requires : tie.Need-put-requires Inv-loop μ-loop
-put-requires c κs = search needs
-
-put-requires-2 : tie.Need-put-requires-2 Inv-loop μ-loop
-put-requires-2 c κs = search needs
-
 loop-holds : tie.Need-loop-holds Inv-loop μ-loop
-loop-holds c = search needs
+loop-holds c = let a = c .before .before .args in begun (a .text .now) (a .at) (wordsText (a .state .now))
 
 mul-put-number : tie.Need-mul-put-number Inv-loop μ-loop
 mul-put-number c = search needs
@@ -40,13 +37,15 @@ loop-less : tie.Need-loop-less Inv-loop μ-loop
 loop-less c = search needs
 
 loop-again : tie.Need-loop-again Inv-loop μ-loop
-loop-again c = search needs
+loop-again c =
+    let l = c .before .before .before .before .before .before .loop in
+    words-turn (c .before .before .before .before .before .before .before .before .before .args .state .now) (l .i) _ (c .before .before .before .before .before .loop-test .taken) refl (l .inv) (c .before .before .put-number .ensures)
 
 same-length : tie.Need-same-length Inv-loop μ-loop
-same-length c = search needs
+same-length c = ongoing-length (c .before .loop .inv)
 
 returns : tie.Need-returns Inv-loop μ-loop
-returns c = search needs
+returns c = words-done (c .before .before .before .before .args .state .now) (c .before .loop .i) (omega arith) (c .before .loop .inv)
 
 pub put-words-spec : {M : Type 1} → statement M
 put-words-spec =
@@ -54,8 +53,6 @@ put-words-spec =
     (tie.spec
     Inv-loop
     μ-loop
-    put-requires
-    put-requires-2
     loop-holds
     mul-put-number
     shared-slice-read-put-number

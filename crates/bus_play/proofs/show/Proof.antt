@@ -14,23 +14,23 @@ slice-aggregate-play-2 c = search needs
 play-requires : tie.Need-play-requires
 play-requires c κs = search needs
 
-slice-aggregate-put-line : tie.Need-slice-aggregate-put-line
-slice-aggregate-put-line c = search needs
+slice-aggregate-put-ends : tie.Need-slice-aggregate-put-ends
+slice-aggregate-put-ends c = search needs
 
-slice-aggregate-put-line-2 : tie.Need-slice-aggregate-put-line-2
-slice-aggregate-put-line-2 c = search needs
+slice-aggregate-put-ends-2 : tie.Need-slice-aggregate-put-ends-2
+slice-aggregate-put-ends-2 c = search needs
 
-slice-aggregate-put-line-3 : tie.Need-slice-aggregate-put-line-3
-slice-aggregate-put-line-3 c = search needs
+slice-aggregate-put-ends-3 : tie.Need-slice-aggregate-put-ends-3
+slice-aggregate-put-ends-3 c = search needs
 
-put-line-requires : tie.Need-put-line-requires
-put-line-requires c κs = search needs
+put-ends-requires : tie.Need-put-ends-requires
+put-ends-requires c κs = search needs
 
 array-share-prefix-text : tie.Need-array-share-prefix-text
 array-share-prefix-text c = search needs
 
 slice-aggregate-write-all : tie.Need-slice-aggregate-write-all
-slice-aggregate-write-all c = sym (length-take-le (c .before .before .before .put-line .result) (c .before .before .before .put-line .last .0) (omega arith))
+slice-aggregate-write-all c = sym (length-take-le (c .before .before .before .put-ends .result) (c .before .before .before .put-ends .last .0) (omega arith))
 
 write-all-requires : tie.Need-write-all-requires
 write-all-requires c κs = search needs
@@ -54,10 +54,10 @@ show-spec =
     slice-aggregate-play
     slice-aggregate-play-2
     play-requires
-    slice-aggregate-put-line
-    slice-aggregate-put-line-2
-    slice-aggregate-put-line-3
-    put-line-requires
+    slice-aggregate-put-ends
+    slice-aggregate-put-ends-2
+    slice-aggregate-put-ends-3
+    put-ends-requires
     array-share-prefix-text
     slice-aggregate-write-all
     write-all-requires

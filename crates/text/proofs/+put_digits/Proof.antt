@@ -5,13 +5,14 @@ use borrow.Author.Needs.{needs}
 use borrow.Fn.Kinds.{In, Out}
 use borrow.Fn.PlainCycle.{Measures, is, falls, and}
 use Rattle.effbd.specs.Annex.{digits}
-use Rattle.annex_text.proofs.Laws.{still, same, and-then, no-digits, one-digit, more-digits}
-use Rattle.annex_text.proofs.put_digits.Reads as put-digits
-use Rattle.annex_text.proofs.put_digits.Kinds as put-digits-kinds
-use Rattle.annex_text.proofs.+put_digits.Lts-put_digits as put-digits-lts
-use Rattle.annex_text.proofs.put.Reads as put-reads
-use Rattle.annex_text.proofs.+put_digits.{statement}
-use Rattle.annex_text.proofs.+put_digits.Tie.{close}
+use Rattle.text.specs.LaidLaws.{still, same, and-then}
+use Rattle.text.proofs.Laws.{no-digits, one-digit, more-digits}
+use Rattle.text.proofs.put_digits.Reads as put-digits
+use Rattle.text.proofs.put_digits.Kinds as put-digits-kinds
+use Rattle.text.proofs.+put_digits.Lts-put_digits as put-digits-lts
+use Rattle.text.proofs.put.Reads as put-reads
+use Rattle.text.proofs.+put_digits.{statement}
+use Rattle.text.proofs.+put_digits.Tie.{close}
 
 abbrev μ-put-digits : Measures 1 put-digits-kinds.ps ℕ
 μ-put-digits κs a = a .1 .1 .0

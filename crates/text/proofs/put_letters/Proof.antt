@@ -1,12 +1,13 @@
 use mathlib.Core.Path.{refl}
-use Rattle.annex_text.proofs.Laws.{laid-length, still, letter, all-letters}
+use Rattle.text.specs.LaidLaws.{laid-length, still}
+use Rattle.text.proofs.Laws.{letter, all-letters}
 use Prim.Native.Nat.{_≤_, _-_}
 use lib.ListN.{length, take}
 use borrow.Author.Needs.{needs}
 use native.Mathlib.Omega.{arith}
-use Rattle.annex_text.specs.Laid.{Laid}
-use Rattle.annex_text.proofs.put_letters.Statement.{statement}
-use Rattle.annex_text.proofs.put_letters.Tie as tie
+use Rattle.text.specs.Laid.{Laid}
+use Rattle.text.proofs.put_letters.Statement.{statement}
+use Rattle.text.proofs.put_letters.Tie as tie
 
 abbrev Inv-loop : tie.InvT-loop
 Inv-loop text₀ at letters next₀ i₀ text next i = (i ≤ length letters) × Laid text₀ next₀ text next (take i letters)

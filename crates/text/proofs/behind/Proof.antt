@@ -1,8 +1,8 @@
 use borrow.Author.Tests.{lt-ltb, le-ltb}
 use borrow.Author.Needs.{needs}
-use Rattle.annex_text.specs.Laid.{behind}
-use Rattle.annex_text.proofs.behind.Statement.{statement}
-use Rattle.annex_text.proofs.behind.Tie as tie
+use Rattle.text.specs.Laid.{behind}
+use Rattle.text.proofs.behind.Statement.{statement}
+use Rattle.text.proofs.behind.Tie as tie
 
 add-result : tie.Need-add-result
 add-result c = search needs

@@ -1,7 +1,7 @@
-use Rattle.annex_text.proofs.Laws.{and-then}
+use Rattle.text.specs.LaidLaws.{and-then}
 use borrow.Author.Needs.{needs}
-use Rattle.annex_text.proofs.put_named.Statement.{statement}
-use Rattle.annex_text.proofs.put_named.Tie as tie
+use Rattle.text.proofs.put_named.Statement.{statement}
+use Rattle.text.proofs.put_named.Tie as tie
 
 put-letters-requires : tie.Need-put-letters-requires
 put-letters-requires c κs = search needs

@@ -1,8 +1,8 @@
-use Rattle.annex_text.proofs.Laws.{and-then}
+use Rattle.text.specs.LaidLaws.{and-then}
 use Rattle.effbd.specs.Annex.{number}
 use borrow.Author.Needs.{needs}
-use Rattle.annex_text.proofs.put_number.Statement.{statement}
-use Rattle.annex_text.proofs.put_number.Tie as tie
+use Rattle.text.proofs.put_number.Statement.{statement}
+use Rattle.text.proofs.put_number.Tie as tie
 
 put-requires : tie.Need-put-requires
 put-requires c κs = search needs

@@ -1,7 +1,8 @@
-use Rattle.annex_text.proofs.Laws.{and-then, same, line-of}
+use Rattle.text.specs.LaidLaws.{and-then, same}
+use Rattle.text.proofs.Laws.{line-of}
 use borrow.Author.Needs.{needs}
-use Rattle.annex_text.proofs.put_line.Statement.{statement}
-use Rattle.annex_text.proofs.put_line.Tie as tie
+use Rattle.text.proofs.put_line.Statement.{statement}
+use Rattle.text.proofs.put_line.Tie as tie
 
 put-named-requires : tie.Need-put-named-requires
 put-named-requires c κs = search needs

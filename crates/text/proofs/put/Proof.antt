@@ -1,7 +1,7 @@
-use Rattle.annex_text.proofs.Laws.{one}
+use Rattle.text.specs.LaidLaws.{one}
 use borrow.Author.Needs.{needs}
-use Rattle.annex_text.proofs.put.Statement.{statement}
-use Rattle.annex_text.proofs.put.Tie as tie
+use Rattle.text.proofs.put.Statement.{statement}
+use Rattle.text.proofs.put.Tie as tie
 
 put-byte-requires : tie.Need-put-byte-requires
 put-byte-requires c κs = search needs
