@@ -1,3 +1,7 @@
+use Prim.Native.Nat.{ℕ, _+_, _/_}
+use mathlib.Core.Path.{_∙_, ap}
+use mathlib.Core.List.{List}
+use Rattle.words.specs.Stores.{wordPut}
 use Rattle.words.proofs.Ends.{long-put-out}
 use borrow.Author.Needs.{needs}
 use Rattle.words.proofs.put_long.Statement.{statement}
@@ -22,7 +26,7 @@ same-length : tie.Need-same-length
 same-length c = search needs
 
 returns : tie.Need-returns
-returns c = cc
+returns c = let a = c .before .before .before .before .before .before .before .before .before .before .args in c .before .before .put-word2 .ensures ∙ ap (λ (l : List ℕ). wordPut l (a .at + 2) (a .value / 65536)) (c .before .before .before .before .before .before .put-word .ensures)
 
 returns-2 : tie.Need-returns-2
 returns-2 c = long-put-out (c .before .before .args .area .now) (c .before .before .args .at) (c .before .before .args .value) (c .if1 .left)

@@ -1,3 +1,7 @@
+use Prim.Native.Nat.{ℕ, _+_, _/_}
+use mathlib.Core.Path.{_∙_, ap}
+use mathlib.Core.List.{List}
+use lib.ListN.{set}
 use Rattle.words.proofs.Ends.{word-put-out}
 use borrow.Author.Needs.{needs}
 use Rattle.words.proofs.put_word.Statement.{statement}
@@ -22,7 +26,7 @@ same-length : tie.Need-same-length
 same-length c = search needs
 
 returns : tie.Need-returns
-returns c = cc
+returns c = let a = c .before .before .before .before .before .before .before .before .before .before .args in c .before .before .put-byte2 .ensures ∙ ap (λ (l : List ℕ). set l (a .at + 1) (a .value / 256)) (c .before .before .before .before .before .before .put-byte .ensures)
 
 returns-2 : tie.Need-returns-2
 returns-2 c = word-put-out (c .before .before .args .area .now) (c .before .before .args .at) (c .before .before .args .value) (c .if1 .left)
