@@ -14,14 +14,14 @@ use Rattle.effbd.specs.Answers.{accepted}
 use Rattle.effbd.specs.Diagrams.{lp-open, numberOf, Diagram, rowCount, kind}
 use Rattle.effbd.specs.Nesting.{Frame, turnTo, innermostOpen, latestBranch, stack, owner, branchEnded, innermost, loop, close, isClose, nested}
 use Rattle.agreement.specs.Basics.{decide, clash, least-is, least-none}
-use Rattle.diagram_file.specs.declared.nesting.Part.{Part}
-use Rattle.diagram_file.specs.declared.nesting.Part.the-variants.{Opens, Turns, Closes, Stays}
-use Rattle.diagram_file.specs.Runs.{partOf}
+use Rattle.nesting.specs.declared.Part.{Part}
+use Rattle.nesting.specs.declared.Part.the-variants.{Opens, Turns, Closes, Stays}
+use Rattle.nesting.specs.Runs.{partOf}
 use Rattle.diagram_file.specs.Cells.{cell}
-use Rattle.diagram_file.specs.Structure.{structureCells, putStructure, loopingIn, followedAs, followed, structured}
+use Rattle.diagram_file.specs.Structure.{structureCells, putStructure, loopingIn, followedClose, followedAs, followed, structured}
 use Rattle.diagram_file.proofs.Cells.{put-long, put-away, put-at}
-use Rattle.diagram_file.proofs.Rules.{closing, ending, stack-next}
-use Rattle.diagram_file.proofs.Stacks.{does, popped-is, owner-low, closesOf, close-part, not-closing, closes-once, held, last-stays}
+use Rattle.nesting.proofs.Rules.{closing, ending, stack-next}
+use Rattle.nesting.proofs.Stacks.{does, popped-is, owner-low, closesOf, close-part, not-closing, closes-once, held, last-stays}
 
 -- ---- the code's turns, over its numbers
 module _ (t : List ℕ) (rows q kind own latest looping : ℕ) (part : Part) (ek : kind ≡ getD t q 0) (eo : own ≡ getD t (320 + q) 0)
@@ -36,12 +36,15 @@ module _ (t : List ℕ) (rows q kind own latest looping : ℕ) (part : Part) (ek
   pub follow-turns : part ≡ Turns → putStructure rows (q + 1) own q looping t ≡ followed rows q t
   follow-turns e = rw (eo, el) (by Turns e)
 
-  pub follow-closes : (o b p : ℕ) → o ≡ getD t (320 + own) 0 → b ≡ getD t (384 + own) 0 → p ≡ getD t (512 + own) 0 → part ≡ Closes
-      → putStructure rows (q + 1) o b p (set t (448 + own) q) ≡ followed rows q t
-  follow-closes o b p fo fb fp e = rw (fo, fb, fp, eo) (by Closes e)
+  pub follow-closes : part ≡ Closes → followedClose rows q own t ≡ followed rows q t
+  follow-closes e = rw eo (by Closes e)
 
   pub follow-stays : part ≡ Stays → putStructure rows (q + 1) own latest looping t ≡ followed rows q t
   follow-stays e = rw (eo, eb, el) (by Stays e)
+
+pub close-followed : (t : List ℕ) (rows q own : ℕ) {o b p : ℕ} {u : List ℕ} → o ≡ getD t (320 + own) 0 → b ≡ getD t (384 + own) 0 → p ≡ getD t (512 + own) 0 → u ≡ set t (448 + own) q
+    → putStructure rows (q + 1) o b p u ≡ followedClose rows q own t
+close-followed t rows q own eo eb ep eu = rw (eo, eb, ep, eu)
 
 -- ---- the cells of the table
 module _ (rows r o b p : ℕ) (t : List ℕ) where

@@ -18,7 +18,8 @@ use Rattle.agreement.specs.Basics.{decide, and-left, and-right, all-elim}
 use Rattle.agreement.specs.ByteLaws.{Clean, none-clean}
 use Rattle.diagram_file.specs.declared.records.Reached.{Reached}
 use Rattle.diagram_file.specs.Reading.{Stopped, ItemsRead, RowsRead, column, recordRows, recordItems, readRecords, Tabulated, Recorded}
-use Rattle.diagram_file.proofs.Basics.{unless-refused, andThen-twice, unless-then}
+use Rattle.nesting.proofs.Basics.{unless-refused}
+use Rattle.diagram_file.proofs.Basics.{andThen-twice, unless-then}
 
 -- n records that were read: their values, their faults, the rest
 pub record Many (A : Type 0) (fault : List ℕ → ℕ) (value : List ℕ → A) (n : ℕ) (start : List ℕ) (g : Got (List A)) : Type 0 where

@@ -16,10 +16,10 @@ use Rattle.effbd.specs.Nesting.{stack, owner, nested}
 use Rattle.effbd.specs.Layout.{byPlace, places, placeOf}
 use Rattle.effbd.specs.States.{stateWords, enteredAs, enteredRow, fresh, freshWords}
 use Rattle.agreement.specs.Basics.{decide, clash, and-left, and-right}
-use Rattle.diagram_file.specs.Runs.{partOf}
+use Rattle.nesting.specs.Runs.{partOf}
 use Rattle.diagram_file.specs.Tables.{Holds, countsPut, freshPut, FreshOf, Freshened}
-use Rattle.diagram_file.proofs.Rules.{ending}
-use Rattle.diagram_file.proofs.Stacks.{does, held}
+use Rattle.nesting.proofs.Rules.{ending}
+use Rattle.nesting.proofs.Stacks.{does, held}
 
 -- tables of numbers
 table-length : (n : ℕ) (f : ℕ → ℕ) → length (tabulate n f) ≡ n

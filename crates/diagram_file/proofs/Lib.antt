@@ -3,9 +3,6 @@ pub mod Cells
 pub mod Fields
 pub mod Loops
 pub mod Files
-pub mod Rules
-pub mod Walks
-pub mod Stacks
 pub mod Columns
 pub mod Promises
 pub mod Freshness

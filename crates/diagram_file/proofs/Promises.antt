@@ -12,16 +12,16 @@ use Rattle.effbd.specs.Diagrams.{function, end, sameKind, Row, plain, Diagram, 
 use Rattle.effbd.specs.Nesting.{nested, readDiagram, fromRow, Part, usesPartOf, usesPart}
 use Rattle.effbd.specs.Layout.{places}
 use Rattle.diagram_file.specs.declared.records.Reached.{Reached}
-use Rattle.diagram_file.specs.declared.nesting.Judgement.{Judgement}
+use Rattle.nesting.specs.declared.Judgement.{Judgement}
 use Rattle.diagram_file.specs.declared.Diagram.{Diagram as Parse}
 use Rattle.diagram_file.specs.declared.Refusal.{Refusal}
 use Rattle.diagram_file.specs.Reading.{Tabled, Recorded}
-use Rattle.diagram_file.specs.Runs.{Kinds, NestingRead}
+use Rattle.nesting.specs.Runs.{Kinds, NestingRead}
 use Rattle.diagram_file.specs.Structure.{putStructure, structured}
 use Rattle.diagram_file.specs.Tables.{stateLength, refusalNumber, refusalValue, Holds, HoldsUses, HoldsFile, Judged, Filled, Parsed, partIn}
-use Rattle.diagram_file.proofs.Basics.{unless-refused}
+use Rattle.nesting.proofs.Basics.{unless-refused}
 use Rattle.diagram_file.proofs.Files.{two-parts}
-use Rattle.diagram_file.proofs.Stacks.{owner-low, loop-low, close-low}
+use Rattle.nesting.proofs.Stacks.{owner-low, loop-low, close-low}
 use Rattle.diagram_file.proofs.Columns.{Sound, sound, close-is}
 
 refused-back : {A : Type 0} (x : Outcome A) (n v : ℕ) → n ≡ refusalNumber x → v ≡ refusalValue x → n ≢ 0 → x ≡ refused n v

@@ -1,6 +1,5 @@
 pub mod Cells
 pub mod Fields
 pub mod Reading
-pub mod Runs
 pub mod Structure
 pub mod Tables

@@ -6,7 +6,6 @@ ghost use Rattle.effbd.specs.Nesting.{usesPart};
 ghost use Rattle.diagram_file.specs.Tables.{stateLength, freshPut, Judged, Filled, Parsed, Freshened, partIn};
 use effbd::Answer;
 
-mod nesting;
 mod records;
 mod structure;
 
@@ -70,7 +69,7 @@ fn judge(file: &[u8], table: &mut [u16]) -> Refusal
         };
     }
     let rows = words::word(file, 6);
-    let judgement = nesting::read_nesting(table, rows as usize);
+    let judgement = nesting::read_nesting(table, rows);
     if judgement.number != 0 {
         return Refusal {
             number: judgement.number,

@@ -2,9 +2,8 @@
 ghost use mathlib.Core.Path.{_≡_};
 ghost use Prim.Native.Nat.{_-_, _≤_, _<_};
 ghost use lib.ListN.{length};
-ghost use Rattle.diagram_file.specs.Structure.{putStructure, loopingIn, followed, structured};
-use crate::nesting;
-use crate::nesting::Part;
+ghost use Rattle.diagram_file.specs.Structure.{putStructure, loopingIn, followedClose, followed, structured};
+use nesting::Part;
 use words::kinds;
 
 // Owner, latest BRANCH and innermost LP of a row, and that it has no close: the number of rows stands for none.
@@ -26,6 +25,26 @@ fn looping_in(kind: u16, row: u16, looping: u16) -> u16
         return row;
     }
     looping
+}
+
+// The structure of the row after the close `row` of the construct that `owner` opens: that of `owner`, which has its close now.
+fn follow_close(table: &mut [u16], rows: u16, row: u16, owner: u16)
+    requires { ⌜ (row < 63) × (length (now table) ≡ 592) ⌝ }
+    ensures { λ _. ⌜ now (table .exit) ≡ followedClose rows row owner (now (table .entry)) ⌝ }
+{
+    let own = owner as usize;
+    let outer_owner = words::get(table, 320 + own);
+    let outer_latest = words::get(table, 384 + own);
+    let outer_loop = words::get(table, 512 + own);
+    words::put(table, 448 + own, row);
+    put_structure(
+        table,
+        rows,
+        row as usize + 1,
+        outer_owner,
+        outer_latest,
+        outer_loop,
+    );
 }
 
 // The structure of the row after `row`; where `row` is a close, it is that of its owner.
@@ -54,12 +73,7 @@ fn follow(table: &mut [u16], rows: u16, row: u16)
             put_structure(table, rows, at + 1, owner, row, looping);
         }
         Part::Closes => {
-            let own = owner as usize;
-            let outer_owner = words::get(table, 320 + own);
-            let outer_latest = words::get(table, 384 + own);
-            let outer_loop = words::get(table, 512 + own);
-            words::put(table, 448 + own, row);
-            put_structure(table, rows, at + 1, outer_owner, outer_latest, outer_loop);
+            follow_close(table, rows, row, owner);
         }
         Part::Stays => {
             put_structure(table, rows, at + 1, owner, latest, looping);

@@ -1,5 +1,4 @@
-use Rattle.diagram_file.proofs.Promises.{refused-records, few-rows, refused-nesting, judged-fine}
-use native.Mathlib.Omega.{arith}
+use Rattle.diagram_file.proofs.Promises.{refused-records, refused-nesting, judged-fine}
 use borrow.Author.Needs.{needs}
 use Rattle.diagram_file.proofs.judge.Statement.{statement}
 use Rattle.diagram_file.proofs.judge.Tie as tie
@@ -19,14 +18,11 @@ returns c = refused-records (c .before .before .before .before .before .read-rec
 word-requires : tie.Need-word-requires
 word-requires c κs = search needs
 
-cast-read-nesting : tie.Need-cast-read-nesting
-cast-read-nesting c = search needs
-
 read-nesting-requires : tie.Need-read-nesting-requires
-read-nesting-requires c κs = let h = few-rows (c .before .before .before .before .before .before .read-records .ensures .tabled (c .before .before .if1 .left)) in omega (arith, h, c .before .word .ensures)
+read-nesting-requires c κs = search needs
 
-cast-t13 : tie.Need-cast-t13
-cast-t13 c = search needs
+cast-t12 : tie.Need-cast-t12
+cast-t12 c = search needs
 
 same-length-2 : tie.Need-same-length-2
 same-length-2 c = search needs
@@ -49,9 +45,8 @@ judge-spec =
     same-length
     returns
     word-requires
-    cast-read-nesting
     read-nesting-requires
-    cast-t13
+    cast-t12
     same-length-2
     returns-2
     same-length-3

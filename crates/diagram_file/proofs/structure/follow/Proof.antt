@@ -70,47 +70,17 @@ put-structure-requires-2 c κs = search needs
 enum-told-3 : tie.Need-enum-told-3
 enum-told-3 c = search needs
 
-cast-own : tie.Need-cast-own
-cast-own c = omega (arith, c .before .before .before .before .before .before .before .slice-known .given (320 + c .before .before .before .before .before .before .before .before .args .row))
+follow-close-requires : tie.Need-follow-close-requires
+follow-close-requires c κs = search needs
 
-add-get : tie.Need-add-get
-add-get c = omega (arith, c .before .before .before .before .before .before .before .before .slice-known .given (320 + c .before .before .before .before .before .before .before .before .before .args .row))
-
-get-requires : tie.Need-get-requires
-get-requires c κs = search needs
-
-add-get-2 : tie.Need-add-get-2
-add-get-2 c = omega (arith, c .before .before .before .before .before .before .before .before .before .before .slice-known .given (320 + c .before .before .before .before .before .before .before .before .before .before .before .args .row))
-
-get-requires-2 : tie.Need-get-requires-2
-get-requires-2 c κs = search needs
-
-add-get-3 : tie.Need-add-get-3
-add-get-3 c = omega (arith, c .before .before .before .before .before .before .before .before .before .before .before .before .slice-known .given (320 + c .before .before .before .before .before .before .before .before .before .before .before .before .before .args .row))
-
-get-requires-3 : tie.Need-get-requires-3
-get-requires-3 c κs = search needs
-
-add-put : tie.Need-add-put
-add-put c = omega (arith, c .before .before .before .before .before .before .before .before .before .before .before .before .before .before .slice-known .given (320 + c .before .before .before .before .before .before .before .before .before .before .before .before .before .before .before .args .row))
-
-put-requires : tie.Need-put-requires
-put-requires c κs = search needs
+enum-told-4 : tie.Need-enum-told-4
+enum-told-4 c = search needs
 
 add-put-structure-4 : tie.Need-add-put-structure-4
 add-put-structure-4 c = search needs
 
 put-structure-requires-3 : tie.Need-put-structure-requires-3
 put-structure-requires-3 c κs = search needs
-
-enum-told-4 : tie.Need-enum-told-4
-enum-told-4 c = search needs
-
-add-put-structure-5 : tie.Need-add-put-structure-5
-add-put-structure-5 c = search needs
-
-put-structure-requires-4 : tie.Need-put-structure-requires-4
-put-structure-requires-4 c κs = search needs
 
 same-length : tie.Need-same-length
 same-length c = search needs
@@ -128,14 +98,13 @@ same-length-3 : tie.Need-same-length-3
 same-length-3 c = search needs
 
 returns-3 : tie.Need-returns-3
-returns-3 c = c .before .before .put-structure3 .ensures ∙ (ap (putStructure (c .before .before .before .before .before .before .before .before .before .before .before .before .before .before .before .before .before .before .before .before .before .before .args .rows) (c .before .before .before .before .before .before .before .before .before .before .before .before .before .before .before .before .before .before .before .before .before .before .args .row + 1) (c .before .before .before .before .before .before .before .before .before .before .before .before .get .result) (c .before .before .before .before .before .before .before .before .before .before .get2 .result) (c .before .before .before .before .before .before .before .before .get3 .result)) (c .before .before .before .before .before .before .put .ensures)
-    ∙ follow-closes (c .before .before .before .before .before .before .before .before .before .before .before .before .before .before .before .before .before .before .before .before .before .before .args .table .now) (c .before .before .before .before .before .before .before .before .before .before .before .before .before .before .before .before .before .before .before .before .before .before .args .rows) (c .before .before .before .before .before .before .before .before .before .before .before .before .before .before .before .before .before .before .before .before .before .before .args .row) _ _ _ _ _ refl refl refl refl (c .before .before .before .before .before .before .before .before .before .before .before .before .before .before .before .before .part-of .ensures) _ _ _ (c .before .before .before .before .before .before .before .before .before .before .before .before .get .ensures) (c .before .before .before .before .before .before .before .before .before .before .get2 .ensures) (c .before .before .before .before .before .before .before .before .get3 .ensures) (c .before .before .before .before .before .before .before .before .before .before .before .before .before .before .enum-told3 .given .1))
+returns-3 c = c .before .before .follow-close .ensures ∙ follow-closes (c .before .before .before .before .before .before .before .before .before .before .before .before .args .table .now) (c .before .before .before .before .before .before .before .before .before .before .before .before .args .rows) (c .before .before .before .before .before .before .before .before .before .before .before .before .args .row) _ _ _ _ _ refl refl refl refl (c .before .before .before .before .before .before .part-of .ensures) (c .before .before .before .before .enum-told3 .given .1)
 
 same-length-4 : tie.Need-same-length-4
 same-length-4 c = search needs
 
 returns-4 : tie.Need-returns-4
-returns-4 c = c .before .before .put-structure4 .ensures ∙ follow-stays (c .before .before .before .before .before .before .before .before .before .before .before .before .args .table .now) (c .before .before .before .before .before .before .before .before .before .before .before .before .args .rows) (c .before .before .before .before .before .before .before .before .before .before .before .before .args .row) _ _ _ _ _ refl refl refl refl (c .before .before .before .before .before .before .part-of .ensures) (c .before .before .before .before .enum-told4 .given .1)
+returns-4 c = c .before .before .put-structure3 .ensures ∙ follow-stays (c .before .before .before .before .before .before .before .before .before .before .before .before .args .table .now) (c .before .before .before .before .before .before .before .before .before .before .before .before .args .rows) (c .before .before .before .before .before .before .before .before .before .before .before .before .args .row) _ _ _ _ _ refl refl refl refl (c .before .before .before .before .before .before .part-of .ensures) (c .before .before .before .before .enum-told4 .given .1)
 
 pub follow-spec : {M : Type 1} → statement M
 follow-spec =
@@ -162,20 +131,10 @@ follow-spec =
     add-put-structure-3
     put-structure-requires-2
     enum-told-3
-    cast-own
-    add-get
-    get-requires
-    add-get-2
-    get-requires-2
-    add-get-3
-    get-requires-3
-    add-put
-    put-requires
+    follow-close-requires
+    enum-told-4
     add-put-structure-4
     put-structure-requires-3
-    enum-told-4
-    add-put-structure-5
-    put-structure-requires-4
     same-length
     returns
     same-length-2

@@ -1,0 +1,4 @@
+pub mod Basics
+pub mod Rules
+pub mod Stacks
+pub mod Walks
