@@ -1,6 +1,6 @@
 -- The structure pass finds what the stack says.
 use Prim.Native.Nat.{ℕ, zero, suc, _+_, _≤_, _<_}
-use mathlib.Core.Path.{_≡_, refl, sym, _∙_, ap, subst}
+use mathlib.Core.Path.{_≡_, refl, sym, _∙_, ap, ap₂, subst}
 use mathlib.Core.Logic.{_≢_}
 use mathlib.Core.Bool.{Bool, true, false, _&&_}
 use mathlib.Core.List.{List, [], _∷_}
@@ -14,37 +14,62 @@ use Rattle.effbd.specs.Answers.{accepted}
 use Rattle.effbd.specs.Diagrams.{lp-open, numberOf, Diagram, rowCount, kind}
 use Rattle.effbd.specs.Nesting.{Frame, turnTo, innermostOpen, latestBranch, stack, owner, branchEnded, innermost, loop, close, isClose, nested}
 use Rattle.agreement.specs.Basics.{decide, clash, least-is, least-none}
+use Rattle.diagram_file.specs.declared.structure.Around.{Around}
 use Rattle.nesting.specs.declared.Part.{Part}
 use Rattle.nesting.specs.declared.Part.the-variants.{Opens, Turns, Closes, Stays}
 use Rattle.nesting.specs.Runs.{partOf}
 use Rattle.diagram_file.specs.Cells.{cell}
-use Rattle.diagram_file.specs.Structure.{structureCells, putStructure, loopingIn, followedClose, followedAs, followed, structured}
+use Rattle.diagram_file.specs.Structure.{structureCells, putStructure, AroundAt, loopingIn, followedAs, followed, structured}
 use Rattle.diagram_file.proofs.Cells.{put-long, put-away, put-at}
 use Rattle.nesting.proofs.Rules.{closing, ending, stack-next}
 use Rattle.nesting.proofs.Stacks.{does, popped-is, owner-low, closesOf, close-part, not-closing, closes-once, held, last-stays}
 
--- ---- the code's turns, over its numbers
-module _ (t : List ℕ) (rows q kind own latest looping : ℕ) (part : Part) (ek : kind ≡ getD t q 0) (eo : own ≡ getD t (320 + q) 0)
-    (eb : latest ≡ getD t (384 + q) 0) (el : looping ≡ getD t (512 + q) 0) (ep : part ≡ partOf kind) where
+-- ---- the code's turns
+
+-- with the table u, and around the next row what b says, what follows row q is written
+pub record Following (rows q : ℕ) (t u : List ℕ) (b : Around) : Type 0 where
+  pub long : length u ≡ length t
+  pub written : putStructure rows (q + 1) (b .owner) (b .latest) (b .looping) u ≡ followed rows q t
+
+module _ (t : List ℕ) (rows q kind : ℕ) (a : Around) (part : Part) (ek : kind ≡ getD t q 0) (here : AroundAt t q a) (ep : part ≡ partOf kind) where
   by : (p : Part) → part ≡ p → followedAs p rows q t ≡ followed rows q t
   unfolding followed
   by p e = ap (λ (x : Part). followedAs x rows q t) (sym e ∙ (ep ∙ ap partOf ek))
 
-  pub follow-opens : (inner : ℕ) → inner ≡ loopingIn kind q looping → part ≡ Opens → putStructure rows (q + 1) q (q + 1) inner t ≡ followed rows q t
-  follow-opens inner ei e = rw (ei, ek, el) (by Opens e)
+  -- from the table v and the numbers of c
+  following : {u : List ℕ} {b : Around} (v : List ℕ) (c : Around) → u ≡ v → b ≡ c → length v ≡ length t
+      → putStructure rows (q + 1) (c .owner) (c .latest) (c .looping) v ≡ followed rows q t → Following rows q t u b
+  following v c eu eb l w = record {
+    long = ap length eu ∙ l;
+    written = ap₂ (λ (x : List ℕ) (y : Around). putStructure rows (q + 1) (y .owner) (y .latest) (y .looping) x) eu eb ∙ w;
+  }
 
-  pub follow-turns : part ≡ Turns → putStructure rows (q + 1) own q looping t ≡ followed rows q t
-  follow-turns e = rw (eo, el) (by Turns e)
+  pub follow-opens : {u : List ℕ} {b : Around} (inner : ℕ) → inner ≡ loopingIn kind q (a .looping) → part ≡ Opens
+      → u ≡ t → b ≡ record { owner = q; latest = q + 1; looping = inner } → Following rows q t u b
+  follow-opens inner ei e eu eb = following t (record { owner = q; latest = q + 1; looping = inner }) eu eb refl (go inner (a .looping) ei (here .looping))
+    where
+      go : (x y : ℕ) → x ≡ loopingIn kind q y → y ≡ getD t (512 + q) 0 → putStructure rows (q + 1) q (q + 1) x t ≡ followed rows q t
+      go x y ex ey = rw (ex, ek, ey) (by Opens e)
 
-  pub follow-closes : part ≡ Closes → followedClose rows q own t ≡ followed rows q t
-  follow-closes e = rw eo (by Closes e)
+  pub follow-turns : {u : List ℕ} {b : Around} → part ≡ Turns → u ≡ t → b ≡ record { owner = a .owner; latest = q; looping = a .looping } → Following rows q t u b
+  follow-turns e eu eb = following t (record { owner = a .owner; latest = q; looping = a .looping }) eu eb refl (go (a .owner) (a .looping) (here .owner) (here .looping))
+    where
+      go : (o p : ℕ) → o ≡ getD t (320 + q) 0 → p ≡ getD t (512 + q) 0 → putStructure rows (q + 1) o q p t ≡ followed rows q t
+      go o p eo ep = rw (eo, ep) (by Turns e)
 
-  pub follow-stays : part ≡ Stays → putStructure rows (q + 1) own latest looping t ≡ followed rows q t
-  follow-stays e = rw (eo, eb, el) (by Stays e)
+  pub follow-closes : {u : List ℕ} {b : Around} (c : Around) → AroundAt t (a .owner) c → part ≡ Closes → u ≡ set t (448 + a .owner) q → b ≡ c → Following rows q t u b
+  follow-closes c there e eu eb = following (set t (448 + a .owner) q) c eu eb (length-set t (448 + a .owner) q)
+      (go (a .owner) (c .owner) (c .latest) (c .looping) (here .owner) (there .owner) (there .latest) (there .looping))
+    where
+      go : (own o b p : ℕ) → own ≡ getD t (320 + q) 0 → o ≡ getD t (320 + own) 0 → b ≡ getD t (384 + own) 0 → p ≡ getD t (512 + own) 0
+          → putStructure rows (q + 1) o b p (set t (448 + own) q) ≡ followed rows q t
+      go own o b p ew eo eb ep = rw (eo, eb, ep, ew) (by Closes e)
 
-pub close-followed : (t : List ℕ) (rows q own : ℕ) {o b p : ℕ} {u : List ℕ} → o ≡ getD t (320 + own) 0 → b ≡ getD t (384 + own) 0 → p ≡ getD t (512 + own) 0 → u ≡ set t (448 + own) q
-    → putStructure rows (q + 1) o b p u ≡ followedClose rows q own t
-close-followed t rows q own eo eb ep eu = rw (eo, eb, ep, eu)
+  pub follow-stays : {u : List ℕ} {b : Around} → part ≡ Stays → u ≡ t → b ≡ a → Following rows q t u b
+  follow-stays e eu eb = following t a eu eb refl (go (a .owner) (a .latest) (a .looping) (here .owner) (here .latest) (here .looping))
+    where
+      go : (o b p : ℕ) → o ≡ getD t (320 + q) 0 → b ≡ getD t (384 + q) 0 → p ≡ getD t (512 + q) 0 → putStructure rows (q + 1) o b p t ≡ followed rows q t
+      go o b p eo eb ep = rw (eo, eb, ep) (by Stays e)
 
 -- ---- the cells of the table
 module _ (rows r o b p : ℕ) (t : List ℕ) where

@@ -1,10 +1,12 @@
 -- The pass over the table that finds the structure of the rows. Assumes nothing.
 use Prim.Native.Nat.{ℕ, zero, suc, _+_}
+use mathlib.Core.Path.{_≡_}
 use mathlib.Core.Bool.{cond}
 use mathlib.Core.List.{List, [], _∷_}
 use lib.ListN.{getD, set}
 use lib.Dec.{eqb}
 use Rattle.diagram_file.specs.Cells.{Cell, cell, putAll}
+use Rattle.diagram_file.specs.declared.structure.Around.{Around}
 use Rattle.nesting.specs.declared.Part.{Part}
 use Rattle.nesting.specs.declared.Part.the-variants.{Opens, Turns, Closes, Stays}
 use Rattle.nesting.specs.Runs.{partOf}
@@ -15,18 +17,22 @@ structureCells rows row owner latest looping = cell (320 + row) owner ∷ cell (
 unfoldable pub putStructure : (rows row owner latest looping : ℕ) → List ℕ → List ℕ
 putStructure rows row owner latest looping table = putAll (structureCells rows row owner latest looping) table
 
+-- the table says what a row stands in
+pub record AroundAt (t : List ℕ) (row : ℕ) (a : Around) : Type 0 where
+  pub owner : a .owner ≡ getD t (320 + row) 0
+  pub latest : a .latest ≡ getD t (384 + row) 0
+  pub looping : a .looping ≡ getD t (512 + row) 0
+
 abbrev pub loopingIn : (kind row looping : ℕ) → ℕ
 loopingIn kind row looping = cond (eqb kind 24) row looping
-
--- row q closes the construct that row `own` opens: row q + 1 has what `own` had
-abbrev pub followedClose : (rows q own : ℕ) → List ℕ → List ℕ
-followedClose rows q own t = putStructure rows (q + 1) (getD t (320 + own) 0) (getD t (384 + own) 0) (getD t (512 + own) 0) (set t (448 + own) q)
 
 -- the structure of row q + 1, by what row q does: an open has itself, a BRANCH turns, a close has what its owner had
 abbrev pub followedAs : Part → (rows q : ℕ) → List ℕ → List ℕ
 followedAs Opens rows q t = putStructure rows (q + 1) q (q + 1) (loopingIn (getD t q 0) q (getD t (512 + q) 0)) t
 followedAs Turns rows q t = putStructure rows (q + 1) (getD t (320 + q) 0) q (getD t (512 + q) 0) t
-followedAs Closes rows q t = followedClose rows q (getD t (320 + q) 0) t
+followedAs Closes rows q t =
+    putStructure rows (q + 1) (getD t (320 + getD t (320 + q) 0) 0) (getD t (384 + getD t (320 + q) 0) 0) (getD t (512 + getD t (320 + q) 0) 0)
+    (set t (448 + getD t (320 + q) 0) q)
 followedAs Stays rows q t = putStructure rows (q + 1) (getD t (320 + q) 0) (getD t (384 + q) 0) (getD t (512 + q) 0) t
 
 unfoldable pub followed : (rows q : ℕ) → List ℕ → List ℕ

@@ -130,6 +130,7 @@ pub record ConstructRead (table : List ℕ) (rows opened : ℕ) (o : Open) (r : 
   pub within : ConstructWithin opened rows r
   pub ended : (d : Diagram) → Kinds d rows table → Shows d (stack d opened) o → partOf (numberOf (kind d opened)) ≡ Opens → ConstructEnded d opened r
 
+-- the nesting of the table's rows was judged: of every diagram that has their kinds, `nested` refuses that row with that number, or accepts
 pub record NestingRead (table : List ℕ) (rows : ℕ) (r : Judgement) : Type 0 where
   pub within : r .row ≤ rows
   pub judged : (d : Diagram) → Kinds d rows table → nested d ≡ unless (r .number) (r .row) (accepted d)

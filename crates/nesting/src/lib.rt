@@ -1,5 +1,6 @@
 // The nesting of a diagram's rows: refusals 7 to 9. `read_run` reads a run of rows by its constructs, `read_construct` a construct by the
 // runs inside it; they call each other, and the call stack is the stack of what is open. The rows left and the depth left fall together.
+// Nothing is asked of a caller: past the table's end a kind is 0, which no row has.
 ghost use mathlib.Core.Path.{_≡_};
 ghost use Prim.Native.Nat.{_≤_, _<_};
 ghost use Rattle.nesting.specs.Runs.{partOf, kindIn, beforeIn, topIn, isAndOr, standsOf, followsOf, brokenOf, exitFits, misplacedOf, loopsIn, deepOf, faultIn, RunRead, ConstructRead, NestingRead};
@@ -40,6 +41,7 @@ pub struct Judgement {
     pub row: usize,
 }
 
+// What a row of this kind does.
 pub fn part_of(kind: u16) -> Part
     ensures { λ r. ⌜ r ≡ partOf kind ⌝ }
 {
@@ -287,7 +289,7 @@ fn read_construct(table: &[u16], rows: usize, opened: usize, around: Open) -> Co
     }
 }
 
-// Judges the nesting of all rows.
+// Judges the nesting of all rows; their kinds are the table's first words.
 pub fn read_nesting(table: &[u16], rows: u16) -> Judgement
     ensures { λ r. ⌜ NestingRead (now (table .entry)) rows r ⌝ }
 {

@@ -1,11 +1,17 @@
-use Prim.Native.Nat.{_+_}
-use mathlib.Core.Path.{refl, _∙_, ap}
+use mathlib.Core.Path.{refl, _∙_}
+use mathlib.Core.Logic.{⊎-elim}
 use native.Mathlib.Omega.{arith}
-use Rattle.diagram_file.specs.Structure.{putStructure}
-use Rattle.diagram_file.proofs.Columns.{follow-opens, follow-turns, follow-closes, follow-stays}
 use borrow.Author.Needs.{needs}
+use Rattle.diagram_file.proofs.Columns.{Following, follow-opens, follow-turns, follow-closes, follow-stays}
 use Rattle.diagram_file.proofs.structure.follow.Statement.{statement}
 use Rattle.diagram_file.proofs.structure.follow.Tie as tie
+use Rattle.diagram_file.proofs.structure.follow.Reads as reads
+use Rattle.diagram_file.proofs.structure.follow.Lts as lts
+use Rattle.diagram_file.proofs.structure.around_of.Reads as around-of-reads
+use Rattle.diagram_file.proofs.structure.looping_in.Reads as looping-in-reads
+use Rattle.diagram_file.proofs.structure.put_structure.Reads as put-structure-reads
+use Rattle.nesting.proofs.part_of.Reads as part-of-reads
+use Rattle.words.proofs.put.Reads as put-reads
 
 mul-kind : tie.Need-mul-kind
 mul-kind c = search needs
@@ -13,32 +19,8 @@ mul-kind c = search needs
 slice-read-kind : tie.Need-slice-read-kind
 slice-read-kind c = search needs
 
-add-owner : tie.Need-add-owner
-add-owner c = search needs
-
-mul-owner : tie.Need-mul-owner
-mul-owner c = search needs
-
-slice-read-owner : tie.Need-slice-read-owner
-slice-read-owner c = search needs
-
-add-latest : tie.Need-add-latest
-add-latest c = search needs
-
-mul-latest : tie.Need-mul-latest
-mul-latest c = search needs
-
-slice-read-latest : tie.Need-slice-read-latest
-slice-read-latest c = search needs
-
-add-looping : tie.Need-add-looping
-add-looping c = search needs
-
-mul-looping : tie.Need-mul-looping
-mul-looping c = search needs
-
-slice-read-looping : tie.Need-slice-read-looping
-slice-read-looping c = search needs
+around-of-requires : tie.Need-around-of-requires
+around-of-requires c κs = search needs
 
 part-of-requires : tie.Need-part-of-requires
 part-of-requires c κs = search needs
@@ -46,65 +28,63 @@ part-of-requires c κs = search needs
 enum-told : tie.Need-enum-told
 enum-told c = search needs
 
-add-put-structure : tie.Need-add-put-structure
-add-put-structure c = search needs
-
-add-put-structure-2 : tie.Need-add-put-structure-2
-add-put-structure-2 c = search needs
+add-t14 : tie.Need-add-t14
+add-t14 c = search needs
 
 looping-in-requires : tie.Need-looping-in-requires
 looping-in-requires c κs = search needs
 
-put-structure-requires : tie.Need-put-structure-requires
-put-structure-requires c κs = search needs
-
 enum-told-2 : tie.Need-enum-told-2
 enum-told-2 c = search needs
-
-add-put-structure-3 : tie.Need-add-put-structure-3
-add-put-structure-3 c = search needs
-
-put-structure-requires-2 : tie.Need-put-structure-requires-2
-put-structure-requires-2 c κs = search needs
 
 enum-told-3 : tie.Need-enum-told-3
 enum-told-3 c = search needs
 
-follow-close-requires : tie.Need-follow-close-requires
-follow-close-requires c κs = search needs
+cast-own : tie.Need-cast-own
+cast-own c = search needs
+
+around-of-requires-2 : tie.Need-around-of-requires-2
+around-of-requires-2 c κs = search needs
+
+add-put : tie.Need-add-put
+add-put c = search needs
+
+put-requires : tie.Need-put-requires
+put-requires c κs = search needs
 
 enum-told-4 : tie.Need-enum-told-4
 enum-told-4 c = search needs
 
-add-put-structure-4 : tie.Need-add-put-structure-4
-add-put-structure-4 c = search needs
+add-put-structure : tie.Need-add-put-structure
+add-put-structure c = search needs
 
-put-structure-requires-3 : tie.Need-put-structure-requires-3
-put-structure-requires-3 c κs = search needs
+-- what each arm leaves to be written
+left : (c : lts.At-match-came (
+  around-of-reads.Asked,
+  around-of-reads.Learnt,
+  part-of-reads.Asked,
+  part-of-reads.Learnt,
+  looping-in-reads.Asked,
+  looping-in-reads.Learnt,
+  put-reads.Asked,
+  put-reads.Learnt,
+  put-structure-reads.Asked,
+  put-structure-reads.Learnt,
+) reads.Pre reads.Post) → Following (c .before .before .before .before .before .before .args .rows) (c .before .before .before .before .before .before .args .row) (c .before .before .before .before .before .before .args .table .now) (c .match .table) (c .match .around)
+left c =
+    ⊎-elim (λ w. follow-opens (c .before .before .before .before .before .before .args .table .now) (c .before .before .before .before .before .before .args .rows) (c .before .before .before .before .before .before .args .row) _ (c .before .before .around-of .result) _ refl (c .before .before .around-of .ensures) (c .before .part-of .ensures) (w .2 .result) (w .2 .ensures) (w .1 .given .1) (w .3) (w .4))
+    (⊎-elim (λ w. follow-turns (c .before .before .before .before .before .before .args .table .now) (c .before .before .before .before .before .before .args .rows) (c .before .before .before .before .before .before .args .row) _ (c .before .before .around-of .result) _ refl (c .before .before .around-of .ensures) (c .before .part-of .ensures) (w .1 .given .1) (w .2) (w .3))
+    (⊎-elim (λ w. follow-closes (c .before .before .before .before .before .before .args .table .now) (c .before .before .before .before .before .before .args .rows) (c .before .before .before .before .before .before .args .row) _ (c .before .before .around-of .result) _ refl (c .before .before .around-of .ensures) (c .before .part-of .ensures) (w .4 .result) (w .4 .ensures) (w .1 .given .1) (w .9 ∙ w .6 .ensures) (w .10))
+    (λ w. follow-stays (c .before .before .before .before .before .before .args .table .now) (c .before .before .before .before .before .before .args .rows) (c .before .before .before .before .before .before .args .row) _ (c .before .before .around-of .result) _ refl (c .before .before .around-of .ensures) (c .before .part-of .ensures) (w .1 .given .1) (w .2) (w .3)))) (c .match .came)
+
+put-structure-requires : tie.Need-put-structure-requires
+put-structure-requires c κs = let l = left (c .before) .long in omega (arith, l, c .before .before .before .before .before .before .before .pre)
 
 same-length : tie.Need-same-length
-same-length c = search needs
+same-length c = let l = left (c .before .before .before .before) .long in search needs
 
 returns : tie.Need-returns
-returns c = c .before .before .put-structure .ensures ∙ follow-opens (c .before .before .before .before .before .before .before .before .before .before .before .before .before .args .table .now) (c .before .before .before .before .before .before .before .before .before .before .before .before .before .args .rows) (c .before .before .before .before .before .before .before .before .before .before .before .before .before .args .row) _ _ _ _ _ refl refl refl refl (c .before .before .before .before .before .before .before .part-of .ensures) _ (c .before .before .before .looping-in .ensures) (c .before .before .before .before .before .enum-told .given .1)
-
-same-length-2 : tie.Need-same-length-2
-same-length-2 c = search needs
-
-returns-2 : tie.Need-returns-2
-returns-2 c = c .before .before .put-structure2 .ensures ∙ follow-turns (c .before .before .before .before .before .before .before .before .before .before .before .before .args .table .now) (c .before .before .before .before .before .before .before .before .before .before .before .before .args .rows) (c .before .before .before .before .before .before .before .before .before .before .before .before .args .row) _ _ _ _ _ refl refl refl refl (c .before .before .before .before .before .before .part-of .ensures) (c .before .before .before .before .enum-told2 .given .1)
-
-same-length-3 : tie.Need-same-length-3
-same-length-3 c = search needs
-
-returns-3 : tie.Need-returns-3
-returns-3 c = c .before .before .follow-close .ensures ∙ follow-closes (c .before .before .before .before .before .before .before .before .before .before .before .before .args .table .now) (c .before .before .before .before .before .before .before .before .before .before .before .before .args .rows) (c .before .before .before .before .before .before .before .before .before .before .before .before .args .row) _ _ _ _ _ refl refl refl refl (c .before .before .before .before .before .before .part-of .ensures) (c .before .before .before .before .enum-told3 .given .1)
-
-same-length-4 : tie.Need-same-length-4
-same-length-4 c = search needs
-
-returns-4 : tie.Need-returns-4
-returns-4 c = c .before .before .put-structure3 .ensures ∙ follow-stays (c .before .before .before .before .before .before .before .before .before .before .before .before .args .table .now) (c .before .before .before .before .before .before .before .before .before .before .before .before .args .rows) (c .before .before .before .before .before .before .before .before .before .before .before .before .args .row) _ _ _ _ _ refl refl refl refl (c .before .before .before .before .before .before .part-of .ensures) (c .before .before .before .before .enum-told4 .given .1)
+returns c = c .before .before .put-structure .ensures ∙ left (c .before .before .before .before) .written
 
 pub follow-spec : {M : Type 1} → statement M
 follow-spec =
@@ -112,34 +92,19 @@ follow-spec =
     (tie.spec
     mul-kind
     slice-read-kind
-    add-owner
-    mul-owner
-    slice-read-owner
-    add-latest
-    mul-latest
-    slice-read-latest
-    add-looping
-    mul-looping
-    slice-read-looping
+    around-of-requires
     part-of-requires
     enum-told
-    add-put-structure
-    add-put-structure-2
+    add-t14
     looping-in-requires
-    put-structure-requires
     enum-told-2
-    add-put-structure-3
-    put-structure-requires-2
     enum-told-3
-    follow-close-requires
+    cast-own
+    around-of-requires-2
+    add-put
+    put-requires
     enum-told-4
-    add-put-structure-4
-    put-structure-requires-3
+    add-put-structure
+    put-structure-requires
     same-length
-    returns
-    same-length-2
-    returns-2
-    same-length-3
-    returns-3
-    same-length-4
-    returns-4)
+    returns)
