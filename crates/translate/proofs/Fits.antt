@@ -43,31 +43,38 @@ module _ (file : List ℕ) (rows items : ℕ) (table : List ℕ) (h : HoldsFile 
   fits : 0 + length (flat (netRecords table file rows items)) ≤ offsetLimit
   fits = rw is-net (let s = small in omega arith)
 
-  measure : {before after : List ℕ} {next : ℕ} → Wrote before 0 after next (netRecords table file rows items) → next ≡ length net
-  measure w = w .reached ∙ (reach-fits (netRecords table file rows items) 0 fits ∙ (zero-add _ ∙ ap length is-net))
+  -- no net is longer
+  pub never-longer : length (flat (netRecords table file rows items)) ≤ 65535
+  never-longer = rw is-net small
 
   -- the writer's result is the net's length, and fits an answer
+  pub measure : {before after : List ℕ} {next : ℕ} → Wrote before 0 after next (netRecords table file rows items)
+      → next ≡ length (flat (netRecords table file rows items))
+  measure w = w .reached ∙ (reach-fits (netRecords table file rows items) 0 fits ∙ zero-add _)
+
   pub measured : {before after : List ℕ} {next : ℕ} → Wrote before 0 after next (netRecords table file rows items) → next ≤ 65535
-  measured w = let e = measure w in let s = small in omega arith
+  measured w = let e = measure w in let s = never-longer in omega arith
 
   -- a short area
   pub too-short : {before after area : List ℕ} {next : ℕ} → Wrote before 0 after next (netRecords table file rows items) → length area < next
       → (refused 10 next ≡ translated file area .answer) × (area ≡ translated file area .area)
   unfolding translated net
-  too-short {area = area} {next} w l = let e = measure w in
+  too-short {area = area} {next} w l = let e : next ≡ length (netBytes (netOf (h .diagram))) = measure w ∙ ap length is-net in
       rw (h .read, lt-ltb (length area) (length (netBytes (netOf (h .diagram)))) (omega arith)) (ap (refused 10) e, refl)
 
   -- a long one
-  pub long-enough : {before between area after : List ℕ} {needed next : ℕ} → Wrote before 0 between needed (netRecords table file rows items) → needed ≤ length area
+  pub long-enough : {area after : List ℕ} {next : ℕ} → length (flat (netRecords table file rows items)) ≤ length area
       → Wrote area 0 after next (netRecords table file rows items) → (accepted next ≡ translated file area .answer) × (after ≡ translated file area .area)
   unfolding translated net
-  long-enough {area = area} {after} {needed} {next} v l w =
-      let e : needed ≡ length net = measure v in
-      rw (h .read, le-ltb (length area) (length (netBytes (netOf (h .diagram)))) (omega arith)) (ap accepted (measure w), content)
+  long-enough {area = area} {after} {next} l w =
+      let n = room in rw (h .read, le-ltb (length area) (length (netBytes (netOf (h .diagram)))) n) (ap accepted (measure w ∙ ap length is-net), content)
     where
+      room : length net ≤ length area
+      room = rw (← is-net) l
+
       content : after ≡ net ++ drop (length net) area
       content = w .area ∙ (laid-fits (netRecords table file rows items) area 0 fits ∙ (ap (sets area 0) is-net
-          ∙ (sets-eq net area 0 (let e : needed ≡ length net = measure v in omega arith) ∙ ap (λ (k : ℕ). net ++ drop k area) (zero-add (length net)))))
+          ∙ (sets-eq net area 0 (omega (arith, room)) ∙ ap (λ (k : ℕ). net ++ drop k area) (zero-add (length net)))))
 
 -- a refused file
 pub turned-away : (file area : List ℕ) (p : Diagram) → Parsed file p → p .number ≢ 0

@@ -1,9 +1,11 @@
 // The net of a diagram, written into a lent area.
 ghost use mathlib.Core.Path.{_≡_};
+ghost use Prim.Native.Nat.{_≤_};
+ghost use lib.ListN.{length};
 ghost use Rattle.effbd.specs.Answers.{said};
 ghost use Rattle.effbd.specs.Patterns.{translated};
 ghost use Rattle.diagram_file.specs.Tables.{HoldsFile};
-ghost use Rattle.net_records.specs.Writing.{Wrote};
+ghost use Rattle.net_records.specs.Writing.{flat, Wrote};
 ghost use Rattle.translate.specs.Whole.{netRecords};
 use effbd::Answer;
 use net_rows::marks;
@@ -19,8 +21,23 @@ fn put_net(table: &[u16], file: &[u8], rows: u16, items: u16, area: &mut [u8], a
     rows::transitions(table, file, rows, area, transitions)
 }
 
-// The net of an accepted file. It is measured first, by writing it where there is no room.
-fn write(table: &[u16], file: &[u8], rows: u16, items: u16, area: &mut [u8]) -> Answer
+// No net is longer (`never-longer`).
+const LONGEST_NET: usize = 65535;
+
+// The net of an accepted file, in an area that has room for it.
+fn write_whole(table: &[u16], file: &[u8], rows: u16, items: u16, area: &mut [u8]) -> Answer
+    requires { ⌜ HoldsFile (now file) rows items (now table) ⌝ }
+    requires { ⌜ length (flat (netRecords (now table) (now file) rows items)) ≤ length (now area) ⌝ }
+    ensures { λ r. ⌜ said r ≡ translated (now (file .entry)) (now (area .entry)) .answer ⌝ }
+    ensures { λ _. ⌜ now (area .exit) ≡ translated (now (file .entry)) (now (area .entry)) .area ⌝ }
+{
+    let written = put_net(table, file, rows, items, area, 0);
+    let length = written as u32;
+    Answer::Accepted(length)
+}
+
+// The same in an area of any length: the net is measured first, by writing it where there is no room.
+fn write_measured(table: &[u16], file: &[u8], rows: u16, items: u16, area: &mut [u8]) -> Answer
     requires { ⌜ HoldsFile (now file) rows items (now table) ⌝ }
     ensures { λ r. ⌜ said r ≡ translated (now (file .entry)) (now (area .entry)) .answer ⌝ }
     ensures { λ _. ⌜ now (area .exit) ≡ translated (now (file .entry)) (now (area .entry)) .area ⌝ }
@@ -32,9 +49,19 @@ fn write(table: &[u16], file: &[u8], rows: u16, items: u16, area: &mut [u8]) -> 
         let value = needed as u32;
         return Answer::Refused(10, value);
     }
-    let written = put_net(table, file, rows, items, area, 0);
-    let length = written as u32;
-    Answer::Accepted(length)
+    write_whole(table, file, rows, items, area)
+}
+
+// The net of an accepted file; an area with room for every net needs no measuring.
+fn write(table: &[u16], file: &[u8], rows: u16, items: u16, area: &mut [u8]) -> Answer
+    requires { ⌜ HoldsFile (now file) rows items (now table) ⌝ }
+    ensures { λ r. ⌜ said r ≡ translated (now (file .entry)) (now (area .entry)) .answer ⌝ }
+    ensures { λ _. ⌜ now (area .exit) ≡ translated (now (file .entry)) (now (area .entry)) .area ⌝ }
+{
+    if area.len() < LONGEST_NET {
+        return write_measured(table, file, rows, items, area);
+    }
+    write_whole(table, file, rows, items, area)
 }
 
 // The net of a diagram file, written into the first bytes of the area: answers its length. A refused file's refusal, and 10 with
