@@ -4,13 +4,16 @@ ghost use mathlib.Core.Bool.{_&&_};
 ghost use lib.Dec.{eqb};
 ghost use Rattle.diagram_moves.specs.Decisions.{activityAllowed, turnsAllowed, clockAllowed, rowAllowed, stateAllowed};
 use crate::cells;
+use diagram_table::FIRST;
+use diagram_table::OWNER;
+use diagram_table::SECOND;
 use words::kinds;
 
 // The activities that the kind of a row has.
 fn activity_allowed(table: &[u16], row: u32, activity: u16) -> bool
     ensures { λ r. ⌜ r ≡ activityAllowed (now (table .entry)) row activity ⌝ }
 {
-    let kind = cells::kind(table, row);
+    let kind = diagram_table::kind(table, row);
     if kind == kinds::FUNCTION {
         return activity <= 2;
     }
@@ -18,8 +21,8 @@ fn activity_allowed(table: &[u16], row: u32, activity: u16) -> bool
         if activity == 0 {
             return true;
         }
-        let owner = cells::cell(table, cells::OWNER, row);
-        if cells::kind(table, owner as u32) == kinds::AND_OPEN {
+        let owner = diagram_table::cell(table, OWNER, row);
+        if diagram_table::kind(table, owner as u32) == kinds::AND_OPEN {
             return activity == 3;
         }
         return false;
@@ -34,8 +37,8 @@ fn activity_allowed(table: &[u16], row: u32, activity: u16) -> bool
 fn turns_allowed(table: &[u16], row: u32, turns: u16) -> bool
     ensures { λ r. ⌜ r ≡ turnsAllowed (now (table .entry)) row turns ⌝ }
 {
-    if cells::kind(table, row) == kinds::IT_OPEN {
-        return turns <= cells::cell(table, cells::FIRST, row);
+    if diagram_table::kind(table, row) == kinds::IT_OPEN {
+        return turns <= diagram_table::cell(table, FIRST, row);
     }
     turns == 0
 }
@@ -45,7 +48,7 @@ fn clock_allowed(table: &[u16], row: u32, activity: u16, clock: u16) -> bool
     ensures { λ r. ⌜ r ≡ clockAllowed (now (table .entry)) row activity clock ⌝ }
 {
     if activity == 2 {
-        return clock <= cells::cell(table, cells::SECOND, row);
+        return clock <= diagram_table::cell(table, SECOND, row);
     }
     clock == 0
 }

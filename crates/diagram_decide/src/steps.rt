@@ -4,13 +4,15 @@ ghost use Rattle.effbd.specs.Answers.{said};
 ghost use Rattle.diagram_moves.specs.Decisions.{doneAt, allDoneTo, readyVerdict, startVerdict, endVerdict, functionVerdict, branchVerdict, closeVerdict, rowVerdict};
 use crate::cells;
 use crate::uses;
+use diagram_table::FIRST;
+use diagram_table::OWNER;
 use effbd::Answer;
 use words::kinds;
 
 fn done_at(table: &[u16], state: &[u16], owner: u32, row: u32) -> bool
     ensures { λ r. ⌜ r ≡ doneAt (now (table .entry)) (now (state .entry)) owner row ⌝ }
 {
-    if cells::is_branch(table, owner, row) {
+    if diagram_table::is_branch(table, owner, row) {
         return cells::activity(state, row) == 3;
     }
     true
@@ -53,7 +55,7 @@ fn start(table: &[u16], rows: u32, items: u32, file: &[u8], state: &[u16], row: 
 fn finish(table: &[u16], rows: u32, items: u32, file: &[u8], state: &[u16], row: u32) -> Answer
     ensures { λ r. ⌜ said r ≡ endVerdict (now (table .entry)) rows items (now (file .entry)) (now (state .entry)) row ⌝ }
 {
-    let alpha = cells::cell(table, cells::FIRST, row);
+    let alpha = diagram_table::cell(table, FIRST, row);
     let clock = cells::clock(state, row);
     if clock < alpha {
         return Answer::Refused(24, (alpha - clock) as u32);
@@ -82,8 +84,8 @@ fn function(table: &[u16], rows: u32, items: u32, file: &[u8], state: &[u16], ro
 fn branch(table: &[u16], state: &[u16], row: u32) -> Answer
     ensures { λ r. ⌜ said r ≡ branchVerdict (now (table .entry)) (now (state .entry)) row ⌝ }
 {
-    let owner = cells::cell(table, cells::OWNER, row) as u32;
-    if cells::kind(table, owner) == kinds::OR_OPEN {
+    let owner = diagram_table::cell(table, OWNER, row) as u32;
+    if diagram_table::kind(table, owner) == kinds::OR_OPEN {
         return ready(state, owner, row);
     }
     Answer::Refused(22, row)
@@ -92,7 +94,7 @@ fn branch(table: &[u16], state: &[u16], row: u32) -> Answer
 fn and_close(table: &[u16], state: &[u16], row: u32) -> Answer
     ensures { λ r. ⌜ said r ≡ closeVerdict (now (table .entry)) (now (state .entry)) row ⌝ }
 {
-    let owner = cells::cell(table, cells::OWNER, row) as u32;
+    let owner = diagram_table::cell(table, OWNER, row) as u32;
     if all_done(table, state, owner, row) {
         return Answer::Accepted(0);
     }
@@ -110,7 +112,7 @@ pub(crate) fn row_step(
 ) -> Answer
     ensures { λ r. ⌜ said r ≡ rowVerdict (now (table .entry)) rows items (now (file .entry)) (now (state .entry)) row ⌝ }
 {
-    let kind = cells::kind(table, row);
+    let kind = diagram_table::kind(table, row);
     match kind {
         kinds::FUNCTION => function(table, rows, items, file, state, row),
         kinds::BRANCH => branch(table, state, row),

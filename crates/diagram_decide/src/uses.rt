@@ -3,10 +3,12 @@ ghost use mathlib.Core.Path.{_≡_};
 ghost use mathlib.Core.Bool.{cond};
 ghost use Rattle.effbd.specs.Records.{word};
 ghost use Rattle.effbd.specs.Diagrams.{usesAt};
-ghost use Rattle.diagram_moves.specs.Cells.{usesIn};
+ghost use Rattle.diagram_table.specs.Cells.{usesIn};
 ghost use Rattle.diagram_moves.specs.Decisions.{blockedItem};
 ghost use Rattle.diagram_moves.specs.Decisions.{exceeds as exceeding};
 use crate::cells;
+use diagram_table::USES_NUMBER;
+use diagram_table::USES_START;
 
 // The take or the give of the first of some uses.
 pub fn amount(uses: &[u8], giving: bool) -> u16
@@ -57,8 +59,8 @@ pub(crate) fn blocked_item(
 ) -> u32
     ensures { λ r. ⌜ r ≡ blockedItem giving rows items (now (state .entry)) (usesIn (now (table .entry)) (now (file .entry)) row) ⌝ }
 {
-    let start = cells::cell(table, cells::USES_START, row);
-    let number = cells::cell(table, cells::USES_NUMBER, row);
+    let start = diagram_table::cell(table, USES_START, row);
+    let number = diagram_table::cell(table, USES_NUMBER, row);
     let uses = words::tail(file, start as usize);
     blocked_in(uses, number, rows, items, state, giving)
 }

@@ -6,6 +6,8 @@ ghost use Rattle.diagram_moves.specs.Decisions.{functionHolds, rowHolds, rowFre
 use crate::cells;
 use crate::steps;
 use crate::uses;
+use diagram_table::OWNER;
+use diagram_table::SECOND;
 use effbd::Answer;
 use words::kinds;
 
@@ -27,7 +29,7 @@ fn function_holds(
         return items <= item;
     }
     if activity == 2 {
-        let beta = cells::cell(table, cells::SECOND, row) as u32;
+        let beta = diagram_table::cell(table, SECOND, row) as u32;
         let clock = cells::clock(state, row) as u32;
         return beta < clock + ticks as u32;
     }
@@ -46,7 +48,7 @@ fn row_holds(
 ) -> bool
     ensures { λ r. ⌜ r ≡ rowHolds (now (table .entry)) rows items (now (file .entry)) (now (state .entry)) ticks row ⌝ }
 {
-    let kind = cells::kind(table, row);
+    let kind = diagram_table::kind(table, row);
     if kind == kinds::FUNCTION {
         return function_holds(table, rows, items, file, state, ticks, row);
     }
@@ -57,7 +59,7 @@ fn row_holds(
         return true;
     }
     if kind == kinds::AND_CLOSE {
-        let owner = cells::cell(table, cells::OWNER, row) as u32;
+        let owner = diagram_table::cell(table, OWNER, row) as u32;
         return steps::all_done(table, state, owner, row);
     }
     false

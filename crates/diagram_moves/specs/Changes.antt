@@ -7,8 +7,8 @@ use lib.Dec.{leb, ltb, eqb}
 use Rattle.effbd.specs.Answers.{Outcome, accepted, refused}
 use Rattle.effbd.specs.Diagrams.{Use}
 use Rattle.effbd.specs.States.{activityAt, turnsAt, clockAt}
-use Rattle.diagram_moves.specs.Cells.{kindIn, firstIn, ownerIn, branchIn, closeIn, loopIn, usesIn}
-use Rattle.diagram_moves.specs.Decisions.{countPlace, amountOf, added, changed, isBranch, moveVerdict}
+use Rattle.diagram_table.specs.Cells.{kindIn, firstIn, ownerIn, closeIn, loopIn, usesIn, isBranch, enteredIn}
+use Rattle.diagram_moves.specs.Decisions.{countPlace, amountOf, added, changed, moveVerdict}
 
 -- a loop of stores: n turns from 0 up; the same with nothing done before row `start`
 abbrev pub fold : ℕ → (ℕ → List ℕ → List ℕ) → List ℕ → List ℕ
@@ -38,14 +38,9 @@ unfoldable pub tickTurn : (n r : ℕ) → List ℕ → List ℕ
 tickTurn n r words = cond (eqb (getD words (activityAt r) 0) 2) (set words (clockAt r) (added (getD words (clockAt r) 0) n)) words
 
 module _ (table : List ℕ) where
-  -- the row that entering row r changes, and entering it
-  unfoldable pub enteredIn : ℕ → ℕ
-  enteredIn r = cond (eqb (kindIn table r) 18)
-      (cond (eqb (kindIn table (ownerIn table r)) 17) (branchIn table r) (closeIn table (ownerIn table r)))
-      (cond (eqb (kindIn table r) 19) (branchIn table r) r)
-
+  -- row r is entered
   unfoldable pub entered : ℕ → List ℕ → List ℕ
-  entered r words = rowSet (enteredIn r) (cond (eqb (kindIn table (enteredIn r)) 18) 3 1) words
+  entered r words = rowSet (enteredIn table r) (cond (eqb (kindIn table (enteredIn table r)) 18) 3 1) words
 
   -- row `from` goes idle, row `to` is entered
   unfoldable pub tokenPassed : (from to : ℕ) → List ℕ → List ℕ

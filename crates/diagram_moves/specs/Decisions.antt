@@ -8,7 +8,7 @@ use Rattle.effbd.specs.Ranges.{allBelow}
 use Rattle.effbd.specs.Answers.{Outcome, accepted, refused}
 use Rattle.effbd.specs.Diagrams.{Use}
 use Rattle.effbd.specs.States.{activityAt, turnsAt, clockAt}
-use Rattle.diagram_moves.specs.Cells.{kindIn, firstIn, secondIn, ownerIn, usesIn}
+use Rattle.diagram_table.specs.Cells.{kindIn, firstIn, secondIn, ownerIn, usesIn, isBranch}
 
 -- where count k stands in a state of so many rows
 abbrev pub countPlace : ℕ → ℕ → ℕ
@@ -53,12 +53,9 @@ module _ (table : List ℕ) where
   unfoldable pub stateAllowed : (rows items : ℕ) → List ℕ → Bool
   stateAllowed rows items words = eqb (length words) (3 * rows + items) && allBelow rows (rowAllowed words)
 
-  -- row b is a BRANCH of the construct that row o opens; the BRANCH rows of o are done, all that stand from o to below row e
-  unfoldable pub isBranch : ℕ → ℕ → Bool
-  isBranch o b = eqb (kindIn table b) 18 && eqb (ownerIn table b) o
-
+  -- the BRANCH rows of o are done, all that stand from o to below row e
   unfoldable pub doneAt : List ℕ → ℕ → ℕ → Bool
-  doneAt words o b = not (isBranch o b) || eqb (getD words (activityAt b) 0) 3
+  doneAt words o b = not (isBranch table o b) || eqb (getD words (activityAt b) 0) 3
 
   unfoldable pub doneFrom : List ℕ → ℕ → ℕ → Bool
   doneFrom words o b = ltb b o || doneAt words o b

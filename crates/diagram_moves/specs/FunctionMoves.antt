@@ -17,7 +17,7 @@ use Rattle.effbd.specs.Moves.{enough, sumsFit, startFunction, endFunction, step
 use Rattle.diagram_file.specs.Tables.{Holds, HoldsUses}
 use Rattle.agreement.specs.Basics.{decide, and-right, all-elim, least-ext, not-not}
 use Rattle.agreement.specs.AcceptedFiles.{AllOf, Held}
-use Rattle.diagram_moves.specs.Cells.{usesIn}
+use Rattle.diagram_table.specs.Cells.{usesIn}
 use Rattle.diagram_moves.specs.Decisions.{exceeds, added, changed, blockedItem, startVerdict, endVerdict, functionVerdict}
 use Rattle.diagram_moves.specs.Changes.{rowSet, countsChanged, tokenPassed, functionChange, outcomeOf}
 use Rattle.diagram_moves.specs.Stores.{Reads, like, reads-words, set-row}

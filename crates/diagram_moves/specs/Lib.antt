@@ -1,4 +1,3 @@
-pub mod Cells
 pub mod Decisions
 pub mod Changes
 pub mod Stores

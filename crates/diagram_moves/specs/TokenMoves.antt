@@ -18,9 +18,9 @@ use Rattle.diagram_file.specs.Tables.{Holds}
 use Rattle.agreement.specs.Basics.{decide, and-left, all-intro, all-elim, all-fail, all-find, same-eq, not-kind}
 use Rattle.agreement.specs.Numbering.{all-ext}
 use Rattle.agreement.specs.Nested.{wellNested}
-use Rattle.diagram_moves.specs.Cells.{kindIn}
-use Rattle.diagram_moves.specs.Decisions.{isBranch, doneAt, doneFrom, allDoneTo, readyVerdict}
-use Rattle.diagram_moves.specs.Changes.{fold, startingAt, rowSet, clearTurn, rowsCleared, enteredIn, entered, tokenPassed, branchTurn, branchesTurned, outcomeOf}
+use Rattle.diagram_table.specs.Cells.{kindIn, isBranch, enteredIn}
+use Rattle.diagram_moves.specs.Decisions.{doneAt, doneFrom, allDoneTo, readyVerdict}
+use Rattle.diagram_moves.specs.Changes.{fold, startingAt, rowSet, clearTurn, rowsCleared, entered, tokenPassed, branchTurn, branchesTurned, outcomeOf}
 use Rattle.diagram_moves.specs.Stores.{Reads, like, reads-words, set-row}
 use Rattle.diagram_moves.specs.Loops.{idle-fold, clear-fold, and-false}
 use Rattle.agreement.specs.Reach.{next-in, entered-in, branch-behind, branch-before}

@@ -21,7 +21,7 @@ use Rattle.agreement.specs.Numbering.{all-ext}
 use Rattle.agreement.specs.Structure.{opens, Laws}
 use Rattle.agreement.specs.NestingLaws.{laws}
 use Rattle.agreement.specs.AcceptedFiles.{Held}
-use Rattle.diagram_moves.specs.Cells.{kindIn, ownerIn, closeIn}
+use Rattle.diagram_table.specs.Cells.{kindIn, ownerIn, closeIn}
 use Rattle.diagram_moves.specs.Decisions.{added, activityAllowed, turnsAllowed, clockAllowed, rowAllowed, stateAllowed, readyVerdict, branchVerdict, closeVerdict, rowVerdict, functionHolds, rowHolds, rowFree, waitVerdict, codeVerdict, moveVerdict}
 use Rattle.diagram_moves.specs.Changes.{fold, rowSet, tickTurn, tokenPassed, branchesTurned, itOpenChange, exitChange, entered, rowChange, moveChange, outcomeOf}
 use Rattle.diagram_moves.specs.Stores.{Reads, like, reads-words, words-read, set-turns}

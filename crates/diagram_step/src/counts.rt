@@ -1,12 +1,14 @@
 // Counts and clocks: takes, gives and ticks.
 ghost use mathlib.Core.Path.{_≡_};
 ghost use Rattle.effbd.specs.Diagrams.{usesAt};
-ghost use Rattle.diagram_moves.specs.Cells.{usesIn};
+ghost use Rattle.diagram_table.specs.Cells.{usesIn};
 ghost use Rattle.diagram_moves.specs.Decisions.{added as adding};
 ghost use Rattle.diagram_moves.specs.Decisions.{changed as changing};
 ghost use Rattle.diagram_moves.specs.Changes.{countsChanged, tickTurn, fold};
 use diagram_decide::cells;
 use diagram_decide::uses;
+use diagram_table::USES_NUMBER;
+use diagram_table::USES_START;
 
 // A sum, which stops at 65,535.
 fn added(number: u16, more: u16) -> u16
@@ -60,8 +62,8 @@ pub(crate) fn change_counts(
 )
     ensures { λ _. ⌜ now (state .exit) ≡ countsChanged giving rows (usesIn (now (table .entry)) (now (file .entry)) row) (now (state .entry)) ⌝ }
 {
-    let start = cells::cell(table, cells::USES_START, row);
-    let number = cells::cell(table, cells::USES_NUMBER, row);
+    let start = diagram_table::cell(table, USES_START, row);
+    let number = diagram_table::cell(table, USES_NUMBER, row);
     let uses = words::tail(file, start as usize);
     change_uses(uses, number, rows, state, giving);
 }

@@ -4,9 +4,13 @@ ghost use mathlib.Core.Bool.{true, false};
 ghost use Rattle.effbd.specs.Answers.{said, returningZero, afterwards};
 ghost use Rattle.effbd.specs.Moves.{stepDiagram, freshDiagram};
 ghost use Prim.Native.Nat.{_+_};
-ghost use Rattle.diagram_moves.specs.Cells.{ownerIn, closeIn};
+ghost use Rattle.diagram_table.specs.Cells.{ownerIn, closeIn};
 ghost use Rattle.diagram_moves.specs.Changes.{rowSet, entered, branchesTurned, itOpenChange, exitChange, functionChange, rowChange, moveChange, tableOutcome};
 use diagram_decide::cells;
+use diagram_table::CLOSE;
+use diagram_table::FIRST;
+use diagram_table::LOOP;
+use diagram_table::OWNER;
 use effbd::Answer;
 use words::kinds;
 
@@ -18,12 +22,12 @@ fn turn_iteration(table: &[u16], state: &mut [u16], row: u16)
     ensures { λ _. ⌜ now (state .exit) ≡ itOpenChange (now (table .entry)) row (now (state .entry)) ⌝ }
 {
     let turns = cells::turns(state, row as u32);
-    let count = cells::cell(table, cells::FIRST, row as u32);
+    let count = diagram_table::cell(table, FIRST, row as u32);
     if turns < count {
         words::put(state, 3 * row as usize + 1, turns + 1);
         tokens::pass_token(table, state, row as u32, row as u32 + 1);
     } else {
-        let close = cells::cell(table, cells::CLOSE, row as u32);
+        let close = diagram_table::cell(table, CLOSE, row as u32);
         words::put(state, 3 * row as usize + 1, 0);
         tokens::pass_token(table, state, row as u32, close as u32 + 1);
     }
@@ -33,8 +37,8 @@ fn turn_iteration(table: &[u16], state: &mut [u16], row: u16)
 fn exit_loop(table: &[u16], state: &mut [u16], row: u32)
     ensures { λ _. ⌜ now (state .exit) ≡ exitChange (now (table .entry)) row (now (state .entry)) ⌝ }
 {
-    let first = cells::cell(table, cells::LOOP, row);
-    let last = cells::cell(table, cells::CLOSE, first as u32);
+    let first = diagram_table::cell(table, LOOP, row);
+    let last = diagram_table::cell(table, CLOSE, first as u32);
     tokens::clear_rows(state, first, last);
     tokens::enter(table, state, last as u32 + 1);
 }
@@ -55,7 +59,7 @@ fn step_function(table: &[u16], rows: u32, file: &[u8], state: &mut [u16], row: 
 fn open_branches(table: &[u16], state: &mut [u16], row: u16)
     ensures { λ _. ⌜ now (state .exit) ≡ branchesTurned (now (table .entry)) true row (closeIn (now (table .entry)) row) (rowSet row 0 (now (state .entry))) ⌝ }
 {
-    let close = cells::cell(table, cells::CLOSE, row as u32);
+    let close = diagram_table::cell(table, CLOSE, row as u32);
     tokens::set_row(state, row as u32, 0);
     tokens::turn_branches(table, state, true, row, close);
 }
@@ -63,7 +67,7 @@ fn open_branches(table: &[u16], state: &mut [u16], row: u16)
 fn close_branches(table: &[u16], state: &mut [u16], row: u16)
     ensures { λ _. ⌜ now (state .exit) ≡ entered (now (table .entry)) (row + 1) (branchesTurned (now (table .entry)) false (ownerIn (now (table .entry)) row) row (now (state .entry))) ⌝ }
 {
-    let owner = cells::cell(table, cells::OWNER, row as u32);
+    let owner = diagram_table::cell(table, OWNER, row as u32);
     tokens::turn_branches(table, state, false, owner, row);
     tokens::enter(table, state, row as u32 + 1);
 }
@@ -73,8 +77,8 @@ fn step_row(table: &[u16], rows: u32, file: &[u8], state: &mut [u16], row: u16)
     ensures { λ _. ⌜ now (state .exit) ≡ rowChange (now (table .entry)) rows (now (file .entry)) row (now (state .entry)) ⌝ }
 {
     let at = row as u32;
-    let kind = cells::kind(table, at);
-    let owner = cells::cell(table, cells::OWNER, at) as u32;
+    let kind = diagram_table::kind(table, at);
+    let owner = diagram_table::cell(table, OWNER, at) as u32;
     match kind {
         kinds::FUNCTION => step_function(table, rows, file, state, row),
         kinds::AND_OPEN => open_branches(table, state, row),

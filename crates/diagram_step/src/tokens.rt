@@ -1,7 +1,6 @@
 // Tokens on rows: entering, passing on, the branches of an AND, the rows of a loop.
 ghost use mathlib.Core.Path.{_≡_};
-ghost use Rattle.diagram_moves.specs.Changes.{rowSet, enteredIn, entered, tokenPassed, branchTurn, branchesTurned, clearTurn, rowsCleared};
-use diagram_decide::cells;
+ghost use Rattle.diagram_moves.specs.Changes.{rowSet, entered, tokenPassed, branchTurn, branchesTurned, clearTurn, rowsCleared};
 use words::kinds;
 
 // Activity of a row, clock 0.
@@ -12,29 +11,11 @@ pub(crate) fn set_row(state: &mut [u16], row: u32, activity: u16)
     words::put(state, 3 * row as usize + 2, 0);
 }
 
-// The row that entering a row changes.
-fn entered_row(table: &[u16], row: u32) -> u32
-    ensures { λ r. ⌜ r ≡ enteredIn (now (table .entry)) row ⌝ }
-{
-    let kind = cells::kind(table, row);
-    if kind == kinds::BRANCH {
-        let owner = cells::cell(table, cells::OWNER, row) as u32;
-        if cells::kind(table, owner) == kinds::AND_OPEN {
-            return cells::cell(table, cells::BRANCH_ENDED, row) as u32;
-        }
-        return cells::cell(table, cells::CLOSE, owner) as u32;
-    }
-    if kind == kinds::AND_CLOSE {
-        return cells::cell(table, cells::BRANCH_ENDED, row) as u32;
-    }
-    row
-}
-
 pub(crate) fn enter(table: &[u16], state: &mut [u16], row: u32)
     ensures { λ _. ⌜ now (state .exit) ≡ entered (now (table .entry)) row (now (state .entry)) ⌝ }
 {
-    let changed = entered_row(table, row);
-    if cells::kind(table, changed) == kinds::BRANCH {
+    let changed = diagram_table::entered_row(table, row);
+    if diagram_table::kind(table, changed) == kinds::BRANCH {
         set_row(state, changed, 3);
     } else {
         set_row(state, changed, 1);
@@ -52,7 +33,7 @@ pub(crate) fn pass_token(table: &[u16], state: &mut [u16], from: u32, to: u32)
 fn turn_branch(table: &[u16], state: &mut [u16], entering: bool, owner: u16, row: u16)
     ensures { λ _. ⌜ now (state .exit) ≡ branchTurn (now (table .entry)) entering owner row (now (state .entry)) ⌝ }
 {
-    if cells::is_branch(table, owner as u32, row as u32) {
+    if diagram_table::is_branch(table, owner as u32, row as u32) {
         if entering {
             enter(table, state, row as u32 + 1);
         } else {

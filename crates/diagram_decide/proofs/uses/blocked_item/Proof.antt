@@ -1,4 +1,4 @@
-use Rattle.diagram_moves.specs.Cells.{usesIn}
+use Rattle.diagram_table.specs.Cells.{usesIn}
 use borrow.Author.Needs.{needs}
 use Rattle.diagram_decide.proofs.uses.blocked_item.Statement.{statement}
 use Rattle.diagram_decide.proofs.uses.blocked_item.Tie as tie

@@ -1,4 +1,4 @@
-use Rattle.diagram_moves.specs.Cells.{usesIn}
+use Rattle.diagram_table.specs.Cells.{usesIn}
 use mathlib.Core.Path.{_∙_}
 use borrow.Author.Needs.{needs}
 use Rattle.diagram_step.proofs.counts.change_counts.Statement.{statement}

@@ -1,7 +1,10 @@
--- The columns of a diagram's table, as crate diagram_file fills it; past the table's end a cell is 0. Assumes nothing.
+-- The columns of a diagram's table, as crate diagram_file fills it, and what they say of a construct's BRANCH rows and of entering a row.
+-- Past the table's end a cell is 0. Assumes nothing.
 use Prim.Native.Nat.{ℕ, _+_}
+use mathlib.Core.Bool.{Bool, cond, _&&_}
 use mathlib.Core.List.{List}
 use lib.ListN.{getD, drop}
+use lib.Dec.{eqb}
 use Rattle.effbd.specs.Diagrams.{Use, usesAt}
 
 module _ (table : List ℕ) where
@@ -35,6 +38,20 @@ module _ (table : List ℕ) where
   abbrev pub loopIn : ℕ → ℕ
   loopIn r = getD table (512 + r) 0
 
+  -- the initial count of an item
+  abbrev pub countIn : ℕ → ℕ
+  countIn k = getD table (576 + k) 0
+
   -- a row's uses
   unfoldable pub usesIn : List ℕ → ℕ → List Use
   usesIn file r = usesAt (usesNumberIn r) (drop (usesStartIn r) file)
+
+  -- row b is a BRANCH of the construct that row o opens
+  unfoldable pub isBranch : ℕ → ℕ → Bool
+  isBranch o b = eqb (kindIn b) 18 && eqb (ownerIn b) o
+
+  -- the row that entering row r changes
+  unfoldable pub enteredIn : ℕ → ℕ
+  enteredIn r = cond (eqb (kindIn r) 18)
+      (cond (eqb (kindIn (ownerIn r)) 17) (branchIn r) (closeIn (ownerIn r)))
+      (cond (eqb (kindIn r) 19) (branchIn r) r)

@@ -1,8 +1,8 @@
-use Rattle.diagram_moves.specs.Changes.{enteredIn}
+use Rattle.diagram_table.specs.Cells.{enteredIn}
 use borrow.Author.Tests.{eq-eqb, ne-eqb}
 use borrow.Author.Needs.{needs}
-use Rattle.diagram_step.proofs.tokens.entered_row.Statement.{statement}
-use Rattle.diagram_step.proofs.tokens.entered_row.Tie as tie
+use Rattle.diagram_table.proofs.entered_row.Statement.{statement}
+use Rattle.diagram_table.proofs.entered_row.Tie as tie
 
 kind-requires : tie.Need-kind-requires
 kind-requires c κs = search needs

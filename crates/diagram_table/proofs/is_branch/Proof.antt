@@ -1,8 +1,8 @@
-use Rattle.diagram_moves.specs.Decisions.{isBranch}
+use Rattle.diagram_table.specs.Cells.{isBranch}
 use borrow.Author.Tests.{eq-eqb, ne-eqb}
 use borrow.Author.Needs.{needs}
-use Rattle.diagram_decide.proofs.cells.is_branch.Statement.{statement}
-use Rattle.diagram_decide.proofs.cells.is_branch.Tie as tie
+use Rattle.diagram_table.proofs.is_branch.Statement.{statement}
+use Rattle.diagram_table.proofs.is_branch.Tie as tie
 
 kind-requires : tie.Need-kind-requires
 kind-requires c κs = search needs
