@@ -6,3 +6,4 @@ pub mod Files
 pub mod Columns
 pub mod Promises
 pub mod Freshness
+pub mod HeldCells

@@ -10,15 +10,16 @@ use lib.Dec.{leb, ltb, eqb}
 use borrow.Author.Tests.{ltb-true, ltb-false, lt-ltb, le-ltb, leb-true, leb-false, eqb-true, eqb-false, ne-eqb}
 use Rattle.effbd.specs.Ranges.{allBelow, only, within}
 use Rattle.effbd.specs.Answers.{accepted}
-use Rattle.effbd.specs.Diagrams.{Diagram, Kind, function, and-open, branch, and-close, or-open, or-close, it-open, it-close, lp-open, lp-close, loop-exit, end, numberOf, rowCount, countTotal, kind, isKind}
-use Rattle.effbd.specs.Nesting.{owner, branchEnded, isClose, close, branchOf}
-use Rattle.effbd.specs.States.{State, enteredAs, enteredRow, activate, enter, branchEntries, makeIdle, clearRows}
+use Rattle.effbd.specs.Diagrams.{Diagram, Kind, branch, end, numberOf, rowCount, countTotal, kind, isKind}
+use Rattle.effbd.specs.Nesting.{owner, isClose, branchOf}
+use Rattle.effbd.specs.States.{State, enteredRow, activate, enter, branchEntries, makeIdle, clearRows}
 use Rattle.effbd.specs.Moves.{allDone, ifReady, wordsOutcome}
 use Rattle.diagram_file.specs.Tables.{Holds}
+use Rattle.diagram_file.proofs.HeldCells.{entered-cell, branch-cell}
 use Rattle.agreement.specs.Basics.{decide, and-left, all-intro, all-elim, all-fail, all-find, same-eq, not-kind}
 use Rattle.agreement.specs.Numbering.{all-ext}
 use Rattle.agreement.specs.Nested.{wellNested}
-use Rattle.diagram_table.specs.Cells.{kindIn, isBranch, enteredIn}
+use Rattle.diagram_table.specs.Cells.{kindIn}
 use Rattle.diagram_moves.specs.Decisions.{doneAt, doneFrom, allDoneTo, readyVerdict}
 use Rattle.diagram_moves.specs.Changes.{fold, startingAt, rowSet, clearTurn, rowsCleared, entered, tokenPassed, branchTurn, branchesTurned, outcomeOf}
 use Rattle.diagram_moves.specs.Stores.{Reads, like, reads-words, set-row}
@@ -32,32 +33,8 @@ all-cut n N f b h = decide (allBelow n f)
     (λ e. let w = all-find n f e in let x = w .1 in e ∙ sym (all-fail N f (w .0) (omega arith) (w .2)))
 
 module _ (d : Diagram) (acc : wellNested d ≡ true) (table : List ℕ) (h : Holds d (rowCount d) (countTotal d) table) where
-  pub owner-in : (q : ℕ) → q < rowCount d → owner d q < rowCount d
-  owner-in q b = let z = h .ownerLow q in omega arith
-
   pub number-is : (q : ℕ) (k : Kind) → q < rowCount d → kind d q ≡ k → kindIn table q ≡ numberOf k
   number-is q k b e = h .kinds q b ∙ ap numberOf e
-
-  entered-shape : (k : Kind) (ofAnd : Bool) (q : ℕ)
-      → cond (eqb (numberOf k) 18) (cond ofAnd (branchEnded d q) (close d (owner d q))) (cond (eqb (numberOf k) 19) (branchEnded d q) q) ≡ enteredAs d k ofAnd q
-  entered-shape function ofAnd q = refl
-  entered-shape and-open ofAnd q = refl
-  entered-shape branch true q = refl
-  entered-shape branch false q = refl
-  entered-shape and-close ofAnd q = refl
-  entered-shape or-open ofAnd q = refl
-  entered-shape or-close ofAnd q = refl
-  entered-shape it-open ofAnd q = refl
-  entered-shape it-close ofAnd q = refl
-  entered-shape lp-open ofAnd q = refl
-  entered-shape lp-close ofAnd q = refl
-  entered-shape loop-exit ofAnd q = refl
-  entered-shape end ofAnd q = refl
-
-  entered-is : (q : ℕ) → q < rowCount d → enteredIn table q ≡ enteredRow d q
-  unfolding enteredIn enteredRow
-  entered-is q b = rw (h .owners q b, h .kinds q b, h .kinds (owner d q) (owner-in q b), h .branches q b, h .closes (owner d q) (owner-in q b))
-      (entered-shape (kind d q) (isKind d and-open (owner d q)) q)
 
   pub idle-reads : (l : List ℕ) (s : State) (r : ℕ) → r < rowCount d → Reads d l s → Reads d (rowSet r 0 l) (makeIdle (only r) s)
   idle-reads l s r b e = set-row d (λ q. 0) l s r b e
@@ -67,7 +44,7 @@ module _ (d : Diagram) (acc : wellNested d ≡ true) (table : List ℕ) (h : Hol
 
   pub enter-reads : (l : List ℕ) (s : State) (q : ℕ) → q < rowCount d → Reads d l s → Reads d (entered table q l) (enter d q s)
   unfolding entered
-  enter-reads l s q b e = rw (entered-is q b) (activate-reads l s (enteredRow d q) (entered-in d acc q b) e)
+  enter-reads l s q b e = rw (entered-cell d (rowCount d) (countTotal d) table h q b) (activate-reads l s (enteredRow d q) (entered-in d acc q b) e)
 
   pub pass-reads : (l : List ℕ) (s : State) (o q : ℕ) → o < rowCount d → q < rowCount d → Reads d l s → Reads d (tokenPassed table o q l) (enter d q (makeIdle (only o) s))
   unfolding tokenPassed
@@ -77,10 +54,6 @@ module _ (d : Diagram) (acc : wellNested d ≡ true) (table : List ℕ) (h : Hol
   pub ready-is : (l m : List ℕ) (s t : State) (o r : ℕ) → o < rowCount d → Reads d l s → Reads d m t → outcomeOf (readyVerdict l o r) m ≡ wordsOutcome d (ifReady d o r s t)
   unfolding readyVerdict wordsOutcome
   ready-is l m s t o r b e f = rw (e .activity o b) (decide (eqb (s .activity o) 1) (λ y. rw y (ap accepted (reads-words d m t f))) (λ y. rw y))
-
-  branch-is : (o b : ℕ) → b < rowCount d → isBranch table o b ≡ branchOf d o b
-  unfolding isBranch branchOf
-  branch-is o b c = rw (h .kinds b c, h .owners b c)
 
   no-branch : (o b : ℕ) → (branchOf d o b ≡ true → ⊥) → branchOf d o b ≡ false
   no-branch o b n = decide (branchOf d o b) (λ y. absurd (n y)) (λ y. y)
@@ -99,12 +72,12 @@ module _ (d : Diagram) (acc : wellNested d ≡ true) (table : List ℕ) (h : Hol
         ∙ all-cut e (rowCount d) (λ b. not (branchOf d o b) || eqb (s .activity b) 3) (omega arith) (λ b c i. rw (outside b c))
       where
         same : (b : ℕ) → b < e → doneFrom table l o b ≡ (not (branchOf d o b) || eqb (s .activity b) 3)
-        same b c = decide (ltb b o) (λ y. rw (y, lower b (ltb-true b o y))) (λ y. rw (y, branch-is o b (omega arith), f .activity b (omega arith)))
+        same b c = decide (ltb b o) (λ y. rw (y, lower b (ltb-true b o y))) (λ y. rw (y, branch-cell d (rowCount d) (countTotal d) table h o b (omega arith), f .activity b (omega arith)))
 
     turn-is : (entering : Bool) (b : ℕ) (m : List ℕ) → b < rowCount d
         → startingAt o (branchTurn table entering o) b m ≡ cond (branchOf d o b) (cond entering (entered table (b + 1) m) (rowSet b 0 m)) m
     unfolding startingAt branchTurn
-    turn-is entering b m c = rw (branch-is o b c) (decide (leb o b) (λ y. rw y) (λ y. rw (y, lower b (leb-false o b y))))
+    turn-is entering b m c = rw (branch-cell d (rowCount d) (countTotal d) table h o b c) (decide (leb o b) (λ y. rw y) (λ y. rw (y, lower b (leb-false o b y))))
 
     pub idle-branches : (l : List ℕ) (s : State) → Reads d l s → Reads d (branchesTurned table false o e l) (makeIdle (branchOf d o) s)
     unfolding branchesTurned

@@ -16,6 +16,7 @@ use Rattle.effbd.specs.Layout.{places}
 use Rattle.effbd.specs.States.{State, turnsAt, stateOf, enteredAs, enteredRow, activate, enter, branchEntries, makeIdle, clearRows, setTurns, activityFine, rowPasses, statePasses}
 use Rattle.effbd.specs.Moves.{moveOf, passTicks, enough, allDone, ifReady, stepAs, step, holdsAs, wait, move, wordsOutcome, moveWords, checkedMove}
 use Rattle.diagram_file.specs.Tables.{Holds, HoldsUses}
+use Rattle.diagram_file.proofs.HeldCells.{owner-in}
 use Rattle.agreement.specs.Basics.{decide, clash, kind-in, and-left, all-elim, not-kind, or-false-right}
 use Rattle.agreement.specs.Numbering.{all-ext}
 use Rattle.agreement.specs.Structure.{opens, Laws}
@@ -27,7 +28,7 @@ use Rattle.diagram_moves.specs.Changes.{fold, rowSet, tickTurn, tokenPas
 use Rattle.diagram_moves.specs.Stores.{Reads, like, reads-words, words-read, set-turns}
 use Rattle.diagram_moves.specs.Loops.{tick-fold}
 use Rattle.agreement.specs.Reach.{next-in, close-in, opened-by}
-use Rattle.diagram_moves.specs.TokenMoves.{owner-in, number-is, idle-reads, enter-reads, pass-reads, ready-is, all-done-is, idle-branches, open-branches, clear-reads}
+use Rattle.diagram_moves.specs.TokenMoves.{number-is, idle-reads, enter-reads, pass-reads, ready-is, all-done-is, idle-branches, open-branches, clear-reads}
 use Rattle.diagram_moves.specs.FunctionMoves.{Small, whole-sum, enough-is, function-is}
 
 or-nil : (e : Bool) → e ≡ e || false
@@ -91,7 +92,7 @@ module _ (d : Diagram) (H : Held d) (table : List ℕ) (h : Holds d (rowCount d)
     e .clock q b,
     h .owners q b,
     h .kinds q b,
-    h .kinds (owner d q) (owner-in d (H .acc) table h q b),
+    h .kinds (owner d q) (owner-in d (rowCount d) (countTotal d) table h q b),
     h .firsts q b,
     h .seconds q b,
     activity-shape d (kind d q) (isKind d and-open (owner d q)) (s .activity q),
@@ -183,7 +184,7 @@ module _ (d : Diagram) (H : Held d) (table : List ℕ) (h : Holds d (rowCount d)
     back : (k : Kind) → kind d (owner d r) ≡ k → enteredAs d k (isKind d and-open (owner d (owner d r))) (owner d r) ≡ owner d r
         → outcomeOf (readyVerdict l r r) (tokenPassed table r (ownerIn table r) l) ≡ wordsOutcome d (ifReady d r r s (activate d (only (owner d r)) (makeIdle (only r) s)))
     back k f same = rw (h .owners r b) (ready-is d (H .acc) table h l _ s (enter d (owner d r) (makeIdle (only r) s)) r r b e
-        (pass-reads d (H .acc) table h l s r (owner d r) b (owner-in d (H .acc) table h r b) e)
+        (pass-reads d (H .acc) table h l s r (owner d r) b (owner-in d (rowCount d) (countTotal d) table h r b) e)
         ∙ ap (λ (q : ℕ). wordsOutcome d (ifReady d r r s (activate d (only q) (makeIdle (only r) s)))) itself)
       where
         itself : enteredRow d (owner d r) ≡ owner d r
@@ -197,7 +198,7 @@ module _ (d : Diagram) (H : Held d) (table : List ℕ) (h : Holds d (rowCount d)
 
     branch-step-is : kind d r ≡ branch → outcomeOf (branchVerdict table l r) (tokenPassed table (ownerIn table r) (r + 1) l) ≡ wordsOutcome d (stepAs d branch r s)
     unfolding branchVerdict wordsOutcome
-    branch-step-is f = let o = owner-in d (H .acc) table h r b in
+    branch-step-is f = let o = owner-in d (rowCount d) (countTotal d) table h r b in
         rw (h .owners r b, h .kinds (owner d r) o, add-one r) (decide (isKind d or-open (owner d r))
         (λ y. rw y (ready-is d (H .acc) table h l _ s (enter d (suc r) (makeIdle (only (owner d r)) s)) (owner d r) r o e
         (pass-reads d (H .acc) table h l s (owner d r) (suc r) o (next branch f refl) e)))

@@ -3,7 +3,7 @@ pub mod Ranges
 pub mod Uses
 pub mod Nesting
 pub mod Branches
-pub mod Cells
+pub mod Entries
 pub mod RowRecords
 pub mod NetParts
 pub mod RowSizes

@@ -16,16 +16,17 @@ use Rattle.agreement.specs.Basics.{decide}
 use Rattle.agreement.specs.AcceptedFiles.{Held}
 use Rattle.agreement.specs.Numbering.{length-tab, length-map}
 use Rattle.agreement.specs.NetSteps.{many-marks}
+use Rattle.diagram_table.specs.Cells.{enteredIn}
 use Rattle.diagram_file.specs.Tables.{Holds, HoldsUses}
+use Rattle.diagram_file.proofs.HeldCells.{in-rows, kind-cell, owner-kind, entered-cell}
 use Rattle.net_records.specs.Writing.{Records, runs}
 use Rattle.net_records.specs.Records.{pair, transition, mark}
-use Rattle.net_rows.specs.Rows.{entered, rowRecords}
+use Rattle.net_rows.specs.Rows.{rowRecords}
 use Rattle.net_rows.specs.Marks.{firstMark, remaining, rowMarks, itemMark, numberAs, tally}
 use Rattle.net_records.proofs.Runs.{runs-same, runs-front}
 use Rattle.net_records.proofs.Nets.{arcRecord, markRecord, transitionRecord, transitionRecords, records-append}
 use Rattle.net_rows.proofs.Weights.{arcs-run, weights, by-rows}
 use Rattle.net_rows.proofs.RowRecords.{clears, patternRecords, allPatterns, row-is}
-use Rattle.net_rows.proofs.Cells.{in-rows, kind-cell, owner-kind, entered-cell}
 
 marks-run : (n : ℕ) (f : ℕ → ℕ) → map markRecord (tabulate n f) ≡ runs (λ p. mark (f p)) n
 unfolding markRecord mark runs
@@ -107,13 +108,13 @@ module _ (d : Diagram) (rows items : ℕ) (table file : List ℕ) (h : Holds d r
       let e₂ : tally table rows % 65536 ≡ length (names d (rowCount d)) = ap (λ (x : ℕ). x % 65536) w ∙ word-mod (length (names d (rowCount d))) (omega arith) in
       rw (many-marks d, t, e₁, e₂)
 
-  pub marks-are : map markRecord (netOf d .marks) ≡ runs (rowMarks table (entered table 0)) rows ++ runs (itemMark table) items
+  pub marks-are : map markRecord (netOf d .marks) ≡ runs (rowMarks table (enteredIn table 0)) rows ++ runs (itemMark table) items
   unfolding netOf itemMark
   marks-are = marks-run (places d) (λ p. freshMark d (placeOf d p)) ∙ (by-rows d (λ p w. mark w) (freshMark d) ∙ ap₂ _++_
-      (runs-same _ _ (rowCount d) row ∙ ap (runs (rowMarks table (entered table 0))) (sym (h .rowsAre)))
+      (runs-same _ _ (rowCount d) row ∙ ap (runs (rowMarks table (enteredIn table 0))) (sym (h .rowsAre)))
       (runs-same _ _ (countTotal d) (λ k l. ap mark (sym (h .counts k (let e = h .itemsAre in omega arith)))) ∙ ap (runs (itemMark table)) (sym (h .itemsAre))))
     where
-      row : (q : ℕ) → q < rowCount d → mark (cond (only (enteredRow d 0) q) 1 0) ++ (mark 0 ++ mark (cond (isKind d it-open q) (turnLimit d q) 0)) ≡ rowMarks table (entered table 0) q
+      row : (q : ℕ) → q < rowCount d → mark (cond (only (enteredRow d 0) q) 1 0) ++ (mark 0 ++ mark (cond (isKind d it-open q) (turnLimit d q) 0)) ≡ rowMarks table (enteredIn table 0) q
       row q l = unfold rowMarks firstMark remaining in
           rw (entered-cell d rows items table h 0 (omega arith), kind-cell d rows items table h q l, h .firsts q (in-rows d rows items table h q l))
           (sym (append-assoc (mark (cond (only (enteredRow d 0) q) 1 0)) (mark 0) (mark (cond (isKind d it-open q) (turnLimit d q) 0))))

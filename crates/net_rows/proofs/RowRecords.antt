@@ -19,10 +19,12 @@ use Rattle.agreement.specs.Basics.{decide, clash, and-left, and-right, only-ref
 use Rattle.agreement.specs.AcceptedFiles.{Held}
 use Rattle.agreement.specs.Structure.{Laws, opens}
 use Rattle.agreement.specs.NestingLaws.{laws}
+use Rattle.diagram_table.specs.Cells.{usesStartIn, usesNumberIn, isBranch}
 use Rattle.diagram_file.specs.Tables.{Holds, HoldsUses}
+use Rattle.diagram_file.proofs.HeldCells.{in-rows, kind-cell, owner-cell, owner-kind, close-cell, branch-cell}
 use Rattle.net_records.specs.Writing.{Records, runs, span}
 use Rattle.net_records.specs.Records.{transition, pair, arc}
-use Rattle.net_rows.specs.Rows.{firsts, seconds, usesOffsets, usesNumbers, loops, cell, token, useArc, useArcs, functionStart, functionEnd, isBranchOf, branchPlace, branchArc, branchArcs, andOpen, andClose, early, late, itTurn, itOpen, restore, leave, loopExit, branchToken, onward, back, rowAs, rowRecords}
+use Rattle.net_rows.specs.Rows.{token, useArc, useArcs, functionStart, functionEnd, branchPlace, branchArc, branchArcs, andOpen, andClose, early, late, itTurn, itOpen, restore, leave, loopExit, branchToken, onward, back, rowAs, rowRecords}
 use Rattle.net_records.proofs.Runs.{runs-same, runs-span}
 use Rattle.net_records.proofs.Nets.{arcRecord}
 use Rattle.net_rows.proofs.Weights.{arc-none, weights, countArcs, count-none, at-P, mark-P, mark-Q, mark-each, entry-among, it-gives}
@@ -31,7 +33,7 @@ use Rattle.net_rows.proofs.Uses.{uses-read}
 use Rattle.agreement.specs.Reach.{close-in, entered-in}
 use Rattle.net_rows.proofs.Nesting.{behind-branch, branch-inside}
 use Rattle.net_rows.proofs.Branches.{images}
-use Rattle.net_rows.proofs.Cells.{in-rows, kind-cell, owner-cell, owner-kind, close-cell, entry-cell, branch-cell, next-entry, next-entered}
+use Rattle.net_rows.proofs.Entries.{entry-cell, next-entry, next-entered}
 
 -- the clear ranges of a test of places, a pattern's transition, a row's
 module _ (d : Diagram) where
@@ -79,8 +81,8 @@ module _ (d : Diagram) (rows items : ℕ) (table file : List ℕ) (h : Holds d r
       → countArcs d k (weight (row d r .uses)) ≡ useArcs table file rows r k j
   unfolding countArcs useArcs useArc
   uses-are r k j field weight l e reads without with = uses-read (λ i w. arc k (3 * rowCount d + i) w) field j reads (λ i. arc-none k (3 * rowCount d + i) refl) weight without with
-      (countTotal d) (row d r .uses) (cell table usesNumbers r) (cell table usesOffsets r) file (uses-fine r e) (u .uses r l)
-      ∙ ap (λ (n : ℕ). runs (λ i. arc k (3 * n + word file (cell table usesOffsets r + 6 * i)) (word file (cell table usesOffsets r + 6 * i + j))) (cell table usesNumbers r)) (sym (h .rowsAre))
+      (countTotal d) (row d r .uses) (usesNumberIn table r) (usesStartIn table r) file (uses-fine r e) (u .uses r l)
+      ∙ ap (λ (n : ℕ). runs (λ i. arc k (3 * n + word file (usesStartIn table r + 6 * i)) (word file (usesStartIn table r + 6 * i + j))) (usesNumberIn table r)) (sym (h .rowsAre))
 
   function-is : (r : ℕ) → r < rowCount d → kind d r ≡ function → functionStart table file rows r ++ functionEnd table file rows r ≡ allPatterns d r (patternsAs d function r)
   unfolding functionStart functionEnd allPatterns
@@ -127,7 +129,7 @@ module _ (d : Diagram) (rows items : ℕ) (table file : List ℕ) (h : Holds d r
       inside q e = subst (λ x. q < close d x) (owned q e)
           (branch-inside d (held .acc) q (same-eq (kind d q) branch (and-left (isKind d branch q) (only o (owner d q)) (unfold branchOf in e))))
 
-      turn : (q : ℕ) → q < rowCount d → f q ≡ cond (isBranchOf table o q) (arc k (branchPlace table k q) 1) []
+      turn : (q : ℕ) → q < rowCount d → f q ≡ cond (isBranch table o q) (arc k (branchPlace table k q) 1) []
       turn q m = rw (branch-cell d rows items table h o q m) (decide (branchOf d o q) (λ e. rw (e, same q e)) (λ e. rw e))
 
   and-close-is : (r : ℕ) → r < rowCount d → kind d r ≡ and-close → andClose table r ≡ allPatterns d r (patternsAs d and-close r)
@@ -149,17 +151,17 @@ module _ (d : Diagram) (rows items : ℕ) (table file : List ℕ) (h : Holds d r
       (mark-each d giveArc (branchEntries d r) ∙ (unfold branchEntries in images (branchOf d r) (λ b. enteredRow d (suc b)) (rowCount d) (λ q. arc giveArc (3 * q) 1) near inside
       ∙ branches-are r giveArc (λ q. 3 * enteredRow d (suc q)) l (rw e) (λ q m. unfold branchPlace in next-entry d rows items table h held q (no-end q m)))))
     where
-      isBranch : (b : ℕ) → branchOf d r b ≡ true → kind d b ≡ branch
-      isBranch b m = same-eq (kind d b) branch (and-left (isKind d branch b) (only r (owner d b)) (unfold branchOf in m))
+      is-branch : (b : ℕ) → branchOf d r b ≡ true → kind d b ≡ branch
+      is-branch b m = same-eq (kind d b) branch (and-left (isKind d branch b) (only r (owner d b)) (unfold branchOf in m))
 
       no-end : (b : ℕ) → branchOf d r b ≡ true → kind d b ≢ end
-      no-end b m = not-kind d b (isBranch b m) end refl
+      no-end b m = not-kind d b (is-branch b m) end refl
 
       owned : (b : ℕ) → branchOf d r b ≡ true → kind d (owner d b) ≡ and-open
       owned b m = rw (eqb-true (owner d b) r (and-right (isKind d branch b) (only r (owner d b)) (unfold branchOf in m))) e
 
       near : (b : ℕ) → b < rowCount d → branchOf d r b ≡ true → (enteredRow d (suc b) ≡ b) ⊎ ((enteredRow d (suc b) ≡ suc b) × (branchOf d r (suc b) ≡ false))
-      near b k m = go (behind-branch d (held .acc) b (isBranch b m) (owned b m))
+      near b k m = go (behind-branch d (held .acc) b (is-branch b m) (owned b m))
         where
           go : (enteredRow d (suc b) ≡ b) ⊎ ((enteredRow d (suc b) ≡ suc b) × (isKind d branch (suc b) ≡ false)) → (enteredRow d (suc b) ≡ b) ⊎ ((enteredRow d (suc b) ≡ suc b) × (branchOf d r (suc b) ≡ false))
           go (inl z) = inl z

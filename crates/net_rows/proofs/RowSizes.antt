@@ -10,14 +10,15 @@ use Rattle.effbd.specs.Nets.{takeArc, clearArc, giveArc}
 use Rattle.agreement.specs.AcceptedFiles.{Held}
 use Rattle.agreement.specs.NestingLaws.{laws}
 use Rattle.agreement.specs.Reach.{close-in}
+use Rattle.diagram_table.specs.Cells.{kindIn, usesNumberIn, ownerIn, closeIn, loopIn, isBranch}
 use Rattle.diagram_file.specs.Tables.{Holds, HoldsUses}
+use Rattle.diagram_file.proofs.HeldCells.{in-rows, kind-cell, owner-cell, close-cell}
 use Rattle.net_records.specs.Writing.{span}
 use Rattle.net_records.proofs.Small.{Small, none-small, more, _then_, either, turns, transition-small, pair-small, arc-small, mark-small}
-use Rattle.net_rows.specs.Rows.{kinds, usesNumbers, owners, closes, loops, cell, token, useArc, useArcs, functionStart, functionEnd, isBranchOf, branchArc, branchArcs, andOpen, andClose, itTurn, itOpen, restore, leave, loopExit, branchToken, onward, back, rowAs, rowRecords}
+use Rattle.net_rows.specs.Rows.{token, useArc, useArcs, functionStart, functionEnd, branchArc, branchArcs, andOpen, andClose, itTurn, itOpen, restore, leave, loopExit, branchToken, onward, back, rowAs, rowRecords}
 use Rattle.net_rows.specs.Marks.{rowMarks}
 use Rattle.net_rows.proofs.Uses.{uses-few}
 use Rattle.net_rows.proofs.RowRecords.{uses-fine}
-use Rattle.net_rows.proofs.Cells.{in-rows, kind-cell, owner-cell, close-cell}
 
 token-small : (r p q : ℕ) → Small (token r p q) 26
 unfolding token
@@ -28,11 +29,11 @@ unfolding itTurn
 turn-small r p q w t = transition-small r 0 0 then arc-small takeArc (3 * r) 1 then arc-small takeArc p w then arc-small giveArc t _ then arc-small giveArc q w then arc-small giveArc t _
 
 module _ (table file : List ℕ) (rows : ℕ) where
-  uses-small : (r k j n : ℕ) → cell table usesNumbers r ≤ n → Small (useArcs table file rows r k j) (n * 8)
+  uses-small : (r k j n : ℕ) → usesNumberIn table r ≤ n → Small (useArcs table file rows r k j) (n * 8)
   unfolding useArcs useArc
-  uses-small r k j n l = more (omega arith) (turns (useArc table file rows r k j) 8 (cell table usesNumbers r) (λ i m. arc-small k _ _))
+  uses-small r k j n l = more (omega arith) (turns (useArc table file rows r k j) 8 (usesNumberIn table r) (λ i m. arc-small k _ _))
 
-  function-small : (r : ℕ) → cell table usesNumbers r ≤ 16 → Small (functionStart table file rows r ++ functionEnd table file rows r) 554
+  function-small : (r : ℕ) → usesNumberIn table r ≤ 16 → Small (functionStart table file rows r ++ functionEnd table file rows r) 554
   unfolding functionStart functionEnd
   function-small r l = more (omega arith)
       ((transition-small r 0 0 then arc-small takeArc (3 * r) 1 then uses-small r takeArc 2 16 l then arc-small giveArc (3 * r + 1) 1)
@@ -40,15 +41,15 @@ module _ (table file : List ℕ) (rows : ℕ) where
 
   branch-small : (o k q : ℕ) → Small (branchArc table o k q) 8
   unfolding branchArc
-  branch-small o k q = either (isBranchOf table o q) (arc-small k _ 1) (more zero-le none-small)
+  branch-small o k q = either (isBranch table o q) (arc-small k _ 1) (more zero-le none-small)
 
-  branches-small : (o k : ℕ) → cell table closes o ≤ 64 → Small (branchArcs table o k) 512
+  branches-small : (o k : ℕ) → closeIn table o ≤ 64 → Small (branchArcs table o k) 512
   unfolding branchArcs span
-  branches-small o k l = more (omega arith) (turns _ 8 (cell table closes o - o) (λ i m. branch-small o k (o + i)))
+  branches-small o k l = more (omega arith) (turns _ 8 (closeIn table o - o) (λ i m. branch-small o k (o + i)))
 
   restore-small : (q : ℕ) → Small (restore table q) 8
   unfolding restore
-  restore-small q = either (eqb (cell table kinds q) 22) (arc-small giveArc _ _) (more zero-le none-small)
+  restore-small q = either (eqb (kindIn table q) 22) (arc-small giveArc _ _) (more zero-le none-small)
 
   restores-small : (o c : ℕ) → c < 64 → Small (span (restore table) o (c + 1)) 512
   unfolding span
@@ -64,8 +65,8 @@ module _ (d : Diagram) (rows items : ℕ) (table file : List ℕ) (h : Holds d r
   unfolding rowAs andOpen andClose branchToken onward back itOpen loopExit
   rowSmall function r l e = function-small table file rows r (rw (h .numbers r (in-rows d rows items table h r l)) (let a = uses-few (row d r .uses) (countTotal d) 0 (uses-fine d rows items table file h u held r e) in let b = held .items in omega arith))
   rowSmall and-open r l e = more (omega arith) (transition-small r 0 0 then arc-small takeArc (3 * r) 1 then branches-small table file rows r giveArc (rw (close-cell d rows items table h r l) (let a = h .closeLow r in let b = h .fewRows in omega arith)))
-  rowSmall branch r l e = either (eqb (cell table kinds (cell table owners r)) 20) (more (omega arith) (token-small r _ _)) (more zero-le none-small)
-  rowSmall and-close r l e = more (omega arith) (transition-small r 0 0 then branches-small table file rows (cell table owners r) takeArc
+  rowSmall branch r l e = either (eqb (kindIn table (ownerIn table r)) 20) (more (omega arith) (token-small r _ _)) (more zero-le none-small)
+  rowSmall and-close r l e = more (omega arith) (transition-small r 0 0 then branches-small table file rows (ownerIn table r) takeArc
       (rw (owner-cell d rows items table h r l, close-cell d rows items table h (owner d r) (let a = h .ownerLow r in omega arith)) (let a = h .closeLow (owner d r) in let b = h .fewRows in omega arith)) then arc-small giveArc _ 1)
   rowSmall or-open r l e = more zero-le none-small
   rowSmall or-close r l e = more (omega arith) (token-small r _ _)
@@ -73,7 +74,7 @@ module _ (d : Diagram) (rows items : ℕ) (table file : List ℕ) (h : Holds d r
   rowSmall it-close r l e = more (omega arith) (token-small r _ _)
   rowSmall lp-open r l e = more (omega arith) (token-small r _ _)
   rowSmall lp-close r l e = more (omega arith) (token-small r _ _)
-  rowSmall loop-exit r l e = exit-small table file rows r (cell table loops r) (cell table closes (cell table loops r)) _
+  rowSmall loop-exit r l e = exit-small table file rows r (loopIn table r) (closeIn table (loopIn table r)) _
       (rw (h .loops r (in-rows d rows items table h r l), close-cell d rows items table h (loop d r) (let a = h .loopLow r in omega arith))
       (let c = close-in d (held .acc) (loop d r) (rw (laws d (held .acc) .looped r e .0)) in let b = held .rows in omega arith))
   rowSmall end r l e = more zero-le none-small

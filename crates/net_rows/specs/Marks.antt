@@ -3,22 +3,22 @@ use Prim.Native.Nat.{ℕ, zero, suc, _+_}
 use mathlib.Core.Bool.{cond}
 use mathlib.Core.List.{List, _++_}
 use lib.Dec.{eqb}
+use Rattle.diagram_table.specs.Cells.{kindIn, firstIn, ownerIn, countIn}
 use Rattle.net_records.specs.Writing.{Records}
 use Rattle.net_records.specs.Records.{mark}
-use Rattle.net_rows.specs.Rows.{kinds, firsts, owners, counts, cell}
 
 -- the fresh marks of a row's three places; `first` is the row that entering row 0 changes
 unfoldable pub firstMark : (first row : ℕ) → ℕ
 firstMark first row = cond (eqb row first) 1 0
 
 unfoldable pub remaining : (table : List ℕ) (row : ℕ) → ℕ
-remaining table row = cond (eqb (cell table kinds row) 22) (cell table firsts row) 0
+remaining table row = cond (eqb (kindIn table row) 22) (firstIn table row) 0
 
 unfoldable pub rowMarks : (table : List ℕ) (first row : ℕ) → Records
 rowMarks table first row = mark (firstMark first row) ++ mark 0 ++ mark (remaining table row)
 
 unfoldable pub itemMark : (table : List ℕ) (k : ℕ) → Records
-itemMark table k = mark (cell table counts k)
+itemMark table k = mark (countIn table k)
 
 -- how many transitions a row of kind k has whose construct's open row is of kind j
 unfoldable pub numberAs : (j k : ℕ) → ℕ
@@ -26,4 +26,4 @@ numberAs j k = cond (eqb k 16) 2 (cond (eqb k 22) 2 (cond (eqb k 27) 0 (cond (eq
 
 unfoldable pub tally : (table : List ℕ) → ℕ → ℕ
 tally table zero = 0
-tally table (suc r) = tally table r + numberAs (cell table kinds (cell table owners r)) (cell table kinds r)
+tally table (suc r) = tally table r + numberAs (kindIn table (ownerIn table r)) (kindIn table r)

@@ -1,57 +1,18 @@
 -- The records of each row's transitions, in the order of the file, from a diagram's table and its file's bytes.
 -- Any words are a table: past its end a word is 0. Assumes nothing.
 use Prim.Native.Nat.{ℕ, _+_, _*_}
-use mathlib.Core.Bool.{Bool, cond, _&&_}
+use mathlib.Core.Bool.{cond}
 use mathlib.Core.List.{List, [], _++_}
-use lib.ListN.{getD}
 use lib.Dec.{leb, eqb}
 use Rattle.effbd.specs.Records.{word}
 use Rattle.effbd.specs.Nets.{takeArc, clearArc, giveArc}
+use Rattle.diagram_table.specs.Cells.{kindIn, firstIn, secondIn, usesStartIn, usesNumberIn, ownerIn, closeIn, loopIn, isBranch, enteredIn}
 use Rattle.net_records.specs.Writing.{Records, runs, span}
 use Rattle.net_records.specs.Records.{transition, pair, arc}
 
--- where each column of a table starts, and the items' initial counts
-abbrev pub kinds : ℕ
-kinds = 0
-
-abbrev pub firsts : ℕ
-firsts = 64
-
-abbrev pub seconds : ℕ
-seconds = 128
-
-abbrev pub usesOffsets : ℕ
-usesOffsets = 192
-
-abbrev pub usesNumbers : ℕ
-usesNumbers = 256
-
-abbrev pub owners : ℕ
-owners = 320
-
-abbrev pub latests : ℕ
-latests = 384
-
-abbrev pub closes : ℕ
-closes = 448
-
-abbrev pub loops : ℕ
-loops = 512
-
-abbrev pub counts : ℕ
-counts = 576
-
-abbrev pub cell : List ℕ → ℕ → ℕ → ℕ
-cell table column row = getD table (column + row) 0
-
--- the row that entering a row changes, and its place P
-unfoldable pub entered : List ℕ → ℕ → ℕ
-entered table q = cond (eqb (cell table kinds q) 18)
-    (cond (eqb (cell table kinds (cell table owners q)) 17) (cell table latests q) (cell table closes (cell table owners q)))
-    (cond (eqb (cell table kinds q) 19) (cell table latests q) q)
-
+-- P of the row that entering a row changes
 unfoldable pub entry : List ℕ → ℕ → ℕ
-entry table q = 3 * entered table q
+entry table q = 3 * enteredIn table q
 
 -- one token from a place to a place: BRANCH of an OR, OR close, LP open, IT close, LP close
 unfoldable pub token : (row from to : ℕ) → Records
@@ -59,38 +20,35 @@ token row from to = transition row 0 0 ++ arc takeArc from 1 ++ arc giveArc to 1
 
 -- the takes of a row's uses (kind 35, at byte 2 of each use), or the gives (kind 37, at byte 4)
 unfoldable pub useArc : (table file : List ℕ) (rows row kind field k : ℕ) → Records
-useArc table file rows row kind field k = let at = cell table usesOffsets row + 6 * k in
+useArc table file rows row kind field k = let at = usesStartIn table row + 6 * k in
     arc kind (3 * rows + word file at) (word file (at + field))
 
 unfoldable pub useArcs : (table file : List ℕ) (rows row kind field : ℕ) → Records
-useArcs table file rows row kind field = runs (useArc table file rows row kind field) (cell table usesNumbers row)
+useArcs table file rows row kind field = runs (useArc table file rows row kind field) (usesNumberIn table row)
 
 unfoldable pub functionStart : (table file : List ℕ) (rows row : ℕ) → Records
 functionStart table file rows row =
     transition row 0 0 ++ arc takeArc (3 * row) 1 ++ useArcs table file rows row takeArc 2 ++ arc giveArc (3 * row + 1) 1
 
 unfoldable pub functionEnd : (table file : List ℕ) (rows row : ℕ) → Records
-functionEnd table file rows row = transition row (cell table firsts row) (cell table seconds row)
+functionEnd table file rows row = transition row (firstIn table row) (secondIn table row)
     ++ arc takeArc (3 * row + 1) 1 ++ arc giveArc (entry table (row + 1)) 1 ++ useArcs table file rows row giveArc 4
 
 -- the arcs of the BRANCH rows of a construct: an AND close takes from them, an AND open gives to the entries behind them
-unfoldable pub isBranchOf : (table : List ℕ) (opened q : ℕ) → Bool
-isBranchOf table opened q = eqb (cell table kinds q) 18 && eqb (cell table owners q) opened
-
 unfoldable pub branchPlace : (table : List ℕ) (kind q : ℕ) → ℕ
 branchPlace table kind q = cond (eqb kind takeArc) (3 * q) (entry table (q + 1))
 
 unfoldable pub branchArc : (table : List ℕ) (opened kind q : ℕ) → Records
-branchArc table opened kind q = cond (isBranchOf table opened q) (arc kind (branchPlace table kind q) 1) []
+branchArc table opened kind q = cond (isBranch table opened q) (arc kind (branchPlace table kind q) 1) []
 
 unfoldable pub branchArcs : (table : List ℕ) (opened kind : ℕ) → Records
-branchArcs table opened kind = span (branchArc table opened kind) opened (cell table closes opened)
+branchArcs table opened kind = span (branchArc table opened kind) opened (closeIn table opened)
 
 unfoldable pub andOpen : (table : List ℕ) (row : ℕ) → Records
 andOpen table row = transition row 0 0 ++ arc takeArc (3 * row) 1 ++ branchArcs table row giveArc
 
 unfoldable pub andClose : (table : List ℕ) (row : ℕ) → Records
-andClose table row = transition row 0 0 ++ branchArcs table (cell table owners row) takeArc ++ arc giveArc (entry table (row + 1)) 1
+andClose table row = transition row 0 0 ++ branchArcs table (ownerIn table row) takeArc ++ arc giveArc (entry table (row + 1)) 1
 
 -- gives stand by rising places: the give to `to` stands before the gives to the places behind `place`, or after them
 unfoldable pub early : (to place : ℕ) → ℕ
@@ -106,30 +64,30 @@ itTurn row from into weight to = transition row 0 0 ++ arc takeArc (3 * row) 1 +
 
 unfoldable pub itOpen : (table : List ℕ) (row : ℕ) → Records
 itOpen table row = itTurn row (3 * row + 2) (3 * row + 1) 1 (entry table (row + 1))
-    ++ itTurn row (3 * row + 1) (3 * row + 2) (cell table firsts row) (entry table (cell table closes row + 1))
+    ++ itTurn row (3 * row + 1) (3 * row + 2) (firstIn table row) (entry table (closeIn table row + 1))
 
 -- R of an IT open in a left loop
 unfoldable pub restore : (table : List ℕ) (q : ℕ) → Records
-restore table q = cond (eqb (cell table kinds q) 22) (arc giveArc (3 * q + 2) (cell table firsts q)) []
+restore table q = cond (eqb (kindIn table q) 22) (arc giveArc (3 * q + 2) (firstIn table q)) []
 
 unfoldable pub leave : (table : List ℕ) (row opened closed to : ℕ) → Records
 leave table row opened closed to = transition row 0 0 ++ arc takeArc (3 * row) 1 ++ pair clearArc (3 * opened) (3 * closed + 2)
     ++ arc giveArc to (early to (3 * opened)) ++ span (restore table) opened (closed + 1) ++ arc giveArc to (late to (3 * opened))
 
 unfoldable pub loopExit : (table : List ℕ) (row : ℕ) → Records
-loopExit table row = let opened = cell table loops row in
-    let closed = cell table closes opened in leave table row opened closed (entry table (closed + 1))
+loopExit table row = let opened = loopIn table row in
+    let closed = closeIn table opened in leave table row opened closed (entry table (closed + 1))
 
 -- a BRANCH has a transition only where its construct is an OR
 unfoldable pub branchToken : (table : List ℕ) (row : ℕ) → Records
-branchToken table row = let opened = cell table owners row in
-    cond (eqb (cell table kinds opened) 20) (token row (3 * opened) (entry table (row + 1))) []
+branchToken table row = let opened = ownerIn table row in
+    cond (eqb (kindIn table opened) 20) (token row (3 * opened) (entry table (row + 1))) []
 
 unfoldable pub onward : (table : List ℕ) (row : ℕ) → Records
 onward table row = token row (3 * row) (entry table (row + 1))
 
 unfoldable pub back : (table : List ℕ) (row : ℕ) → Records
-back table row = token row (3 * row) (3 * cell table owners row)
+back table row = token row (3 * row) (3 * ownerIn table row)
 
 -- the records of a row, were its kind k
 unfoldable pub rowAs : (table file : List ℕ) (rows row k : ℕ) → Records
@@ -146,4 +104,4 @@ rowAs table file rows row k =
     (cond (eqb k 26) (loopExit table row) [])))))))))
 
 unfoldable pub rowRecords : (table file : List ℕ) (rows row : ℕ) → Records
-rowRecords table file rows row = rowAs table file rows row (cell table kinds row)
+rowRecords table file rows row = rowAs table file rows row (kindIn table row)

@@ -1,40 +1,36 @@
 // A net's head and its places with their fresh marks.
 ghost use mathlib.Core.Path.{_≡_};
-ghost use Prim.Native.Nat.{_+_, _*_, _<_, _≤_};
+ghost use Prim.Native.Nat.{_+_, _*_, _≤_};
+ghost use Rattle.diagram_table.specs.Cells.{enteredIn};
 ghost use Rattle.net_records.specs.Writing.{Wrote, runs};
 ghost use Rattle.net_records.specs.Records.{pair};
-ghost use Rattle.net_rows.specs.Rows.{entered};
 ghost use Rattle.net_rows.specs.Marks.{firstMark, remaining as remainingOf, rowMarks, itemMark, numberAs, tally as tallyOf};
-use crate::rows;
-use crate::rows::COUNTS;
-use crate::rows::FIRSTS;
-use crate::rows::KINDS;
-use crate::rows::OWNERS;
+use diagram_table::COUNT;
+use diagram_table::FIRST;
+use diagram_table::OWNER;
 use words::kinds;
 
 // P of the row that entering row 0 changes has a token.
-fn first_mark(first: usize, row: usize) -> u16
+fn first_mark(first: u32, row: u16) -> u16
     ensures { λ r. ⌜ r ≡ firstMark first row ⌝ }
 {
-    if row == first {
+    if row as u32 == first {
         return 1;
     }
     0
 }
 
 // R of an IT open has its count.
-fn remaining(table: &[u16], row: usize) -> u16
-    requires { ⌜ row < 65536 ⌝ }
+fn remaining(table: &[u16], row: u16) -> u16
     ensures { λ r. ⌜ r ≡ remainingOf (now (table .entry)) row ⌝ }
 {
-    if rows::cell(table, KINDS, row) == kinds::IT_OPEN {
-        return rows::cell(table, FIRSTS, row);
+    if diagram_table::kind(table, row as u32) == kinds::IT_OPEN {
+        return diagram_table::cell(table, FIRST, row as u32);
     }
     0
 }
 
-fn row_marks(table: &[u16], first: usize, row: usize, area: &mut [u8], at: usize) -> usize
-    requires { ⌜ row < 65536 ⌝ }
+fn row_marks(table: &[u16], first: u32, row: u16, area: &mut [u8], at: usize) -> usize
     ensures { λ r. ⌜ Wrote (now (area .entry)) at (now (area .exit)) r (rowMarks (now (table .entry)) first row) ⌝ }
 {
     let ready = first_mark(first, row);
@@ -45,13 +41,12 @@ fn row_marks(table: &[u16], first: usize, row: usize, area: &mut [u8], at: usize
 }
 
 pub fn of_rows(table: &[u16], rows: u16, area: &mut [u8], at: usize) -> usize
-    ensures { λ r. ⌜ Wrote (now (area .entry)) at (now (area .exit)) r (runs (rowMarks (now (table .entry)) (entered (now (table .entry)) 0)) rows) ⌝ }
+    ensures { λ r. ⌜ Wrote (now (area .entry)) at (now (area .exit)) r (runs (rowMarks (now (table .entry)) (enteredIn (now (table .entry)) 0)) rows) ⌝ }
 {
-    let first = rows::entered(table, 0);
-    let end = rows as usize;
+    let first = diagram_table::entered_row(table, 0);
     let mut next = at;
-    let mut row: usize = 0;
-    while row < end {
+    let mut row: u16 = 0;
+    while row < rows {
         next = row_marks(table, first, row, area, next);
         row += 1;
     }
@@ -61,11 +56,10 @@ pub fn of_rows(table: &[u16], rows: u16, area: &mut [u8], at: usize) -> usize
 pub fn of_items(table: &[u16], items: u16, area: &mut [u8], at: usize) -> usize
     ensures { λ r. ⌜ Wrote (now (area .entry)) at (now (area .exit)) r (runs (itemMark (now (table .entry))) items) ⌝ }
 {
-    let end = items as usize;
     let mut next = at;
-    let mut item: usize = 0;
-    while item < end {
-        let count = rows::cell(table, COUNTS, item);
+    let mut item: u16 = 0;
+    while item < items {
+        let count = diagram_table::cell(table, COUNT, item as u32);
         next = net_records::mark(area, next, count);
         item += 1;
     }
@@ -94,13 +88,12 @@ fn number(construct: u16, kind: u16) -> usize
 fn tally(table: &[u16], rows: u16) -> usize
     ensures { λ r. ⌜ r ≡ tallyOf (now (table .entry)) rows ⌝ }
 {
-    let end = rows as usize;
     let mut sum: usize = 0;
-    let mut row: usize = 0;
-    while row < end {
-        let opened = rows::cell(table, OWNERS, row) as usize;
-        let construct = rows::cell(table, KINDS, opened);
-        let kind = rows::cell(table, KINDS, row);
+    let mut row: u16 = 0;
+    while row < rows {
+        let opened = diagram_table::cell(table, OWNER, row as u32);
+        let construct = diagram_table::kind(table, opened as u32);
+        let kind = diagram_table::kind(table, row as u32);
         sum += number(construct, kind);
         row += 1;
     }
@@ -115,7 +108,7 @@ pub fn head(table: &[u16], rows: u16, items: u16, area: &mut [u8], at: usize) ->
         area,
         at,
         kinds::NET_HEAD,
-        3 * (rows as usize) + (items as usize),
+        3 * rows as usize + items as usize,
         transitions,
     )
 }

@@ -7,9 +7,9 @@ use Rattle.effbd.specs.Diagrams.{Diagram}
 use Rattle.effbd.specs.Nets.{netBytes}
 use Rattle.effbd.specs.Patterns.{netOf}
 use Rattle.agreement.specs.AcceptedFiles.{Held}
+use Rattle.diagram_table.specs.Cells.{enteredIn}
 use Rattle.diagram_file.specs.Tables.{Holds, HoldsUses}
 use Rattle.net_records.proofs.Small.{Small, more, _then_, turns, pair-small, mark-small}
-use Rattle.net_rows.specs.Rows.{entered}
 use Rattle.net_rows.specs.Marks.{itemMark}
 use Rattle.net_rows.proofs.RowSizes.{row-marks-small, row-small}
 use Rattle.translate.specs.Whole.{netRecords}
@@ -19,7 +19,7 @@ module _ (d : Diagram) (rows items : ℕ) (table file : List ℕ) (h : Holds d r
   records-small : Small (netRecords table file rows items) 65535
   unfolding netRecords itemMark
   records-small = more (let a = h .fewRows in let b = h .fewItems in omega arith)
-      (pair-small 32 _ _ then turns _ 18 rows (λ r l. row-marks-small d rows items table file h u held (entered table 0) r) then turns _ 6 items (λ k l. mark-small _)
+      (pair-small 32 _ _ then turns _ 18 rows (λ r l. row-marks-small d rows items table file h u held (enteredIn table 0) r) then turns _ 6 items (λ k l. mark-small _)
       then turns _ 554 rows (λ r l. row-small d rows items table file h u held r (let e = h .rowsAre in omega arith)))
 
   pub net-small : length (netBytes (netOf d)) ≤ 65535

@@ -10,14 +10,17 @@ use Rattle.net_rows.proofs.marks.of_items.Statement.{statement}
 use Rattle.net_rows.proofs.marks.of_items.Tie as tie
 
 abbrev Inv-loop : tie.InvT-loop
-Inv-loop table items area₀ at end next₀ item₀ area next item = (item ≤ end) × Wrote area₀ next₀ area next (runs (itemMark table) item)
+Inv-loop table items area₀ at next₀ item₀ area next item = (item ≤ items) × Wrote area₀ next₀ area next (runs (itemMark table) item)
 
 abbrev μ-loop : tie.MeasureT-loop
-μ-loop table items area₀ at end next₀ item₀ area next item = end - item
+μ-loop table items area₀ at next₀ item₀ area next item = items - item
 
 loop-holds : tie.Need-loop-holds Inv-loop μ-loop
 unfolding runs
 loop-holds c = (search needs, still (c .before .before .args .area .now) (c .before .before .args .at))
+
+cast-cell : tie.Need-cast-cell Inv-loop μ-loop
+cast-cell c = search needs
 
 cell-requires : tie.Need-cell-requires Inv-loop μ-loop
 cell-requires c κs = search needs
@@ -53,6 +56,7 @@ of-items-spec =
     Inv-loop
     μ-loop
     loop-holds
+    cast-cell
     cell-requires
     mark-requires
     add-item

@@ -9,13 +9,13 @@ use Rattle.net_rows.proofs.marks.of_rows.Statement.{statement}
 use Rattle.net_rows.proofs.marks.of_rows.Tie as tie
 
 abbrev Inv-loop : tie.InvT-loop
-Inv-loop table rows area₀ at first end next₀ row₀ area next row = (row ≤ end) × Wrote area₀ next₀ area next (runs (rowMarks table first) row)
+Inv-loop table rows area₀ at first next₀ row₀ area next row = (row ≤ rows) × Wrote area₀ next₀ area next (runs (rowMarks table first) row)
 
 abbrev μ-loop : tie.MeasureT-loop
-μ-loop table rows area₀ at first end next₀ row₀ area next row = end - row
+μ-loop table rows area₀ at first next₀ row₀ area next row = rows - row
 
-entered-requires : tie.Need-entered-requires Inv-loop μ-loop
-entered-requires c κs = search needs
+entered-row-requires : tie.Need-entered-row-requires Inv-loop μ-loop
+entered-row-requires c κs = search needs
 
 loop-holds : tie.Need-loop-holds Inv-loop μ-loop
 unfolding runs
@@ -33,7 +33,7 @@ loop-less c = search needs
 loop-again : tie.Need-loop-again Inv-loop μ-loop
 loop-again c = let a = c .before .before .before .before .before .before .before .before .before .args in
     let l = c .before .before .before .before .before .loop in
-    (omega arith, again (rowMarks (a .table .now) (c .before .before .before .before .before .before .entered .result)) (l .row) (l .inv .1) (c .before .before .row-marks .ensures))
+    (omega arith, again (rowMarks (a .table .now) (c .before .before .before .before .before .before .entered-row .result)) (l .row) (l .inv .1) (c .before .before .row-marks .ensures))
 
 same-length : tie.Need-same-length Inv-loop μ-loop
 same-length c = wrote-length (c .before .loop .inv .1)
@@ -42,7 +42,7 @@ returns : tie.Need-returns Inv-loop μ-loop
 returns c = let a = c .before .before .before .before .before .args in
     let l = c .before .loop in
     let e : l .row ≡ a .rows = omega arith in
-    same (ap₂ (λ (q n : ℕ). runs (rowMarks (a .table .now) q) n) (c .before .before .entered .ensures .0) e) (l .inv .1)
+    same (ap₂ (λ (q n : ℕ). runs (rowMarks (a .table .now) q) n) (c .before .before .entered-row .ensures) e) (l .inv .1)
 
 pub of-rows-spec : {M : Type 1} → statement M
 of-rows-spec =
@@ -50,7 +50,7 @@ of-rows-spec =
     (tie.spec
     Inv-loop
     μ-loop
-    entered-requires
+    entered-row-requires
     loop-holds
     row-marks-requires
     add-row

@@ -5,19 +5,19 @@ use borrow.Author.Needs.{needs}
 use Rattle.net_rows.proofs.marks.remaining.Statement.{statement}
 use Rattle.net_rows.proofs.marks.remaining.Tie as tie
 
+kind-requires : tie.Need-kind-requires
+kind-requires c κs = search needs
+
 cell-requires : tie.Need-cell-requires
 cell-requires c κs = search needs
 
-cell-requires-2 : tie.Need-cell-requires-2
-cell-requires-2 c κs = search needs
-
 returns : tie.Need-returns
 unfolding remaining
-returns c = rw (eq-eqb _ _ (sym (c .before .before .cell .ensures) ∙ c .before .if1 .taken)) (c .cell2 .ensures)
+returns c = rw (eq-eqb _ _ (sym (c .before .before .kind .ensures) ∙ c .before .if1 .taken)) (c .cell .ensures)
 
 returns-2 : tie.Need-returns-2
 unfolding remaining
-returns-2 c = rw (ne-eqb _ _ (λ e. c .if1 .left (c .before .cell .ensures ∙ e)))
+returns-2 c = rw (ne-eqb _ _ (λ e. c .if1 .left (c .before .kind .ensures ∙ e)))
 
 pub remaining-spec : {M : Type 1} → statement M
-remaining-spec = tie.close (tie.spec cell-requires cell-requires-2 returns returns-2)
+remaining-spec = tie.close (tie.spec kind-requires cell-requires returns returns-2)

@@ -8,26 +8,32 @@ use Rattle.net_rows.proofs.marks.tally.Statement.{statement}
 use Rattle.net_rows.proofs.marks.tally.Tie as tie
 
 abbrev Inv-loop : tie.InvT-loop
-Inv-loop table rows end sum₀ row₀ sum row = (row ≤ end) × (sum ≤ 2 * row) × (sum ≡ tally table row)
+Inv-loop table rows sum₀ row₀ sum row = (row ≤ rows) × (sum ≤ 2 * row) × (sum ≡ tally table row)
 
 abbrev μ-loop : tie.MeasureT-loop
-μ-loop table rows end sum₀ row₀ sum row = end - row
+μ-loop table rows sum₀ row₀ sum row = rows - row
 
 loop-holds : tie.Need-loop-holds Inv-loop μ-loop
 unfolding tally
 loop-holds c = (search needs, search needs, refl)
 
+cast-cell : tie.Need-cast-cell Inv-loop μ-loop
+cast-cell c = search needs
+
 cell-requires : tie.Need-cell-requires Inv-loop μ-loop
 cell-requires c κs = search needs
 
-cast-opened : tie.Need-cast-opened Inv-loop μ-loop
-cast-opened c = search needs
+cast-kind : tie.Need-cast-kind Inv-loop μ-loop
+cast-kind c = search needs
 
-cell-requires-2 : tie.Need-cell-requires-2 Inv-loop μ-loop
-cell-requires-2 c κs = search needs
+kind-requires : tie.Need-kind-requires Inv-loop μ-loop
+kind-requires c κs = search needs
 
-cell-requires-3 : tie.Need-cell-requires-3 Inv-loop μ-loop
-cell-requires-3 c κs = search needs
+cast-kind-2 : tie.Need-cast-kind-2 Inv-loop μ-loop
+cast-kind-2 c = search needs
+
+kind-requires-2 : tie.Need-kind-requires-2 Inv-loop μ-loop
+kind-requires-2 c κs = search needs
 
 number-requires : tie.Need-number-requires Inv-loop μ-loop
 number-requires c κs = search needs
@@ -44,7 +50,7 @@ loop-less c = search needs
 loop-again : tie.Need-loop-again Inv-loop μ-loop
 loop-again c = let a = c .before .before .before .before .before .before .before .args in
     let l = c .before .before .before .before .before .loop in
-    (omega arith, omega arith, tally-turn (a .table .now) (l .row) (l .sum) (c .before .before .before .cell .result) (c .before .before .cell2 .result) (c .before .cell3 .result) (c .number .result) (l .inv .2) (c .before .before .before .cell .ensures) (c .before .before .cell2 .ensures) (c .before .cell3 .ensures) (c .number .ensures .0))
+    (omega arith, omega arith, tally-turn (a .table .now) (l .row) (l .sum) (c .before .before .before .cell .result) (c .before .before .kind .result) (c .before .kind2 .result) (c .number .result) (l .inv .2) (c .before .before .before .cell .ensures) (c .before .before .kind .ensures) (c .before .kind2 .ensures) (c .number .ensures .0))
 
 returns : tie.Need-returns Inv-loop μ-loop
 returns c = let l = c .before .loop in
@@ -58,10 +64,12 @@ tally-spec =
     Inv-loop
     μ-loop
     loop-holds
+    cast-cell
     cell-requires
-    cast-opened
-    cell-requires-2
-    cell-requires-3
+    cast-kind
+    kind-requires
+    cast-kind-2
+    kind-requires-2
     number-requires
     add-sum
     add-row

@@ -10,9 +10,6 @@ use Rattle.net_rows.proofs.rows.and_close.Tie as tie
 cell-requires : tie.Need-cell-requires
 cell-requires c κs = search needs
 
-cast-opened : tie.Need-cast-opened
-cast-opened c = search needs
-
 add-entry : tie.Need-add-entry
 add-entry c = search needs
 
@@ -41,7 +38,6 @@ and-close-spec =
     tie.close
     (tie.spec
     cell-requires
-    cast-opened
     add-entry
     entry-requires
     transition-requires

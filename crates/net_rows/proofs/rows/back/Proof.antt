@@ -9,11 +9,11 @@ use Rattle.net_rows.proofs.rows.back.Tie as tie
 cell-requires : tie.Need-cell-requires
 cell-requires c κs = search needs
 
-cast-opened : tie.Need-cast-opened
-cast-opened c = search needs
-
 mul-token : tie.Need-mul-token
 mul-token c = search needs
+
+cast-token : tie.Need-cast-token
+cast-token c = search needs
 
 mul-token-2 : tie.Need-mul-token-2
 mul-token-2 c = search needs
@@ -32,4 +32,4 @@ returns c = let a = c .before .before .before .before .before .before .before .a
 pub back-spec : {M : Type 1} → statement M
 back-spec =
     tie.close
-    (tie.spec cell-requires cast-opened mul-token mul-token-2 token-requires same-length returns)
+    (tie.spec cell-requires mul-token cast-token mul-token-2 token-requires same-length returns)

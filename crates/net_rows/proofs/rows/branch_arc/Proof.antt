@@ -7,8 +7,8 @@ use borrow.Author.Needs.{needs}
 use Rattle.net_rows.proofs.rows.branch_arc.Statement.{statement}
 use Rattle.net_rows.proofs.rows.branch_arc.Tie as tie
 
-is-branch-of-requires : tie.Need-is-branch-of-requires
-is-branch-of-requires c κs = search needs
+is-branch-requires : tie.Need-is-branch-requires
+is-branch-requires c κs = search needs
 
 branch-place-requires : tie.Need-branch-place-requires
 branch-place-requires c κs = search needs
@@ -22,20 +22,14 @@ same-length c = search needs
 returns : tie.Need-returns
 unfolding branchArc
 returns c = let a = c .before .before .before .before .before .before .before .before .before .args in
-    yes _ (sym (c .before .before .before .before .before .before .is-branch-of .ensures) ∙ c .before .before .before .before .before .if1 .taken) (same (ap (λ (p : ℕ). arc (a .kind) p 1) (c .before .before .before .before .branch-place .ensures)) (c .before .before .arc .ensures))
+    yes _ (sym (c .before .before .before .before .before .before .is-branch .ensures) ∙ c .before .before .before .before .before .if1 .taken) (same (ap (λ (p : ℕ). arc (a .kind) p 1) (c .before .before .before .before .branch-place .ensures)) (c .before .before .arc .ensures))
 
 returns-2 : tie.Need-returns-2
 unfolding branchArc
 returns-2 c = let a = c .before .before .before .before .args in
-    no _ (sym (c .before .is-branch-of .ensures) ∙ c .if1 .left) (still (a .area .now) (a .at))
+    no _ (sym (c .before .is-branch .ensures) ∙ c .if1 .left) (still (a .area .now) (a .at))
 
 pub branch-arc-spec : {M : Type 1} → statement M
 branch-arc-spec =
     tie.close
-    (tie.spec
-    is-branch-of-requires
-    branch-place-requires
-    arc-requires
-    same-length
-    returns
-    returns-2)
+    (tie.spec is-branch-requires branch-place-requires arc-requires same-length returns returns-2)

@@ -17,9 +17,6 @@ abbrev μ-loop : tie.MeasureT-loop
 cell-requires : tie.Need-cell-requires Inv-loop μ-loop
 cell-requires c κs = search needs
 
-cast-closed : tie.Need-cast-closed Inv-loop μ-loop
-cast-closed c = search needs
-
 loop-holds : tie.Need-loop-holds Inv-loop μ-loop
 loop-holds c = let a = c .before .before .before .args in
     (search needs, search needs, span-start _ (a .area .now) (a .at) (a .opened))
@@ -54,7 +51,6 @@ branch-arcs-spec =
     Inv-loop
     μ-loop
     cell-requires
-    cast-closed
     loop-holds
     branch-arc-requires
     add-row

@@ -5,15 +5,18 @@ use borrow.Author.Needs.{needs}
 use Rattle.net_rows.proofs.rows.entry.Statement.{statement}
 use Rattle.net_rows.proofs.rows.entry.Tie as tie
 
-entered-requires : tie.Need-entered-requires
-entered-requires c κs = search needs
+entered-row-requires : tie.Need-entered-row-requires
+entered-row-requires c κs = search needs
+
+cast-result : tie.Need-cast-result
+cast-result c = search needs
 
 mul-result : tie.Need-mul-result
 mul-result c = search needs
 
 returns : tie.Need-returns
 unfolding entry
-returns c = ap (λ (q : ℕ). 3 * q) (c .entered .ensures .0)
+returns c = ap (λ (q : ℕ). 3 * q) (c .entered-row .ensures)
 
 pub entry-spec : {M : Type 1} → statement M
-entry-spec = tie.close (tie.spec entered-requires mul-result returns)
+entry-spec = tie.close (tie.spec entered-row-requires cast-result mul-result returns)

@@ -34,8 +34,8 @@ cell-requires c κs = search needs
 cell-requires-2 : tie.Need-cell-requires-2
 cell-requires-2 c κs = search needs
 
-cast-closed : tie.Need-cast-closed
-cast-closed c = search needs
+cast-entry : tie.Need-cast-entry
+cast-entry c = search needs
 
 add-entry-2 : tie.Need-add-entry-2
 add-entry-2 c = search needs
@@ -79,7 +79,7 @@ it-open-spec =
     it-turn-requires
     cell-requires
     cell-requires-2
-    cast-closed
+    cast-entry
     add-entry-2
     entry-requires-2
     mul-it-turn-3

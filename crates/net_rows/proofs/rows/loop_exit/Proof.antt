@@ -7,14 +7,14 @@ use Rattle.net_rows.proofs.rows.loop_exit.Tie as tie
 cell-requires : tie.Need-cell-requires
 cell-requires c κs = search needs
 
-cast-opened : tie.Need-cast-opened
-cast-opened c = search needs
+cast-cell : tie.Need-cast-cell
+cast-cell c = search needs
 
 cell-requires-2 : tie.Need-cell-requires-2
 cell-requires-2 c κs = search needs
 
-cast-closed : tie.Need-cast-closed
-cast-closed c = search needs
+cast-entry : tie.Need-cast-entry
+cast-entry c = search needs
 
 add-entry : tie.Need-add-entry
 add-entry c = search needs
@@ -37,9 +37,9 @@ loop-exit-spec =
     tie.close
     (tie.spec
     cell-requires
-    cast-opened
+    cast-cell
     cell-requires-2
-    cast-closed
+    cast-entry
     add-entry
     entry-requires
     leave-requires

@@ -8,11 +8,11 @@ use borrow.Author.Needs.{needs}
 use Rattle.net_rows.proofs.rows.restore.Statement.{statement}
 use Rattle.net_rows.proofs.rows.restore.Tie as tie
 
+kind-requires : tie.Need-kind-requires
+kind-requires c κs = search needs
+
 cell-requires : tie.Need-cell-requires
 cell-requires c κs = search needs
-
-cell-requires-2 : tie.Need-cell-requires-2
-cell-requires-2 c κs = search needs
 
 mul-arc : tie.Need-mul-arc
 mul-arc c = search needs
@@ -29,19 +29,19 @@ same-length c = search needs
 returns : tie.Need-returns
 unfolding restore
 returns c = let a = c .before .before .before .before .before .before .before .before .before .args in
-    yes _ (eq-eqb _ _ (sym (c .before .before .before .before .before .before .cell .ensures) ∙ c .before .before .before .before .before .if1 .taken)) (same (ap (arc 37 (3 * a .row + 2)) (c .before .before .before .before .cell2 .ensures)) (c .before .before .arc .ensures))
+    yes _ (eq-eqb _ _ (sym (c .before .before .before .before .before .before .kind .ensures) ∙ c .before .before .before .before .before .if1 .taken)) (same (ap (arc 37 (3 * a .row + 2)) (c .before .before .before .before .cell .ensures)) (c .before .before .arc .ensures))
 
 returns-2 : tie.Need-returns-2
 unfolding restore
 returns-2 c = let a = c .before .before .before .before .args in
-    no _ (ne-eqb _ _ (λ e. c .if1 .left (c .before .cell .ensures ∙ e))) (still (a .area .now) (a .at))
+    no _ (ne-eqb _ _ (λ e. c .if1 .left (c .before .kind .ensures ∙ e))) (still (a .area .now) (a .at))
 
 pub restore-spec : {M : Type 1} → statement M
 restore-spec =
     tie.close
     (tie.spec
+    kind-requires
     cell-requires
-    cell-requires-2
     mul-arc
     add-arc
     arc-requires

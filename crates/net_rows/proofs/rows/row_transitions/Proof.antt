@@ -6,8 +6,8 @@ use borrow.Author.Needs.{needs}
 use Rattle.net_rows.proofs.rows.row_transitions.Statement.{statement}
 use Rattle.net_rows.proofs.rows.row_transitions.Tie as tie
 
-cell-requires : tie.Need-cell-requires
-cell-requires c κs = search needs
+kind-requires : tie.Need-kind-requires
+kind-requires c κs = search needs
 
 function-requires : tie.Need-function-requires
 function-requires c κs = search needs
@@ -45,7 +45,7 @@ same-length c = search needs
 returns : tie.Need-returns
 unfolding rowRecords rowAs
 returns c = let a = c .before .before .before .before .before .before .before .before .before .args in
-    same (ap (rowAs (a .table .now) (a .file .now) (a .rows) (a .row)) (sym (c .before .before .before .before .match .keys1) ∙ c .before .before .before .before .before .cell .ensures)) (c .before .before .function .ensures)
+    same (ap (rowAs (a .table .now) (a .file .now) (a .rows) (a .row)) (sym (c .before .before .before .before .match .keys1) ∙ c .before .before .before .before .before .kind .ensures)) (c .before .before .function .ensures)
 
 same-length-2 : tie.Need-same-length-2
 same-length-2 c = search needs
@@ -53,7 +53,7 @@ same-length-2 c = search needs
 returns-2 : tie.Need-returns-2
 unfolding rowRecords rowAs
 returns-2 c = let a = c .before .before .before .before .before .before .before .before .before .args in
-    same (ap (rowAs (a .table .now) (a .file .now) (a .rows) (a .row)) (sym (c .before .before .before .before .match .keys2) ∙ c .before .before .before .before .before .cell .ensures)) (c .before .before .and-open .ensures)
+    same (ap (rowAs (a .table .now) (a .file .now) (a .rows) (a .row)) (sym (c .before .before .before .before .match .keys2) ∙ c .before .before .before .before .before .kind .ensures)) (c .before .before .and-open .ensures)
 
 same-length-3 : tie.Need-same-length-3
 same-length-3 c = search needs
@@ -61,7 +61,7 @@ same-length-3 c = search needs
 returns-3 : tie.Need-returns-3
 unfolding rowRecords rowAs
 returns-3 c = let a = c .before .before .before .before .before .before .before .before .before .args in
-    same (ap (rowAs (a .table .now) (a .file .now) (a .rows) (a .row)) (sym (c .before .before .before .before .match .keys3) ∙ c .before .before .before .before .before .cell .ensures)) (c .before .before .branch .ensures)
+    same (ap (rowAs (a .table .now) (a .file .now) (a .rows) (a .row)) (sym (c .before .before .before .before .match .keys3) ∙ c .before .before .before .before .before .kind .ensures)) (c .before .before .branch .ensures)
 
 same-length-4 : tie.Need-same-length-4
 same-length-4 c = search needs
@@ -69,7 +69,7 @@ same-length-4 c = search needs
 returns-4 : tie.Need-returns-4
 unfolding rowRecords rowAs
 returns-4 c = let a = c .before .before .before .before .before .before .before .before .before .args in
-    same (ap (rowAs (a .table .now) (a .file .now) (a .rows) (a .row)) (sym (c .before .before .before .before .match .keys4) ∙ c .before .before .before .before .before .cell .ensures)) (c .before .before .and-close .ensures)
+    same (ap (rowAs (a .table .now) (a .file .now) (a .rows) (a .row)) (sym (c .before .before .before .before .match .keys4) ∙ c .before .before .before .before .before .kind .ensures)) (c .before .before .and-close .ensures)
 
 same-length-5 : tie.Need-same-length-5
 same-length-5 c = search needs
@@ -77,7 +77,7 @@ same-length-5 c = search needs
 returns-5 : tie.Need-returns-5
 unfolding rowRecords rowAs
 returns-5 c = let a = c .before .before .before .before .before .before .before .before .before .args in
-    same (ap (rowAs (a .table .now) (a .file .now) (a .rows) (a .row)) (sym (c .before .before .before .before .match .keys5) ∙ c .before .before .before .before .before .cell .ensures)) (c .before .before .onward .ensures)
+    same (ap (rowAs (a .table .now) (a .file .now) (a .rows) (a .row)) (sym (c .before .before .before .before .match .keys5) ∙ c .before .before .before .before .before .kind .ensures)) (c .before .before .onward .ensures)
 
 same-length-6 : tie.Need-same-length-6
 same-length-6 c = search needs
@@ -85,7 +85,7 @@ same-length-6 c = search needs
 returns-6 : tie.Need-returns-6
 unfolding rowRecords rowAs
 returns-6 c = let a = c .before .before .before .before .before .before .before .before .before .args in
-    same (ap (rowAs (a .table .now) (a .file .now) (a .rows) (a .row)) (sym (c .before .before .before .before .match .keys6) ∙ c .before .before .before .before .before .cell .ensures)) (c .before .before .it-open .ensures)
+    same (ap (rowAs (a .table .now) (a .file .now) (a .rows) (a .row)) (sym (c .before .before .before .before .match .keys6) ∙ c .before .before .before .before .before .kind .ensures)) (c .before .before .it-open .ensures)
 
 same-length-7 : tie.Need-same-length-7
 same-length-7 c = search needs
@@ -93,7 +93,7 @@ same-length-7 c = search needs
 returns-7 : tie.Need-returns-7
 unfolding rowRecords rowAs
 returns-7 c = let a = c .before .before .before .before .before .before .before .before .before .args in
-    same (ap (rowAs (a .table .now) (a .file .now) (a .rows) (a .row)) (sym (c .before .before .before .before .match .keys7) ∙ c .before .before .before .before .before .cell .ensures)) (c .before .before .back .ensures)
+    same (ap (rowAs (a .table .now) (a .file .now) (a .rows) (a .row)) (sym (c .before .before .before .before .match .keys7) ∙ c .before .before .before .before .before .kind .ensures)) (c .before .before .back .ensures)
 
 same-length-8 : tie.Need-same-length-8
 same-length-8 c = search needs
@@ -101,7 +101,7 @@ same-length-8 c = search needs
 returns-8 : tie.Need-returns-8
 unfolding rowRecords rowAs
 returns-8 c = let a = c .before .before .before .before .before .before .before .before .before .args in
-    same (ap (rowAs (a .table .now) (a .file .now) (a .rows) (a .row)) (sym (c .before .before .before .before .match .keys8) ∙ c .before .before .before .before .before .cell .ensures)) (c .before .before .onward2 .ensures)
+    same (ap (rowAs (a .table .now) (a .file .now) (a .rows) (a .row)) (sym (c .before .before .before .before .match .keys8) ∙ c .before .before .before .before .before .kind .ensures)) (c .before .before .onward2 .ensures)
 
 same-length-9 : tie.Need-same-length-9
 same-length-9 c = search needs
@@ -109,7 +109,7 @@ same-length-9 c = search needs
 returns-9 : tie.Need-returns-9
 unfolding rowRecords rowAs
 returns-9 c = let a = c .before .before .before .before .before .before .before .before .before .args in
-    same (ap (rowAs (a .table .now) (a .file .now) (a .rows) (a .row)) (sym (c .before .before .before .before .match .keys9) ∙ c .before .before .before .before .before .cell .ensures)) (c .before .before .back2 .ensures)
+    same (ap (rowAs (a .table .now) (a .file .now) (a .rows) (a .row)) (sym (c .before .before .before .before .match .keys9) ∙ c .before .before .before .before .before .kind .ensures)) (c .before .before .back2 .ensures)
 
 same-length-10 : tie.Need-same-length-10
 same-length-10 c = search needs
@@ -117,18 +117,18 @@ same-length-10 c = search needs
 returns-10 : tie.Need-returns-10
 unfolding rowRecords rowAs
 returns-10 c = let a = c .before .before .before .before .before .before .before .before .before .args in
-    same (ap (rowAs (a .table .now) (a .file .now) (a .rows) (a .row)) (sym (c .before .before .before .before .match .keys10) ∙ c .before .before .before .before .before .cell .ensures)) (c .before .before .loop-exit .ensures)
+    same (ap (rowAs (a .table .now) (a .file .now) (a .rows) (a .row)) (sym (c .before .before .before .before .match .keys10) ∙ c .before .before .before .before .before .kind .ensures)) (c .before .before .loop-exit .ensures)
 
 returns-11 : tie.Need-returns-11
 unfolding rowRecords
 returns-11 c = let a = c .before .before .before .before .before .args in
-    same (no-row (a .table .now) (a .file .now) (a .rows) (a .row) (c .before .cell .result) (c .match .rest .0 .0 .0 .0 .0 .0 .0 .0 .0 .1) (c .match .rest .0 .0 .0 .0 .0 .0 .0 .0 .1) (c .match .rest .0 .0 .0 .0 .0 .0 .0 .1) (c .match .rest .0 .0 .0 .0 .0 .0 .1) (c .match .rest .0 .0 .0 .0 .0 .1) (c .match .rest .0 .0 .0 .0 .1) (c .match .rest .0 .0 .0 .1) (c .match .rest .0 .0 .1) (c .match .rest .0 .1) (c .match .rest .1) ∙ ap (rowAs (a .table .now) (a .file .now) (a .rows) (a .row)) (c .before .cell .ensures)) (still (a .area .now) (a .at))
+    same (no-row (a .table .now) (a .file .now) (a .rows) (a .row) (c .before .kind .result) (c .match .rest .0 .0 .0 .0 .0 .0 .0 .0 .0 .1) (c .match .rest .0 .0 .0 .0 .0 .0 .0 .0 .1) (c .match .rest .0 .0 .0 .0 .0 .0 .0 .1) (c .match .rest .0 .0 .0 .0 .0 .0 .1) (c .match .rest .0 .0 .0 .0 .0 .1) (c .match .rest .0 .0 .0 .0 .1) (c .match .rest .0 .0 .0 .1) (c .match .rest .0 .0 .1) (c .match .rest .0 .1) (c .match .rest .1) ∙ ap (rowAs (a .table .now) (a .file .now) (a .rows) (a .row)) (c .before .kind .ensures)) (still (a .area .now) (a .at))
 
 pub row-transitions-spec : {M : Type 1} → statement M
 row-transitions-spec =
     tie.close
     (tie.spec
-    cell-requires
+    kind-requires
     function-requires
     and-open-requires
     branch-requires

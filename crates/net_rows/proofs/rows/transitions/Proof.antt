@@ -9,10 +9,10 @@ use Rattle.net_rows.proofs.rows.transitions.Statement.{statement}
 use Rattle.net_rows.proofs.rows.transitions.Tie as tie
 
 abbrev Inv-loop : tie.InvT-loop
-Inv-loop table file rows area₀ at end next₀ row₀ area next row = (row ≤ end) × Wrote area₀ next₀ area next (runs (rowRecords table file rows) row)
+Inv-loop table file rows area₀ at next₀ row₀ area next row = (row ≤ rows) × Wrote area₀ next₀ area next (runs (rowRecords table file rows) row)
 
 abbrev μ-loop : tie.MeasureT-loop
-μ-loop table file rows area₀ at end next₀ row₀ area next row = end - row
+μ-loop table file rows area₀ at next₀ row₀ area next row = rows - row
 
 loop-holds : tie.Need-loop-holds Inv-loop μ-loop
 unfolding runs

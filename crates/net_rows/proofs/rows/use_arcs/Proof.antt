@@ -2,7 +2,8 @@ use Prim.Native.Nat.{_-_, _≤_}
 use mathlib.Core.Path.{_≡_, ap}
 use native.Mathlib.Omega.{arith}
 use Rattle.net_records.specs.Writing.{Wrote, runs}
-use Rattle.net_rows.specs.Rows.{cell, usesNumbers, useArc, useArcs}
+use Rattle.diagram_table.specs.Cells.{usesNumberIn}
+use Rattle.net_rows.specs.Rows.{useArc, useArcs}
 use Rattle.net_records.proofs.Writing.{still, again, same, wrote-length}
 use Rattle.net_rows.proofs.Steps.{use-turn}
 use borrow.Author.Needs.{needs}
@@ -24,15 +25,15 @@ cast-from c = search needs
 cell-requires-2 : tie.Need-cell-requires-2 Inv-loop μ-loop
 cell-requires-2 c κs = search needs
 
-cast-number : tie.Need-cast-number Inv-loop μ-loop
-cast-number c = search needs
-
 mul-counts : tie.Need-mul-counts Inv-loop μ-loop
 mul-counts c = search needs
 
 loop-holds : tie.Need-loop-holds Inv-loop μ-loop
 unfolding runs
 loop-holds c = (search needs, still (c .before .before .before .before .before .args .area .now) (c .before .before .before .before .before .args .at))
+
+cast-word : tie.Need-cast-word Inv-loop μ-loop
+cast-word c = search needs
 
 mul-word : tie.Need-mul-word Inv-loop μ-loop
 mul-word c = search needs
@@ -45,6 +46,9 @@ word-requires c κs = search needs
 
 cast-item : tie.Need-cast-item Inv-loop μ-loop
 cast-item c = search needs
+
+cast-word-2 : tie.Need-cast-word-2 Inv-loop μ-loop
+cast-word-2 c = search needs
 
 mul-word-2 : tie.Need-mul-word-2 Inv-loop μ-loop
 mul-word-2 c = search needs
@@ -82,7 +86,7 @@ returns : tie.Need-returns Inv-loop μ-loop
 unfolding useArcs
 returns c = let a = c .before .before .before .before .before .before .before .args in
     let l = c .before .loop in
-    let e : l .k ≡ cell (a .table .now) usesNumbers (a .row) = omega (arith, c .before .before .cell2 .ensures) in
+    let e : l .k ≡ usesNumberIn (a .table .now) (a .row) = omega (arith, c .before .before .cell2 .ensures) in
     same (ap (runs (useArc (a .table .now) (a .file .now) (a .rows) (a .row) (a .kind) (a .field))) e) (l .inv .1)
 
 pub use-arcs-spec : {M : Type 1} → statement M
@@ -94,13 +98,14 @@ use-arcs-spec =
     cell-requires
     cast-from
     cell-requires-2
-    cast-number
     mul-counts
     loop-holds
+    cast-word
     mul-word
     add-word
     word-requires
     cast-item
+    cast-word-2
     mul-word-2
     add-word-2
     add-word-3
