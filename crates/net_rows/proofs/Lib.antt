@@ -1,9 +1,6 @@
-pub mod Weights
-pub mod Ranges
 pub mod Uses
 pub mod Nesting
 pub mod Branches
-pub mod Entries
 pub mod RowRecords
 pub mod NetParts
 pub mod RowSizes

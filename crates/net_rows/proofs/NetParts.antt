@@ -25,8 +25,9 @@ use Rattle.net_rows.specs.Rows.{rowRecords}
 use Rattle.net_rows.specs.Marks.{firstMark, remaining, rowMarks, itemMark, numberAs, tally}
 use Rattle.net_records.proofs.Runs.{runs-same, runs-front}
 use Rattle.net_records.proofs.Nets.{arcRecord, markRecord, transitionRecord, transitionRecords, records-append}
-use Rattle.net_rows.proofs.Weights.{arcs-run, weights, by-rows}
-use Rattle.net_rows.proofs.RowRecords.{clears, patternRecords, allPatterns, row-is}
+use Rattle.net_loops.proofs.Weights.{arcs-run, weights, by-rows}
+use Rattle.net_loops.proofs.Patterns.{clears, patternRecords, allPatterns}
+use Rattle.net_rows.proofs.RowRecords.{row-is}
 
 marks-run : (n : ℕ) (f : ℕ → ℕ) → map markRecord (tabulate n f) ≡ runs (λ p. mark (f p)) n
 unfolding markRecord mark runs

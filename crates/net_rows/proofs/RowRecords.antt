@@ -1,71 +1,44 @@
 -- THEOREM (row-is): the records of a row over the table are those of its patterns.
-use Prim.Native.Nat.{ℕ, suc, _+_, _*_, _-_, _%_, _≤_, _<_}
+use Prim.Native.Nat.{ℕ, suc, _+_, _*_, _-_, _≤_, _<_}
 use mathlib.Core.Path.{_≡_, refl, ap, ap₂, sym, _∙_, subst}
 use mathlib.Core.Logic.{_≢_, _⊎_, inl, inr}
-use mathlib.Core.Bool.{Bool, true, false, cond}
-use mathlib.Core.List.{List, [], _∷_, _++_, map, append-assoc, append-nil}
+use mathlib.Core.Bool.{true, false, cond}
+use mathlib.Core.List.{List, [], _∷_, _++_, append-assoc, append-nil}
 use native.Mathlib.Omega.{arith}
 use lib.Dec.{leb, eqb}
-use borrow.Author.Tests.{leb-false, le-leb, lt-leb, eqb-true, ne-eqb}
+use borrow.Author.Tests.{eqb-true}
 use Rattle.effbd.specs.Records.{word}
-use Rattle.effbd.specs.Ranges.{only, within}
-use Rattle.effbd.specs.Diagrams.{Kind, function, and-open, branch, and-close, or-open, or-close, it-open, it-close, lp-open, lp-close, loop-exit, end, Diagram, Use, numberOf, rowCount, countTotal, row, kind, isKind, turnLimit, takeOf, giveOf, takes, gives, usesFine, rowFine, rowFineAs}
-use Rattle.effbd.specs.Layout.{Place, byPlace, places, placeOf}
-use Rattle.effbd.specs.Nesting.{owner, close, loop, inLoop, branchOf}
+use Rattle.effbd.specs.Ranges.{only}
+use Rattle.effbd.specs.Diagrams.{Kind, function, and-open, branch, and-close, or-open, or-close, it-open, it-close, lp-open, lp-close, loop-exit, end, Diagram, Use, numberOf, rowCount, countTotal, row, kind, isKind, takeOf, giveOf, takes, gives, usesFine, rowFine, rowFineAs}
+use Rattle.effbd.specs.Layout.{byPlace}
+use Rattle.effbd.specs.Nesting.{owner, close, branchOf}
 use Rattle.effbd.specs.States.{enteredRow, branchEntries}
-use Rattle.effbd.specs.Nets.{takeArc, clearArc, giveArc}
-use Rattle.effbd.specs.Patterns.{Pattern, none, oneAt, weightOf, nowhere, atOnce, marksP, clearsRows, restoresR, patternsAs, rangesFrom}
-use Rattle.agreement.specs.Basics.{decide, clash, and-left, and-right, only-refl, same-eq, not-kind}
+use Rattle.effbd.specs.Nets.{takeArc, giveArc}
+use Rattle.effbd.specs.Patterns.{none, oneAt, nowhere, atOnce, marksP, patternsAs}
+use Rattle.agreement.specs.Basics.{decide, and-left, and-right, same-eq, not-kind}
 use Rattle.agreement.specs.AcceptedFiles.{Held}
 use Rattle.agreement.specs.Structure.{Laws, opens}
 use Rattle.agreement.specs.NestingLaws.{laws}
+use Rattle.agreement.specs.Reach.{close-in}
 use Rattle.diagram_table.specs.Cells.{usesStartIn, usesNumberIn, isBranch}
 use Rattle.diagram_file.specs.Tables.{Holds, HoldsUses}
 use Rattle.diagram_file.proofs.HeldCells.{in-rows, kind-cell, owner-cell, owner-kind, close-cell, branch-cell}
 use Rattle.net_records.specs.Writing.{Records, runs, span}
-use Rattle.net_records.specs.Records.{transition, pair, arc}
-use Rattle.net_rows.specs.Rows.{token, useArc, useArcs, functionStart, functionEnd, branchPlace, branchArc, branchArcs, andOpen, andClose, early, late, itTurn, itOpen, restore, leave, loopExit, branchToken, onward, back, rowAs, rowRecords}
+use Rattle.net_records.specs.Records.{arc}
+use Rattle.net_rows.specs.Rows.{token, useArc, useArcs, functionStart, functionEnd, branchPlace, branchArc, branchArcs, andOpen, andClose, branchToken, onward, back, rowAs, rowRecords}
 use Rattle.net_records.proofs.Runs.{runs-same, runs-span}
-use Rattle.net_records.proofs.Nets.{arcRecord}
-use Rattle.net_rows.proofs.Weights.{arc-none, weights, countArcs, count-none, at-P, mark-P, mark-Q, mark-each, entry-among, it-gives}
-use Rattle.net_rows.proofs.Ranges.{rows-range, no-range}
 use Rattle.net_rows.proofs.Uses.{uses-read}
-use Rattle.agreement.specs.Reach.{close-in, entered-in}
 use Rattle.net_rows.proofs.Nesting.{behind-branch, branch-inside}
 use Rattle.net_rows.proofs.Branches.{images}
-use Rattle.net_rows.proofs.Entries.{entry-cell, next-entry, next-entered}
+use Rattle.net_loops.proofs.Weights.{arc-none, countArcs, at-P, mark-P, mark-Q, mark-each}
+use Rattle.net_loops.proofs.Patterns.{patternRecords, allPatterns, unclearing}
+use Rattle.net_loops.proofs.Entries.{next-entry, next-entered}
+use Rattle.net_loops.proofs.LoopRecords.{it-open-is, loop-exit-is}
 
--- the clear ranges of a test of places, a pattern's transition, a row's
-module _ (d : Diagram) where
-  unfoldable pub clears : (Place → Bool) → Records
-  clears test = map arcRecord (rangesFrom (places d) 0 (λ p. test (placeOf d p)))
-
-  unfoldable pub patternRecords : ℕ → Pattern → Records
-  patternRecords r p = transition r (p .earliest) (p .latest) ++ (weights d takeArc (p .take) ++ (clears (p .clear) ++ weights d giveArc (p .give)))
-
-  unfoldable pub allPatterns : ℕ → List Pattern → Records
-  allPatterns r [] = []
-  allPatterns r (p ∷ ps) = patternRecords r p ++ allPatterns r ps
-
-  no-clear : clears nowhere ≡ []
-  unfolding clears
-  no-clear = ap (map arcRecord) (no-range d)
-
-  one-clear : (a b : ℕ) → a ≤ b → b < rowCount d → rowCount d ≤ 64 → clears (clearsRows d (within a b)) ≡ pair clearArc (3 * a) (3 * b + 2)
-  unfolding clears pair
-  one-clear a b l m few = let e : (3 * a) % 65536 ≡ 3 * a = omega arith in let f : (3 * b + 2) % 65536 ≡ 3 * b + 2 = omega arith in
-      ap (map arcRecord) (rows-range d a b l m) ∙ rw (e, f)
-
-  -- a transition that clears nothing
-  unclearing : (r : ℕ) (earliest latest : ℕ) (take give : Place → ℕ) (ts gs : Records) → weights d takeArc take ≡ ts → weights d giveArc give ≡ gs
-      → patternRecords r (record { earliest = earliest; latest = latest; take = take; clear = nowhere; give = give }) ≡ transition r earliest latest ++ ts ++ gs
-  unfolding patternRecords
-  unclearing r earliest latest take give ts gs e f = rw (e, f, no-clear) (sym (append-assoc (transition r earliest latest) ts gs))
-
-  -- one token from P of row x to P of row y
-  token-is : (r x y : ℕ) → x < rowCount d → y < rowCount d → token r (3 * x) (3 * y) ≡ allPatterns r (atOnce (marksP (only x)) nowhere (marksP (only y)) ∷ [])
-  unfolding token allPatterns
-  token-is r x y l m = sym (rw append-nil (unclearing r 0 0 (marksP (only x)) (marksP (only y)) (arc takeArc (3 * x) 1) (arc giveArc (3 * y) 1) (mark-P d takeArc x l) (mark-P d giveArc y m)))
+-- one token from P of row x to P of row y
+token-is : (d : Diagram) (r x y : ℕ) → x < rowCount d → y < rowCount d → token r (3 * x) (3 * y) ≡ allPatterns d r (atOnce (marksP (only x)) nowhere (marksP (only y)) ∷ [])
+unfolding token allPatterns
+token-is d r x y l m = sym (rw append-nil (unclearing d r 0 0 (marksP (only x)) (marksP (only y)) (arc takeArc (3 * x) 1) (arc giveArc (3 * y) 1) (mark-P d takeArc x l) (mark-P d giveArc y m)))
 
 module _ (d : Diagram) (rows items : ℕ) (table file : List ℕ) (h : Holds d rows items table) (u : HoldsUses file d table) (held : Held d) where
   law : Laws d
@@ -187,91 +160,6 @@ module _ (d : Diagram) (rows items : ℕ) (table file : List ℕ) (h : Holds d r
       no-end : kind d r ≢ end
       no-end = not-kind d r e end refl
 
-  -- an IT open: P and what it takes at Q or R; what it gives there, and the entry
-  turn-is : (r e from into weight : ℕ) (tb tc gb gc : ℕ → ℕ) → r < rowCount d → e < rowCount d
-      → ((q : ℕ) → q ≢ r → (tb q ≡ 0) × (tc q ≡ 0)) → ((q : ℕ) → q ≢ r → (gb q ≡ 0) × (gc q ≡ 0))
-      → arc takeArc (3 * r + 1) (tb r) ++ arc takeArc (3 * r + 2) (tc r) ≡ arc takeArc from weight
-      → arc giveArc (3 * r + 1) (gb r) ++ arc giveArc (3 * r + 2) (gc r) ≡ arc giveArc into weight
-      → patternRecords d r (atOnce (byPlace (oneAt (only r)) tb tc none) nowhere (byPlace (oneAt (only e)) gb gc none)) ≡ itTurn r from into weight (3 * e)
-  unfolding itTurn
-  turn-is r e from into weight tb tc gb gc l m t g a b = unclearing d r 0 0 _ _ (arc takeArc (3 * r) 1 ++ arc takeArc from weight)
-      (arc giveArc (3 * e) (early (3 * e) (3 * r)) ++ (arc giveArc into weight ++ arc giveArc (3 * e) (late (3 * e) (3 * r))))
-      (at-P d takeArc r tb tc none l t ∙ rw (count-none d takeArc, append-nil, a))
-      (it-gives d gb gc e r m l g ∙ rw b) ∙ simp append-assoc
-
-  it-open-is : (r : ℕ) → r < rowCount d → kind d r ≡ it-open → itOpen table r ≡ allPatterns d r (patternsAs d it-open r)
-  unfolding itOpen allPatterns
-  it-open-is r l e = sym (ap₂ _++_
-      (turn-is r (enteredRow d (suc r)) (3 * r + 2) (3 * r + 1) 1 none (oneAt (only r)) (oneAt (only r)) none l (next-entered d rows items table h held r no-end)
-      (λ q n. (refl, rw (ne-eqb q r n))) (λ q n. (rw (ne-eqb q r n), refl))
-      (rw (arc-none takeArc (3 * r + 1) refl, only-refl r)) (rw (arc-none giveArc (3 * r + 2) refl, only-refl r, append-nil))
-      ∙ ap (itTurn r (3 * r + 2) (3 * r + 1) 1) (sym (next-entry d rows items table h held r no-end)))
-      (append-nil _ ∙ (turn-is r (enteredRow d (suc (close d r))) (3 * r + 1) (3 * r + 2) (turnLimit d r) (weightOf r (turnLimit d r)) none none (weightOf r (turnLimit d r)) l
-      (entered-in d (held .acc) (suc (close d r)) behind)
-      (λ q n. (rw (ne-eqb q r n), refl)) (λ q n. (refl, rw (ne-eqb q r n)))
-      (rw (arc-none takeArc (3 * r + 2) refl, only-refl r, append-nil)) (rw (arc-none giveArc (3 * r + 1) refl, only-refl r))
-      ∙ rw (h .firsts r (in-rows d rows items table h r l), close-cell d rows items table h r l, entry-cell d rows items table h (close d r) behind))))
-    where
-      no-end : kind d r ≢ end
-      no-end = not-kind d r e end refl
-
-      behind : suc (close d r) < rowCount d
-      behind = close-in d (held .acc) r (rw e)
-
-  loop-exit-is : (r : ℕ) → r < rowCount d → kind d r ≡ loop-exit → loopExit table r ≡ allPatterns d r (patternsAs d loop-exit r)
-  unfolding loopExit leave allPatterns patternRecords
-  loop-exit-is r l e = rw (h .loops r (in-rows d rows items table h r l), close-cell d rows items table h o ol, entry-cell d rows items table h c cl)
-      (sym (rw (append-nil, mark-P d takeArc r l, one-clear d o c low (let w = cl in omega arith) (held .rows), gives) (simp append-assoc)))
-    where
-      o : ℕ
-      o = loop d r
-
-      c : ℕ
-      c = close d o
-
-      ol : o < rowCount d
-      ol = let b = h .loopLow r in omega arith
-
-      opened : opens d o ≡ true
-      opened = rw (law .looped r e .0)
-
-      cl : suc c < rowCount d
-      cl = close-in d (held .acc) o opened
-
-      low : o ≤ c
-      low = let w = law .shut o opened .1 in let b = h .ownerLow c in omega arith
-
-      t : ℕ
-      t = enteredRow d (suc c)
-
-      out : (q : ℕ) → (q < o) ⊎ (c < q) → within o c q ≡ false
-      out q (inl m) = rw (lt-leb o q m)
-      out q (inr m) = let w = low in rw (le-leb o q (omega arith), lt-leb q c m)
-
-      -- the entry is not in the loop
-      beyond : o < t → c < t
-      beyond m = decide (leb t c) (λ z. clash (rw (le-leb o t (omega arith), z)) (law .leaves r e)) (λ z. leb-false t c z)
-
-      g : ℕ → Records
-      g q = arc giveArc (3 * q + 1) 0 ++ arc giveArc (3 * q + 2) (restoresR d (inLoop d r) q)
-
-      turn : (q : ℕ) → o ≤ q → q ≤ c → g q ≡ restore table q
-      turn q a b = let w = cl in unfold restore in rw (arc-none giveArc (3 * q + 1) refl, le-leb o q a, le-leb q c b, kind-cell d rows items table h q (omega arith), h .firsts q (in-rows d rows items table h q (omega arith)))
-          (decide (isKind d it-open q) (λ z. rw z) (λ z. rw z (arc-none giveArc (3 * q + 2) refl)))
-
-      off : (q : ℕ) → within o c q ≡ false → g q ≡ []
-      off q z = rw (arc-none giveArc (3 * q + 1) refl, z) (arc-none giveArc (3 * q + 2) refl)
-
-      restores : runs g (rowCount d) ≡ span (restore table) o (c + 1)
-      restores = let a = low in let b = cl in unfold span in (runs-span g o (c + 1) (rowCount d) (omega arith) (omega arith) (λ q m. off q (out q (inl m))) (λ q m. off q (out q (inr (omega arith))))
-          ∙ (unfold span in runs-same _ _ (c + 1 - o) (λ i m. turn (o + i) (omega arith) (omega arith))))
-
-      gives : weights d giveArc (byPlace (oneAt (only t)) none (restoresR d (inLoop d r)) none)
-          ≡ arc giveArc (3 * t) (early (3 * t) (3 * o)) ++ (span (restore table) o (c + 1) ++ arc giveArc (3 * t) (late (3 * t) (3 * o)))
-      gives = entry-among d none (restoresR d (inLoop d r)) t o (entered-in d (held .acc) (suc c) cl)
-          (λ m q k. (refl, rw (out q (inl (omega arith))))) (λ m q k. (refl, let w = beyond m in rw (out q (inr (omega arith)))))
-          ∙ rw restores
-
   rowIs : (k : Kind) (r : ℕ) → r < rowCount d → kind d r ≡ k → rowAs table file rows r (numberOf k) ≡ allPatterns d r (patternsAs d k r)
   unfolding rowAs
   rowIs function r l e = function-is r l e
@@ -280,11 +168,11 @@ module _ (d : Diagram) (rows items : ℕ) (table file : List ℕ) (h : Holds d r
   rowIs and-close r l e = and-close-is r l e
   rowIs or-open r l e = unfold allPatterns in refl
   rowIs or-close r l e = onward-is r l (not-kind d r e end refl)
-  rowIs it-open r l e = it-open-is r l e
+  rowIs it-open r l e = it-open-is d rows items table h held r l e
   rowIs it-close r l e = back-is r l
   rowIs lp-open r l e = onward-is r l (not-kind d r e end refl)
   rowIs lp-close r l e = back-is r l
-  rowIs loop-exit r l e = loop-exit-is r l e
+  rowIs loop-exit r l e = loop-exit-is d rows items table h held r l e
   rowIs end r l e = unfold allPatterns in refl
 
   pub row-is : (r : ℕ) → r < rowCount d → rowRecords table file rows r ≡ allPatterns d r (patternsAs d (kind d r) r)

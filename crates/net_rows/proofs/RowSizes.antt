@@ -15,7 +15,8 @@ use Rattle.diagram_file.specs.Tables.{Holds, HoldsUses}
 use Rattle.diagram_file.proofs.HeldCells.{in-rows, kind-cell, owner-cell, close-cell}
 use Rattle.net_records.specs.Writing.{span}
 use Rattle.net_records.proofs.Small.{Small, none-small, more, _then_, either, turns, transition-small, pair-small, arc-small, mark-small}
-use Rattle.net_rows.specs.Rows.{token, useArc, useArcs, functionStart, functionEnd, branchArc, branchArcs, andOpen, andClose, itTurn, itOpen, restore, leave, loopExit, branchToken, onward, back, rowAs, rowRecords}
+use Rattle.net_loops.specs.Loops.{itTurn, itOpen, restore, leave, loopExit}
+use Rattle.net_rows.specs.Rows.{token, useArc, useArcs, functionStart, functionEnd, branchArc, branchArcs, andOpen, andClose, branchToken, onward, back, rowAs, rowRecords}
 use Rattle.net_rows.specs.Marks.{rowMarks}
 use Rattle.net_rows.proofs.Uses.{uses-few}
 use Rattle.net_rows.proofs.RowRecords.{uses-fine}

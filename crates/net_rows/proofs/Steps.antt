@@ -5,9 +5,10 @@ use mathlib.Core.List.{List, []}
 use native.Mathlib.Numerals.{add-one}
 use borrow.Author.Tests.{ne-eqb}
 use Rattle.effbd.specs.Records.{word}
-use Rattle.diagram_table.specs.Cells.{kindIn, firstIn, usesStartIn, ownerIn, closeIn, loopIn}
+use Rattle.diagram_table.specs.Cells.{kindIn, usesStartIn, ownerIn}
 use Rattle.net_records.specs.Records.{arc}
-use Rattle.net_rows.specs.Rows.{entry, token, useArc, itTurn, leave, loopExit, branchToken, rowAs}
+use Rattle.net_loops.specs.Loops.{entry}
+use Rattle.net_rows.specs.Rows.{token, useArc, branchToken, rowAs}
 use Rattle.net_rows.specs.Marks.{numberAs, tally}
 
 -- a BRANCH, its construct's open row o of kind k
@@ -24,15 +25,6 @@ pub use-turn : (table file : List ℕ) (rows row kind field k from item weight :
     → arc kind (3 * rows + item) weight ≡ useArc table file rows row kind field k
 unfolding useArc
 use-turn table file rows row kind field k from item weight e f g = rw (f, g, e)
-
-pub second-turn : (table : List ℕ) (row count closed to : ℕ) → count ≡ firstIn table row → closed ≡ closeIn table row → to ≡ entry table (closed + 1)
-    → itTurn row (3 * row + 1) (3 * row + 2) count to ≡ itTurn row (3 * row + 1) (3 * row + 2) (firstIn table row) (entry table (closeIn table row + 1))
-second-turn table row count closed to e f g = rw (g, e, f)
-
-pub exit-turn : (table : List ℕ) (row opened closed to : ℕ) → opened ≡ loopIn table row → closed ≡ closeIn table opened → to ≡ entry table (closed + 1)
-    → leave table row opened closed to ≡ loopExit table row
-unfolding loopExit
-exit-turn table row opened closed to e f g = rw (g, f, e)
 
 pub no-row : (table file : List ℕ) (rows row k : ℕ) → (k ≡ 16 → ⊥) → (k ≡ 17 → ⊥) → (k ≡ 18 → ⊥) → (k ≡ 19 → ⊥) → (k ≡ 21 → ⊥) → (k ≡ 22 → ⊥) → (k ≡ 23 → ⊥) → (k ≡ 24 → ⊥) → (k ≡ 25 → ⊥) → (k ≡ 26 → ⊥)
     → [] ≡ rowAs table file rows row k

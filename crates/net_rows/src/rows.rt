@@ -1,27 +1,17 @@
 // The transitions of a diagram's rows, from its table (crate diagram_table). Nothing is asked of a caller: any words are a table.
 ghost use mathlib.Core.Path.{_≡_};
 ghost use mathlib.Core.List.{_++_};
-ghost use Prim.Native.Nat.{_+_};
-ghost use Rattle.net_records.specs.Writing.{Wrote, runs, span};
-ghost use Rattle.net_rows.specs.Rows.{entry as entryOf, token as tokenRecords, useArcs, functionStart, functionEnd, branchPlace, branchArc, branchArcs, andOpen, andClose, early as earlyOf, late as lateOf, itTurn, itOpen, restore as restoreRecords, leave as leaveRecords, loopExit, branchToken, onward as onwardRecords, back as backRecords, rowRecords};
+ghost use Rattle.net_records.specs.Writing.{Wrote, runs};
+ghost use Rattle.net_rows.specs.Rows.{token as tokenRecords, useArcs, functionStart, functionEnd, branchPlace, branchArc, branchArcs, andOpen, andClose, branchToken, onward as onwardRecords, back as backRecords, rowRecords};
 use diagram_table::CLOSE;
 use diagram_table::FIRST;
-use diagram_table::LOOP;
 use diagram_table::OWNER;
 use diagram_table::SECOND;
 use diagram_table::USES_NUMBER;
 use diagram_table::USES_START;
 use words::kinds;
-use words::kinds::CLEAR;
 use words::kinds::GIVE;
 use words::kinds::TAKE;
-
-// P of the row that entering a row changes.
-fn entry(table: &[u16], row: u32) -> usize
-    ensures { λ r. ⌜ r ≡ entryOf (now (table .entry)) row ⌝ }
-{
-    3 * diagram_table::entered_row(table, row) as usize
-}
 
 // One token from a place to a place.
 fn token(row: u16, from: usize, to: usize, area: &mut [u8], at: usize) -> usize
@@ -87,7 +77,7 @@ fn function_end(
 {
     let earliest = diagram_table::cell(table, FIRST, row as u32);
     let latest = diagram_table::cell(table, SECOND, row as u32);
-    let to = entry(table, row as u32 + 1);
+    let to = net_loops::entry(table, row as u32 + 1);
     let own = net_records::transition(area, at, row as usize, earliest, latest);
     let takes = net_records::arc(area, own, TAKE, 3 * row as usize + 1, 1);
     let gives = net_records::arc(area, takes, GIVE, to, 1);
@@ -108,7 +98,7 @@ fn branch_place(table: &[u16], kind: u16, row: u16) -> usize
     if kind == TAKE {
         return 3 * row as usize;
     }
-    entry(table, row as u32 + 1)
+    net_loops::entry(table, row as u32 + 1)
 }
 
 fn branch_arc(table: &[u16], opened: u16, kind: u16, row: u16, area: &mut [u8], at: usize) -> usize
@@ -147,137 +137,10 @@ fn and_close(table: &[u16], row: u16, area: &mut [u8], at: usize) -> usize
     ensures { λ r. ⌜ Wrote (now (area .entry)) at (now (area .exit)) r (andClose (now (table .entry)) row) ⌝ }
 {
     let opened = diagram_table::cell(table, OWNER, row as u32);
-    let to = entry(table, row as u32 + 1);
+    let to = net_loops::entry(table, row as u32 + 1);
     let takes = net_records::transition(area, at, row as usize, 0, 0);
     let gives = branch_arcs(table, opened, TAKE, area, takes);
     net_records::arc(area, gives, GIVE, to, 1)
-}
-
-// Gives stand by rising places: the weight of the give to `to` before the gives to the places behind `place`, and after them.
-fn early(to: usize, place: usize) -> u16
-    ensures { λ r. ⌜ r ≡ earlyOf to place ⌝ }
-{
-    if to <= place {
-        return 1;
-    }
-    0
-}
-
-fn late(to: usize, place: usize) -> u16
-    ensures { λ r. ⌜ r ≡ lateOf to place ⌝ }
-{
-    if to <= place {
-        return 0;
-    }
-    1
-}
-
-// One transition of an IT open: beside P and the entry it takes from one of Q and R and gives to the other.
-fn it_turn(
-    row: u16,
-    from: usize,
-    into: usize,
-    weight: u16,
-    to: usize,
-    area: &mut [u8],
-    at: usize,
-) -> usize
-    ensures { λ r. ⌜ Wrote (now (area .entry)) at (now (area .exit)) r (itTurn row from into weight to) ⌝ }
-{
-    let before = early(to, 3 * row as usize);
-    let after = late(to, 3 * row as usize);
-    let own = net_records::transition(area, at, row as usize, 0, 0);
-    let takes = net_records::arc(area, own, TAKE, 3 * row as usize, 1);
-    let gives = net_records::arc(area, takes, TAKE, from, weight);
-    let middle = net_records::arc(area, gives, GIVE, to, before);
-    let last = net_records::arc(area, middle, GIVE, into, weight);
-    net_records::arc(area, last, GIVE, to, after)
-}
-
-fn it_open(table: &[u16], row: u16, area: &mut [u8], at: usize) -> usize
-    ensures { λ r. ⌜ Wrote (now (area .entry)) at (now (area .exit)) r (itOpen (now (table .entry)) row) ⌝ }
-{
-    let inside = entry(table, row as u32 + 1);
-    let next = it_turn(
-        row,
-        3 * row as usize + 2,
-        3 * row as usize + 1,
-        1,
-        inside,
-        area,
-        at,
-    );
-    let count = diagram_table::cell(table, FIRST, row as u32);
-    let closed = diagram_table::cell(table, CLOSE, row as u32);
-    let behind = entry(table, closed as u32 + 1);
-    it_turn(
-        row,
-        3 * row as usize + 1,
-        3 * row as usize + 2,
-        count,
-        behind,
-        area,
-        next,
-    )
-}
-
-// R of an IT open in a left loop is its count again.
-fn restore(table: &[u16], row: u32, area: &mut [u8], at: usize) -> usize
-    ensures { λ r. ⌜ Wrote (now (area .entry)) at (now (area .exit)) r (restoreRecords (now (table .entry)) row) ⌝ }
-{
-    if diagram_table::kind(table, row) == kinds::IT_OPEN {
-        let count = diagram_table::cell(table, FIRST, row);
-        return net_records::arc(area, at, GIVE, 3 * row as usize + 2, count);
-    }
-    at
-}
-
-fn restores(table: &[u16], opened: u16, closed: u16, area: &mut [u8], at: usize) -> usize
-    ensures { λ r. ⌜ Wrote (now (area .entry)) at (now (area .exit)) r (span (restoreRecords (now (table .entry))) opened (closed + 1)) ⌝ }
-{
-    let mut next = at;
-    let mut row = opened as u32;
-    while row < closed as u32 + 1 {
-        next = restore(table, row, area, next);
-        row += 1;
-    }
-    next
-}
-
-fn leave(
-    table: &[u16],
-    row: u16,
-    opened: u16,
-    closed: u16,
-    to: usize,
-    area: &mut [u8],
-    at: usize,
-) -> usize
-    ensures { λ r. ⌜ Wrote (now (area .entry)) at (now (area .exit)) r (leaveRecords (now (table .entry)) row opened closed to) ⌝ }
-{
-    let before = early(to, 3 * opened as usize);
-    let after = late(to, 3 * opened as usize);
-    let takes = net_records::transition(area, at, row as usize, 0, 0);
-    let clears = net_records::arc(area, takes, TAKE, 3 * row as usize, 1);
-    let gives = net_records::pair(
-        area,
-        clears,
-        CLEAR,
-        3 * opened as usize,
-        3 * closed as usize + 2,
-    );
-    let middle = net_records::arc(area, gives, GIVE, to, before);
-    let last = restores(table, opened, closed, area, middle);
-    net_records::arc(area, last, GIVE, to, after)
-}
-
-fn loop_exit(table: &[u16], row: u16, area: &mut [u8], at: usize) -> usize
-    ensures { λ r. ⌜ Wrote (now (area .entry)) at (now (area .exit)) r (loopExit (now (table .entry)) row) ⌝ }
-{
-    let opened = diagram_table::cell(table, LOOP, row as u32);
-    let closed = diagram_table::cell(table, CLOSE, opened as u32);
-    let to = entry(table, closed as u32 + 1);
-    leave(table, row, opened, closed, to, area, at)
 }
 
 // A BRANCH has a transition only where its construct is an OR.
@@ -286,7 +149,7 @@ fn branch(table: &[u16], row: u16, area: &mut [u8], at: usize) -> usize
 {
     let opened = diagram_table::cell(table, OWNER, row as u32);
     if diagram_table::kind(table, opened as u32) == kinds::OR_OPEN {
-        let to = entry(table, row as u32 + 1);
+        let to = net_loops::entry(table, row as u32 + 1);
         return token(row, 3 * opened as usize, to, area, at);
     }
     at
@@ -296,7 +159,7 @@ fn branch(table: &[u16], row: u16, area: &mut [u8], at: usize) -> usize
 fn onward(table: &[u16], row: u16, area: &mut [u8], at: usize) -> usize
     ensures { λ r. ⌜ Wrote (now (area .entry)) at (now (area .exit)) r (onwardRecords (now (table .entry)) row) ⌝ }
 {
-    let to = entry(table, row as u32 + 1);
+    let to = net_loops::entry(table, row as u32 + 1);
     token(row, 3 * row as usize, to, area, at)
 }
 
@@ -326,11 +189,11 @@ fn row_transitions(
         kinds::BRANCH => branch(table, row, area, at),
         kinds::AND_CLOSE => and_close(table, row, area, at),
         kinds::OR_CLOSE => onward(table, row, area, at),
-        kinds::IT_OPEN => it_open(table, row, area, at),
+        kinds::IT_OPEN => net_loops::it_open(table, row, area, at),
         kinds::IT_CLOSE => back(table, row, area, at),
         kinds::LP_OPEN => onward(table, row, area, at),
         kinds::LP_CLOSE => back(table, row, area, at),
-        kinds::LOOP_EXIT => loop_exit(table, row, area, at),
+        kinds::LOOP_EXIT => net_loops::loop_exit(table, row, area, at),
         _ => at,
     }
 }

@@ -1,7 +1,7 @@
 use borrow.Author.Tests.{le-leb, lt-leb}
-use Rattle.net_rows.specs.Rows.{early}
-use Rattle.net_rows.proofs.rows.early.Statement.{statement}
-use Rattle.net_rows.proofs.rows.early.Tie as tie
+use Rattle.net_loops.specs.Loops.{early}
+use Rattle.net_loops.proofs.early.Statement.{statement}
+use Rattle.net_loops.proofs.early.Tie as tie
 
 returns : tie.Need-returns
 unfolding early

@@ -1,8 +1,8 @@
 use Rattle.net_records.proofs.Writing.{same}
-use Rattle.net_rows.proofs.Steps.{exit-turn}
+use Rattle.net_loops.proofs.Steps.{exit-turn}
 use borrow.Author.Needs.{needs}
-use Rattle.net_rows.proofs.rows.loop_exit.Statement.{statement}
-use Rattle.net_rows.proofs.rows.loop_exit.Tie as tie
+use Rattle.net_loops.proofs.loop_exit.Statement.{statement}
+use Rattle.net_loops.proofs.loop_exit.Tie as tie
 
 cell-requires : tie.Need-cell-requires
 cell-requires c κs = search needs

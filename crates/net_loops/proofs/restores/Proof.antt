@@ -1,11 +1,11 @@
 use Prim.Native.Nat.{_+_, _-_, _≤_}
 use native.Mathlib.Omega.{arith}
 use Rattle.net_records.specs.Writing.{Wrote, runs}
-use Rattle.net_rows.specs.Rows.{restore}
+use Rattle.net_loops.specs.Loops.{restore}
 use Rattle.net_records.proofs.Writing.{span-start, span-again, span-done, wrote-length}
 use borrow.Author.Needs.{needs}
-use Rattle.net_rows.proofs.rows.restores.Statement.{statement}
-use Rattle.net_rows.proofs.rows.restores.Tie as tie
+use Rattle.net_loops.proofs.restores.Statement.{statement}
+use Rattle.net_loops.proofs.restores.Tie as tie
 
 abbrev Inv-loop : tie.InvT-loop
 Inv-loop table opened closed area₀ at next₀ row₀ area next row = (opened ≤ row) × (row - opened ≤ closed + 1 - opened) × Wrote area₀ next₀ area next (runs (λ i. restore table (opened + i)) (row - opened))

@@ -1,7 +1,7 @@
 use borrow.Author.Tests.{le-leb, lt-leb}
-use Rattle.net_rows.specs.Rows.{late}
-use Rattle.net_rows.proofs.rows.late.Statement.{statement}
-use Rattle.net_rows.proofs.rows.late.Tie as tie
+use Rattle.net_loops.specs.Loops.{late}
+use Rattle.net_loops.proofs.late.Statement.{statement}
+use Rattle.net_loops.proofs.late.Tie as tie
 
 returns : tie.Need-returns
 unfolding late

@@ -1,9 +1,9 @@
 use Prim.Native.Nat.{ℕ, _*_}
 use mathlib.Core.Path.{ap}
-use Rattle.net_rows.specs.Rows.{entry}
+use Rattle.net_loops.specs.Loops.{entry}
 use borrow.Author.Needs.{needs}
-use Rattle.net_rows.proofs.rows.entry.Statement.{statement}
-use Rattle.net_rows.proofs.rows.entry.Tie as tie
+use Rattle.net_loops.proofs.entry.Statement.{statement}
+use Rattle.net_loops.proofs.entry.Tie as tie
 
 entered-row-requires : tie.Need-entered-row-requires
 entered-row-requires c κs = search needs

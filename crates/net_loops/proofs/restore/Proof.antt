@@ -2,11 +2,11 @@ use Prim.Native.Nat.{_+_, _*_}
 use mathlib.Core.Path.{ap, sym, _∙_}
 use borrow.Author.Tests.{eq-eqb, ne-eqb}
 use Rattle.net_records.specs.Records.{arc}
-use Rattle.net_rows.specs.Rows.{restore}
+use Rattle.net_loops.specs.Loops.{restore}
 use Rattle.net_records.proofs.Writing.{still, same, yes, no}
 use borrow.Author.Needs.{needs}
-use Rattle.net_rows.proofs.rows.restore.Statement.{statement}
-use Rattle.net_rows.proofs.rows.restore.Tie as tie
+use Rattle.net_loops.proofs.restore.Statement.{statement}
+use Rattle.net_loops.proofs.restore.Tie as tie
 
 kind-requires : tie.Need-kind-requires
 kind-requires c κs = search needs
