@@ -12,7 +12,8 @@ use Rattle.effbd.specs.Answers.{accepted, refused}
 use Rattle.effbd.specs.Diagrams.{Diagram, Kind, Row, Use, and-close, and-open, branch, countTotal, end, function, headFault, isKind, it-close, it-open, itemAt, itemFault, kind, loop-exit, lp-close, lp-open, or-close, or-open, plain, row, rowAt, rowCount, rowFault, rowFine, rowRight, usesAt}
 use Rattle.effbd.specs.Nesting.{afterItems, afterRows, exitMisplaced, firstFaulty, follows, inAndOr, innermostIs, nested, nestingBroken, nestingFault, readDiagram, someOpen, stack, standsAs, thirteenthOpen}
 use Rattle.effbd.specs.Records.{Got, areBytes, kindAt, lengthAt, lengthOf, readMany, word}
-use Rattle.agreement.specs.Basics.{all-intro, and-intro, and-left, and-right, clash, decide, least-found, not-false, not-true, or-split}
+use Rattle.ranges.specs.Tests.{and-intro, and-left, and-right, clash, decide, not-false, not-true, or-split}
+use Rattle.ranges.specs.RangeLaws.{all-intro, least-found}
 use Rattle.agreement.specs.ByteLaws.{Clean, adding-inv, bind-inv, bytes-drop, never, next-inv, none-clean, word-fits}
 use Rattle.agreement.specs.Nested.{mayStand, wellNested}
 

@@ -11,7 +11,8 @@ use Rattle.effbd.specs.Ranges.{only, within}
 use Rattle.effbd.specs.Nets.{Arc, arcDue, arcFine, above}
 use Rattle.effbd.specs.Firing.{weightAt, clearedAt}
 use Rattle.effbd.specs.Patterns.{arcsOf, clearRange, joinRange, rangesFrom}
-use Rattle.agreement.specs.Basics.{decide, and-intro, and-left, and-right, only-refl}
+use Rattle.ranges.specs.Tests.{decide, and-intro, and-left, and-right}
+use Rattle.ranges.specs.RangeLaws.{only-refl}
 use Rattle.agreement.specs.Formed.{fitsWord, arcsFine}
 
 pub weight-append : (k : ℕ) (a b : List Arc) (p : ℕ) → weightAt k (a ++ b) p ≡ weightAt k a p + weightAt k b p

@@ -10,7 +10,7 @@ use lib.Dec.{ltb}
 use borrow.Author.Tests.{ltb-true, ltb-false, lt-ltb, le-ltb}
 use Rattle.effbd.specs.Answers.{Outcome, accepted, andThen, refused, unless}
 use Rattle.effbd.specs.Records.{Got, adding, areBytes, faultAt, lengthAt, word, wordBytes}
-use Rattle.agreement.specs.Basics.{and-left, and-right, and-intro}
+use Rattle.ranges.specs.Tests.{and-left, and-right, and-intro}
 
 pub byte-at : (l : List ℕ) → areBytes l ≡ true → (i : ℕ) → getD l i 0 < 256
 unfolding areBytes

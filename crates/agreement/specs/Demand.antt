@@ -23,7 +23,7 @@ use Rattle.effbd.specs.Patterns.{netOf}
 use Rattle.effbd.specs.Records.{areBytes}
 use Rattle.effbd.specs.States.{freshWords}
 use Rattle.agreement.specs.AcceptedFiles.{Held, held}
-use Rattle.agreement.specs.Basics.{and-intro, clash, decide}
+use Rattle.ranges.specs.Tests.{and-intro, clash, decide}
 use Rattle.agreement.specs.Telegrams.{Telegram, telegram-back}
 use Rattle.agreement.specs.Reached.{fresh-good, fresh-net, file-step, after-move, Good, net-step, same-at}
 

@@ -16,7 +16,9 @@ use Rattle.effbd.specs.Moves.{endFunction, enough, startFunction, stepAs, sumsF
 use Rattle.effbd.specs.Patterns.{Pattern, atOnce, entryRow, none, nowhere, oneAt, patternsAs}
 use Rattle.effbd.specs.Ranges.{only, least}
 use Rattle.effbd.specs.States.{State, activate, enter, enteredRow, makeIdle, setCounts, setRunning, countAt}
-use Rattle.agreement.specs.Basics.{all-elim, all-find, cond-same, decide, kind-in, not-kind, only-refl, least-past}
+use Rattle.ranges.specs.Tests.{cond-same, decide}
+use Rattle.ranges.specs.RangeLaws.{all-elim, all-find, only-refl, least-past}
+use Rattle.agreement.specs.Basics.{kind-in, not-kind}
 use Rattle.agreement.specs.Invariant.{Inv, Sound, inv-with, sound-idle, sound-inv}
 use Rattle.agreement.specs.Matching.{Agree, Valid, early, fired, full, goes, stays, RowPlace, ready-le, bit-le, marks-fit-row, clock-kept}
 use Rattle.agreement.specs.Named.{after, enabled, namedImage, namedStepAt, lowestOver}

@@ -10,7 +10,8 @@ use Rattle.effbd.specs.Diagrams.{Diagram, and-close, and-open, branch, countTot
 use Rattle.effbd.specs.Image.{readyOrDone}
 use Rattle.effbd.specs.Nesting.{owner}
 use Rattle.effbd.specs.States.{State, activate, makeIdle}
-use Rattle.agreement.specs.Basics.{clash, decide, eq-same, same-eq}
+use Rattle.ranges.specs.Tests.{clash, decide}
+use Rattle.agreement.specs.Basics.{eq-same, same-eq}
 use Rattle.agreement.specs.Matching.{Valid}
 use Rattle.agreement.specs.Structure.{Fine, Par, par-irr, par-sym}
 use Rattle.agreement.specs.Tokens.{Fits}

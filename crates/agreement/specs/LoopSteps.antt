@@ -17,7 +17,9 @@ use Rattle.effbd.specs.Nesting.{close, inLoop, isClose, loop, owner}
 use Rattle.effbd.specs.Patterns.{Pattern, atOnce, entryRow, marksP, none, nowhere, oneAt, patternsAs}
 use Rattle.effbd.specs.Ranges.{only}
 use Rattle.effbd.specs.States.{State, activate, clearRows, enter, enteredRow, makeIdle, setTurns}
-use Rattle.agreement.specs.Basics.{clash, cond-same, decide, kind-in, not-kind, only-refl}
+use Rattle.ranges.specs.Tests.{clash, cond-same, decide}
+use Rattle.ranges.specs.RangeLaws.{only-refl}
+use Rattle.agreement.specs.Basics.{kind-in, not-kind}
 use Rattle.agreement.specs.Invariant.{Inv, Sound, inv-with, sound-fits, sound-idle, sound-inv}
 use Rattle.agreement.specs.Matching.{Agree, Valid, fired, goes, stays, token-clock}
 use Rattle.agreement.specs.Named.{after, enabled, namedFire, namedImage, namedStepAt}

@@ -16,7 +16,9 @@ use Rattle.effbd.specs.Nesting.{owner}
 use Rattle.effbd.specs.Patterns.{Pattern, atOnce, entryRow, marksP, noPattern, none, nowhere, oneAt, patterns}
 use Rattle.effbd.specs.Ranges.{only}
 use Rattle.effbd.specs.States.{State, activate, makeIdle}
-use Rattle.agreement.specs.Basics.{and-left, and-right, clash, cond-same, decide, kind-in, only-refl, same-eq}
+use Rattle.ranges.specs.Tests.{and-left, and-right, clash, cond-same, decide}
+use Rattle.ranges.specs.RangeLaws.{only-refl}
+use Rattle.agreement.specs.Basics.{kind-in, same-eq}
 use Rattle.agreement.specs.Refusals.{netNumber, netValue}
 use Rattle.agreement.specs.Named.{lowestOver, NamedState, after, allPlaces, enabled, namedFire, namedImage, namedStepAt}
 use Rattle.agreement.specs.Tokens.{Fits, Real, enabled-no, enabled-yes, moved-marks, places-elim, places-intro}

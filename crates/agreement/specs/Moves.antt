@@ -15,7 +15,8 @@ use Rattle.effbd.specs.Nesting.{isClose, owner}
 use Rattle.effbd.specs.Patterns.{patternsAs}
 use Rattle.effbd.specs.Ranges.{only}
 use Rattle.effbd.specs.States.{State, enteredRow, fresh}
-use Rattle.agreement.specs.Basics.{clash, decide, kind-in, not-kind, same-eq}
+use Rattle.ranges.specs.Tests.{clash, decide}
+use Rattle.agreement.specs.Basics.{kind-in, not-kind, same-eq}
 use Rattle.agreement.specs.FunctionSteps.{agree-fun}
 use Rattle.agreement.specs.Invariant.{Inv, sound-inv}
 use Rattle.agreement.specs.LoopSteps.{agree-it, agree-le}

@@ -12,7 +12,9 @@ use Rattle.effbd.specs.Diagrams.{Diagram, Kind, and-close, and-open, branch, en
 use Rattle.effbd.specs.Nesting.{Frame, branchOf, close, inAndOr, inLoop, innermost, innermostIs, innermostOpen, isClose, latestBranch, loop, noneOpen, owner, passing, pop, push, someOpen, stack, turnTo, twoBranches}
 use Rattle.effbd.specs.Ranges.{allBelow, only}
 use Rattle.effbd.specs.States.{enteredAs, enteredRow}
-use Rattle.agreement.specs.Basics.{all-elim, and-intro, and-left, and-right, clash, decide, eq-same, kind-in, least-found, ne-same, not-kind, only-refl, or-false-left, or-false-right, or-left, or-neither, or-right, or-split, same-eq}
+use Rattle.ranges.specs.Tests.{and-intro, and-left, and-right, clash, decide, or-false-left, or-false-right, or-left, or-neither, or-right, or-split}
+use Rattle.ranges.specs.RangeLaws.{all-elim, least-found, only-refl}
+use Rattle.agreement.specs.Basics.{eq-same, kind-in, ne-same, not-kind, same-eq}
 use Rattle.agreement.specs.Nested.{mayStand, wellNested}
 use Rattle.agreement.specs.Structure.{Fine, Laws, around, opens, side, sideIn}
 

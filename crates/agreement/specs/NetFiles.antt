@@ -10,7 +10,7 @@ use borrow.Author.Tests.{leb-true, eqb-true, eqb-false, le-leb, lt-leb, eq-eqb, 
 use Rattle.effbd.specs.Answers.{Outcome, accepted, refused, unless}
 use Rattle.effbd.specs.Nets.{Arc, Net, Tail, Transition, above, afterPlaces, arcAt, arcBytes, arcDue, arcFault, arcFine, markBytes, markFault, netBytes, netHeadFault, netWith, readNet, readTail, transitionAt, transitionBytes, transitionFault, transitionFine, withArc, withTransition, noTail}
 use Rattle.effbd.specs.Records.{entryIn, kindTable, Got, areBytes, kindAt, lengthAt, lengthOf, readMany, word, wordBytes}
-use Rattle.agreement.specs.Basics.{and-intro, and-left, and-right, decide}
+use Rattle.ranges.specs.Tests.{and-intro, and-left, and-right, decide}
 use Rattle.agreement.specs.ByteLaws.{Clean, adding-inv, bind-inv, bytes-drop, clean-none, never, next-inv, none-clean, of-two, two-at, word-fits}
 use Rattle.agreement.specs.Formed.{arcsFine, fitsWord, marksFine, transitionsFine, wellFormed}
 

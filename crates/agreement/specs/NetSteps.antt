@@ -15,9 +15,8 @@ use Rattle.effbd.specs.Nets.{Arc}
 use Rattle.effbd.specs.Patterns.{Name, arcsOf, names, netOf, transitionOf, patternOf, rangesFrom, freshMark}
 use Rattle.effbd.specs.Ranges.{allBelow, least, only, tabulate}
 use Rattle.agreement.specs.AcceptedFiles.{AllOf}
-use Rattle.agreement.specs.Basics.{least-ext}
+use Rattle.ranges.specs.RangeLaws.{least-ext, all-ext, tab-ext, length-tab}
 use Rattle.agreement.specs.Named.{behaviour, lift}
-use Rattle.agreement.specs.Numbering.{all-ext, tab-ext, length-tab}
 use Rattle.agreement.specs.Arcs.{cleared-own, weight-append, weight-own, weight-clear, weight-other, cleared-append, cleared-none}
 
 pub record Alike (N : ℕ) (t u : Effect) : Type 0 where

@@ -16,23 +16,11 @@ use Rattle.effbd.specs.Firing.{Effect, NetState, covers, fire, fireLowest, fire
 use Rattle.effbd.specs.Layout.{Count, P, Place, Q, R, placeOf}
 use Rattle.effbd.specs.Patterns.{Name, Pattern, names, noPattern, patterns, patternsAs}
 use Rattle.effbd.specs.Ranges.{allBelow, only, tabulate, least}
-use Rattle.agreement.specs.Basics.{all-elim, all-intro, and-intro, and-left, and-right, clash, decide, only-refl, least-ext, not-not}
+use Rattle.ranges.specs.Tests.{and-intro, and-left, and-right, clash, decide, not-not}
+use Rattle.ranges.specs.RangeLaws.{all-elim, all-intro, only-refl, least-ext, all-ext, getD-tab, length-tab, tab-ext}
 use Rattle.agreement.specs.Named.{NamedState, after, allPlaces, behaviour, enabled, flatNet, lift, namedFire, namedLets, namedStep, namedStepAt, namedTick, namedWait, lowestOver}
 use Rattle.agreement.specs.Matching.{RowPlace}
 use Rattle.agreement.specs.Tokens.{Real, places-elim, places-intro}
-
-pub getD-tab : {A : Type 0} (n : ℕ) (f : ℕ → A) (i : ℕ) (z : A) → i < n → getD (tabulate n f) i z ≡ f i
-getD-tab zero f i z l = absurd (omega arith)
-getD-tab (suc n) f zero z l = refl
-getD-tab (suc n) f (suc i) z l = getD-tab n (λ x. f (suc x)) i z (omega arith)
-
-pub length-tab : {A : Type 0} (n : ℕ) (f : ℕ → A) → length (tabulate n f) ≡ n
-length-tab zero f = refl
-length-tab (suc n) f = ap suc (length-tab n (λ x. f (suc x)))
-
-pub tab-ext : {A : Type 0} (n : ℕ) (f g : ℕ → A) → ((i : ℕ) → i < n → f i ≡ g i) → tabulate n f ≡ tabulate n g
-tab-ext zero f g h = refl
-tab-ext (suc n) f g h = ap₂ _∷_ (h zero (omega arith)) (tab-ext n (λ x. f (suc x)) (λ x. g (suc x)) (λ i l. h (suc i) (omega arith)))
 
 pub length-map : {A B : Type 0} (f : A → B) (l : List A) → length (map f l) ≡ length l
 length-map f [] = refl
@@ -42,10 +30,6 @@ pub getD-map : {A B : Type 0} (f : A → B) (l : List A) (x : ℕ) (a : A) (b : 
 getD-map f [] x a b l = absurd (omega arith)
 getD-map f (y ∷ ys) zero a b l = refl
 getD-map f (y ∷ ys) (suc x) a b l = getD-map f ys x a b (omega arith)
-
-pub all-ext : (n : ℕ) (f g : ℕ → Bool) → ((i : ℕ) → i < n → f i ≡ g i) → allBelow n f ≡ allBelow n g
-all-ext zero f g h = refl
-all-ext (suc n) f g h = ap₂ _&&_ (h n (omega arith)) (all-ext n f g (λ i l. h i (omega arith)))
 
 module _ (d : Diagram) where
   pub place-P : (r : ℕ) → r < rowCount d → placeOf d (3 * r) ≡ P r

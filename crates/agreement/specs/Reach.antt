@@ -11,7 +11,9 @@ use Rattle.effbd.specs.Ranges.{allBelow}
 use Rattle.effbd.specs.Diagrams.{Diagram, Kind, function, and-open, branch, and-close, or-open, or-close, it-open, it-close, lp-open, lp-close, loop-exit, end, numberOf, rowCount, kind, isKind, sameKind}
 use Rattle.effbd.specs.Nesting.{Frame, pop, innermostOpen, latestBranch, stack, owner, branchEnded, isClose, close, branchOf, innermostIs, inAndOr}
 use Rattle.effbd.specs.States.{enteredAs, enteredRow}
-use Rattle.agreement.specs.Basics.{decide, clash, kind-in, and-left, and-right, same-eq, eq-same, or-left, or-split, only-refl}
+use Rattle.ranges.specs.Tests.{decide, clash, and-left, and-right, or-left, or-split}
+use Rattle.ranges.specs.RangeLaws.{only-refl}
+use Rattle.agreement.specs.Basics.{kind-in, same-eq, eq-same}
 use Rattle.agreement.specs.Nested.{mayStand, wellNested}
 use Rattle.agreement.specs.Structure.{opens, Laws}
 use Rattle.agreement.specs.NestingLaws.{Good, good, laws, ruled, has, absent, gone, Top, top-by, owner-top}

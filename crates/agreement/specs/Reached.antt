@@ -20,13 +20,13 @@ use Rattle.effbd.specs.Ranges.{tabulate}
 use Rattle.effbd.specs.Records.{areBytes}
 use Rattle.effbd.specs.States.{freshWords, stateOf, stateWords}
 use Rattle.agreement.specs.AcceptedFiles.{Held, held}
-use Rattle.agreement.specs.Basics.{decide}
+use Rattle.ranges.specs.Tests.{decide}
+use Rattle.ranges.specs.RangeLaws.{length-tab}
 use Rattle.agreement.specs.ByteLaws.{never}
 use Rattle.agreement.specs.Moves.{Words, rowAsked}
 use Rattle.agreement.specs.Named.{behaviour, flatNet, namedFresh, movesFrom}
 use Rattle.agreement.specs.NetFiles.{read-back}
 use Rattle.agreement.specs.NetSteps.{many-marks, table-steps}
-use Rattle.agreement.specs.Numbering.{length-tab}
 use Rattle.agreement.specs.StateCheck.{valid-proper}
 use Rattle.agreement.specs.StateWords.{Kept, start-image, start-kept, WordsAgree, words-agree}
 use Rattle.agreement.specs.WellFormed.{well-made}

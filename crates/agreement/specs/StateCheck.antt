@@ -9,7 +9,9 @@ use borrow.Author.Tests.{eqb-false, le-leb, eq-eqb}
 use Rattle.effbd.specs.Diagrams.{Diagram, Kind, and-close, and-open, branch, end, function, isKind, it-close, it-open, kind, loop-exit, lp-close, lp-open, or-close, or-open, row, rowCount, sameKind}
 use Rattle.effbd.specs.Nesting.{owner}
 use Rattle.effbd.specs.States.{State, activityFine, rowPasses, statePasses}
-use Rattle.agreement.specs.Basics.{all-intro, and-intro, clash, decide, eq-same, not-kind, or-left, or-right}
+use Rattle.ranges.specs.Tests.{and-intro, clash, decide, or-left, or-right}
+use Rattle.ranges.specs.RangeLaws.{all-intro}
+use Rattle.agreement.specs.Basics.{eq-same, not-kind}
 use Rattle.agreement.specs.Matching.{Valid}
 
 module _ (d : Diagram) (s : State) (v : Valid d s) (q : ℕ) where

@@ -17,13 +17,14 @@ use Rattle.effbd.specs.Moves.{Move, move, moveWords, no-move, step-row, wait-ti
 use Rattle.effbd.specs.Patterns.{Name, names}
 use Rattle.effbd.specs.Ranges.{tabulate}
 use Rattle.effbd.specs.States.{State, fresh, stateOf, stateWords}
-use Rattle.agreement.specs.Basics.{decide}
+use Rattle.ranges.specs.Tests.{decide}
+use Rattle.ranges.specs.RangeLaws.{getD-tab, tab-ext, length-tab}
 use Rattle.agreement.specs.Invariant.{Inv}
 use Rattle.agreement.specs.Matching.{Agree, Valid}
 use Rattle.agreement.specs.Moves.{Words, fresh-image, fresh-inv, moves-agree, rowAsked}
 use Rattle.agreement.specs.Named.{NamedState, behaviour, flatNet, namedFresh, namedImage, namedMove}
 use Rattle.agreement.specs.Nested.{wellNested}
-use Rattle.agreement.specs.Numbering.{none, ans, getD-tab, map-tab, name-at, place-I, place-P, place-Q, place-R, place-real, step-flat, tab-ext, wait-flat, length-tab}
+use Rattle.agreement.specs.Numbering.{none, ans, map-tab, name-at, place-I, place-P, place-Q, place-R, place-real, step-flat, wait-flat}
 use Rattle.agreement.specs.Tokens.{Real}
 use Rattle.agreement.specs.Refusals.{netNumber, netValue}
 

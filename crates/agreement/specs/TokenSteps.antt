@@ -14,7 +14,9 @@ use Rattle.effbd.specs.Nesting.{branchOf, owner, close, isClose}
 use Rattle.effbd.specs.Patterns.{atOnce, marksP, nowhere, patternsAs}
 use Rattle.effbd.specs.Ranges.{allBelow, only}
 use Rattle.effbd.specs.States.{State, activate, branchEntries, enteredRow, makeIdle}
-use Rattle.agreement.specs.Basics.{all-elim, all-find, and-left, and-right, clash, decide, kind-in, not-false, not-kind, not-true, only-refl, or-false-left, or-false-right, same-eq}
+use Rattle.ranges.specs.Tests.{and-left, and-right, clash, decide, not-false, not-true, or-false-left, or-false-right}
+use Rattle.ranges.specs.RangeLaws.{all-elim, all-find, only-refl}
+use Rattle.agreement.specs.Basics.{kind-in, not-kind, same-eq}
 use Rattle.agreement.specs.Invariant.{Inv, Sound, sound-fits, sound-inv}
 use Rattle.agreement.specs.Matching.{Agree, agree-tokens}
 use Rattle.agreement.specs.Named.{namedImage, namedStepAt}

@@ -12,7 +12,8 @@ use Rattle.effbd.specs.Layout.{Count, P, Place, Q, R}
 use Rattle.effbd.specs.Patterns.{Pattern, marksP}
 use Rattle.effbd.specs.Ranges.{allBelow}
 use Rattle.effbd.specs.States.{State, activate, makeIdle}
-use Rattle.agreement.specs.Basics.{all-elim, all-intro, and-intro, and-left, and-right, decide}
+use Rattle.ranges.specs.Tests.{and-intro, and-left, and-right, decide}
+use Rattle.ranges.specs.RangeLaws.{all-elim, all-intro}
 use Rattle.agreement.specs.Named.{allPlaces, enabled}
 
 module _ (d : Diagram) where

@@ -17,7 +17,9 @@ use Rattle.effbd.specs.Nesting.{branchOf, close, owner}
 use Rattle.effbd.specs.Patterns.{Pattern, atOnce, entryRow, marksP, noPattern, none, nowhere, oneAt, patterns, patternsAs}
 use Rattle.effbd.specs.Ranges.{allBelow, only}
 use Rattle.effbd.specs.States.{State}
-use Rattle.agreement.specs.Basics.{all-elim, all-fail, all-find, all-intro, and-intro, and-left, and-right, clash, decide, kind-in, not-false, not-kind, not-true, only-refl, or-left, or-right, or-split, same-eq}
+use Rattle.ranges.specs.Tests.{and-intro, and-left, and-right, clash, decide, not-false, not-true, or-left, or-right, or-split}
+use Rattle.ranges.specs.RangeLaws.{all-elim, all-fail, all-find, all-intro, only-refl}
+use Rattle.agreement.specs.Basics.{kind-in, not-kind, same-eq}
 use Rattle.agreement.specs.Invariant.{Inv}
 use Rattle.agreement.specs.Matching.{Agree, Valid, second-enabled}
 use Rattle.agreement.specs.Named.{NamedState, enabled, namedImage, namedLets, namedTick, namedWait}

@@ -15,9 +15,9 @@ use Rattle.effbd.specs.Patterns.{Name, Pattern, arcsOf, atOnce, entryRow, names
 use Rattle.effbd.specs.Ranges.{only, tabulate}
 use Rattle.effbd.specs.States.{branchEntries}
 use Rattle.agreement.specs.AcceptedFiles.{AllOf, Held, all-at}
-use Rattle.agreement.specs.Basics.{and-intro, and-left, and-right, decide}
+use Rattle.ranges.specs.Tests.{and-intro, and-left, and-right, decide}
+use Rattle.ranges.specs.RangeLaws.{length-tab}
 use Rattle.agreement.specs.Formed.{arcsFine, marksFine, transitionsFine, wellFormed}
-use Rattle.agreement.specs.Numbering.{length-tab}
 use Rattle.agreement.specs.Arcs.{arcs-made, later, ranges-made}
 use Rattle.agreement.specs.NetSteps.{many-marks}
 

@@ -18,7 +18,7 @@ use Rattle.effbd.specs.Nets.{Arc, Transition, Net, arcBytes, transitionBytes, m
 use Rattle.effbd.specs.Patterns.{Name, arcsOf, joinRange, rangesFrom, names, patternOf, transitionOf, netOf, written, translatedAs, translated}
 use Rattle.effbd.specs.Annex.{number, numbers, line, tLetter, labelLetters, fromLetters, toLetters, arcLetters, arcLines, transitionLines, netLines, printed, fitted, annexIn, netLetters, marksLetters}
 use Rattle.agreement.specs.AcceptedFiles.{AllOf}
-use Rattle.agreement.specs.Basics.{decide}
+use Rattle.ranges.specs.Tests.{decide}
 use Rattle.agreement.specs.ByteLaws.{of-two}
 use Rattle.annex_text.specs.Lines.{recordLine, recordSize, transitionsAt, recordLines, markNumbers, netText, answerText}
 use Rattle.annex_text.specs.RecordLaws.{arc-of, arc-line, arc-size, arc-counts, transition-words, transition-line, transition-size, transition-counts}

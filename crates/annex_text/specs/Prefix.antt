@@ -14,7 +14,7 @@ use Rattle.effbd.specs.Diagrams.{Row, Use, headFault, itemAt, itemFault, rowAt,
 use Rattle.effbd.specs.Nesting.{afterItems, afterRows, readDiagram}
 use Rattle.effbd.specs.Annex.{annexIn}
 use Rattle.words.proofs.KindTable.{short}
-use Rattle.agreement.specs.Basics.{decide, and-left, and-right}
+use Rattle.ranges.specs.Tests.{decide, and-left, and-right}
 use Rattle.agreement.specs.ByteLaws.{none-clean, next-inv, adding-inv}
 
 -- the fields of a record are those of its first bytes

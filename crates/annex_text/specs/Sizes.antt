@@ -16,7 +16,7 @@ use Rattle.effbd.specs.Nets.{Arc, Transition, Net, arcBytes, transitionBytes, m
 use Rattle.effbd.specs.Patterns.{Name, arcsOf, joinRange, rangesFrom, names, patternOf, transitionOf, netOf}
 use Rattle.effbd.specs.Annex.{digits, number, numbers, line, tLetter, labelLetters, fromLetters, toLetters, arcLetters, arcLines, transitionLines, netLines, printed, fitted, annexIn}
 use Rattle.agreement.specs.AcceptedFiles.{AllOf, Held, held}
-use Rattle.agreement.specs.Basics.{decide, and-left, and-right}
+use Rattle.ranges.specs.Tests.{decide, and-left, and-right}
 use Rattle.agreement.specs.ByteLaws.{bind-inv, never}
 use Rattle.agreement.specs.Formed.{marksFine, transitionsFine, wellFormed}
 use Rattle.agreement.specs.WellFormed.{well-made}

@@ -11,7 +11,8 @@ use borrow.Author.Tests.{lt-ltb, le-ltb, le-leb, eqb-true}
 use Rattle.effbd.specs.Ranges.{allBelow}
 use Rattle.effbd.specs.Records.{word}
 use Rattle.effbd.specs.Diagrams.{usesAt}
-use Rattle.agreement.specs.Basics.{all-intro, and-left, and-right, and-intro}
+use Rattle.ranges.specs.Tests.{and-left, and-right, and-intro}
+use Rattle.ranges.specs.RangeLaws.{all-intro}
 use Rattle.diagram_table.specs.Cells.{kindIn, firstIn}
 use Rattle.diagram_moves.specs.Decisions.{activityAllowed, turnsAllowed, clockAllowed, countPlace, exceeds, blockedItem, doneAt, doneFrom}
 use Rattle.diagram_moves.specs.UseLaws.{uses-more, uses-none}

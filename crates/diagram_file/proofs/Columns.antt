@@ -13,7 +13,8 @@ use borrow.Author.Tests.{eqb-true, eqb-false, eq-eqb, ne-eqb}
 use Rattle.effbd.specs.Answers.{accepted}
 use Rattle.effbd.specs.Diagrams.{lp-open, numberOf, Diagram, rowCount, kind}
 use Rattle.effbd.specs.Nesting.{Frame, turnTo, innermostOpen, latestBranch, stack, owner, branchEnded, innermost, loop, close, isClose, nested}
-use Rattle.agreement.specs.Basics.{decide, clash, least-is, least-none}
+use Rattle.ranges.specs.Tests.{decide, clash}
+use Rattle.ranges.specs.RangeLaws.{least-is, least-none}
 use Rattle.diagram_file.specs.declared.structure.Around.{Around}
 use Rattle.nesting.specs.declared.Part.{Part}
 use Rattle.nesting.specs.declared.Part.the-variants.{Opens, Turns, Closes, Stays}

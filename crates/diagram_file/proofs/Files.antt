@@ -14,7 +14,8 @@ use Rattle.effbd.specs.Answers.{Outcome, accepted, refused, unless, andThen}
 use Rattle.effbd.specs.Records.{word, lengthAt, kindAt, kindTable, entryIn, lengthOf, Got, adding, readMany}
 use Rattle.effbd.specs.Diagrams.{function, end, numberOf, sameKind, kindOf, Row, plain, Diagram, rowCount, row, isKind, headFault, itemFault, itemAt, usesAt, rowAt, rowRight, rowFine, rowFault}
 use Rattle.effbd.specs.Nesting.{nested, afterRows, afterItems, readDiagram, skip, fromRow}
-use Rattle.agreement.specs.Basics.{decide, and-left, and-right, all-elim}
+use Rattle.ranges.specs.Tests.{decide, and-left, and-right}
+use Rattle.ranges.specs.RangeLaws.{all-elim}
 use Rattle.agreement.specs.ByteLaws.{Clean, none-clean}
 use Rattle.diagram_file.specs.declared.records.Reached.{Reached}
 use Rattle.diagram_file.specs.Reading.{Stopped, ItemsRead, RowsRead, column, recordRows, recordItems, readRecords, Tabulated, Recorded}

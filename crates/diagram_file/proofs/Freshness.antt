@@ -15,21 +15,12 @@ use Rattle.effbd.specs.Diagrams.{Kind, function, and-open, branch, and-close, o
 use Rattle.effbd.specs.Nesting.{stack, owner, nested}
 use Rattle.effbd.specs.Layout.{byPlace, places, placeOf}
 use Rattle.effbd.specs.States.{stateWords, enteredAs, enteredRow, fresh, freshWords}
-use Rattle.agreement.specs.Basics.{decide, clash, and-left, and-right}
+use Rattle.ranges.specs.RangeLaws.{length-tab, getD-tab}
+use Rattle.ranges.specs.Tests.{decide, clash, and-left, and-right}
 use Rattle.nesting.specs.Runs.{partOf}
 use Rattle.diagram_file.specs.Tables.{Holds, countsPut, freshPut, FreshOf, Freshened}
 use Rattle.nesting.proofs.Rules.{ending}
 use Rattle.nesting.proofs.Stacks.{does, held}
-
--- tables of numbers
-table-length : (n : ℕ) (f : ℕ → ℕ) → length (tabulate n f) ≡ n
-table-length zero f = refl
-table-length (suc n) f = ap suc (table-length n (λ i. f (suc i)))
-
-table-at : (n : ℕ) (f : ℕ → ℕ) (i : ℕ) → i < n → getD (tabulate n f) i 0 ≡ f i
-table-at zero f i l = absurd (omega arith)
-table-at (suc n) f zero l = refl
-table-at (suc n) f (suc i) l = table-at n (λ j. f (suc j)) i (omega arith)
 
 -- a list of zeros
 abbrev pub allZero : List ℕ → Bool
@@ -156,8 +147,8 @@ module _ (d : Diagram) (acc : nested d ≡ accepted d) (some : 0 < rowCount d) w
         let long = put-long in
         let size : length (take (places d) put) ≡ places d = simp (length-take) (omega arith) in
         record {
-          words = ext-getD 0 (take (places d) put) (tabulate (places d) fresh-word) (size ∙ sym (table-length (places d) fresh-word))
-              (λ i l. getD-take (places d) put i 0 (omega arith) ∙ (word-is i (omega arith) ∙ sym (table-at (places d) fresh-word i (omega arith))));
+          words = ext-getD 0 (take (places d) put) (tabulate (places d) fresh-word) (size ∙ sym (length-tab (places d) fresh-word))
+              (λ i l. getD-take (places d) put i 0 (omega arith) ∙ (word-is i (omega arith) ∙ sym (getD-tab (places d) fresh-word i 0 (omega arith))));
           behind = λ i l. put-behind i (omega arith);
         }
 

@@ -13,7 +13,7 @@ use borrow.Author.Tests.{leb-true, eqb-true, eqb-false}
 use Rattle.effbd.specs.Records.{word, lengthAt, kindAt, kindTable, entryIn, lengthOf}
 use Rattle.effbd.specs.Diagrams.{itemFault, itemAt, rowAt, rowRight, rowFine, rowFault}
 use Rattle.effbd.specs.Nesting.{skip}
-use Rattle.agreement.specs.Basics.{decide, and-left, and-right}
+use Rattle.ranges.specs.Tests.{decide, and-left, and-right}
 use Rattle.agreement.specs.ByteLaws.{none-clean}
 use Rattle.diagram_file.specs.Cells.{Cell, cell}
 use Rattle.diagram_file.specs.Reading.{Reading, Stopped, FilledRows, Kept, ItemsState, ItemsRead, RowsState, RowsRead, column, putRow, fillRow}

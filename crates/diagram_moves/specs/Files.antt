@@ -17,7 +17,7 @@ use Rattle.effbd.specs.Layout.{places}
 use Rattle.effbd.specs.States.{stateWords, freshWords}
 use Rattle.effbd.specs.Moves.{stepDiagram, freshDiagram}
 use Rattle.diagram_file.specs.Tables.{refusalNumber, refusalValue, HoldsFile, FreshOf}
-use Rattle.agreement.specs.Numbering.{length-tab}
+use Rattle.ranges.specs.RangeLaws.{length-tab}
 use Rattle.agreement.specs.AcceptedFiles.{held}
 use Rattle.diagram_moves.specs.Changes.{tableOutcome}
 use Rattle.diagram_moves.specs.FunctionMoves.{Small}

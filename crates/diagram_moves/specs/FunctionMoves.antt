@@ -15,7 +15,8 @@ use Rattle.effbd.specs.Diagrams.{Diagram, Kind, Use, function, row, rowCount, c
 use Rattle.effbd.specs.States.{State, enter, makeIdle, setCounts, setRunning}
 use Rattle.effbd.specs.Moves.{enough, sumsFit, startFunction, endFunction, stepAs, wordsOutcome}
 use Rattle.diagram_file.specs.Tables.{Holds, HoldsUses}
-use Rattle.agreement.specs.Basics.{decide, and-right, all-elim, least-ext, not-not}
+use Rattle.ranges.specs.Tests.{decide, and-right, not-not}
+use Rattle.ranges.specs.RangeLaws.{all-elim, least-ext}
 use Rattle.agreement.specs.AcceptedFiles.{AllOf, Held}
 use Rattle.diagram_table.specs.Cells.{usesIn}
 use Rattle.diagram_moves.specs.Decisions.{exceeds, added, changed, blockedItem, startVerdict, endVerdict, functionVerdict}

@@ -12,7 +12,8 @@ use borrow.Author.Tests.{ltb-true, ltb-false, lt-ltb, le-ltb, eqb-true, eqb-fals
 use Rattle.effbd.specs.Ranges.{allBelow, only}
 use Rattle.effbd.specs.Diagrams.{Diagram, rowCount}
 use Rattle.effbd.specs.States.{State, activityAt, clockAt, makeIdle, clearRows}
-use Rattle.agreement.specs.Basics.{decide, only-refl, and-intro, all-elim, all-intro}
+use Rattle.ranges.specs.Tests.{decide, and-intro}
+use Rattle.ranges.specs.RangeLaws.{only-refl, all-elim, all-intro}
 use Rattle.diagram_moves.specs.Changes.{fold, startingAt, rowSet, clearTurn}
 use Rattle.diagram_moves.specs.Stores.{Reads, like, set-row, set-turns, set-clock}
 

@@ -13,9 +13,10 @@ use Rattle.effbd.specs.Ranges.{only}
 use Rattle.effbd.specs.Diagrams.{Diagram, rowCount, countTotal}
 use Rattle.effbd.specs.Layout.{Place, P, Q, R, Count, byPlace, placeOf, places}
 use Rattle.effbd.specs.States.{State, activityAt, turnsAt, clockAt, countAt, stateWords, stateOf, setTurns}
-use Rattle.agreement.specs.Basics.{decide}
+use Rattle.ranges.specs.Tests.{decide}
+use Rattle.ranges.specs.RangeLaws.{getD-tab, length-tab}
 use Rattle.agreement.specs.Tokens.{Real}
-use Rattle.agreement.specs.Numbering.{getD-tab, length-tab, place-real}
+use Rattle.agreement.specs.Numbering.{place-real}
 use Rattle.diagram_moves.specs.Changes.{rowSet}
 
 -- one store, read back: j is the place stored to, or not, by the test t

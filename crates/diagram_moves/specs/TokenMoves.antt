@@ -16,8 +16,9 @@ use Rattle.effbd.specs.States.{State, enteredRow, activate, enter, branchEntrie
 use Rattle.effbd.specs.Moves.{allDone, ifReady, wordsOutcome}
 use Rattle.diagram_file.specs.Tables.{Holds}
 use Rattle.diagram_file.proofs.HeldCells.{entered-cell, branch-cell}
-use Rattle.agreement.specs.Basics.{decide, and-left, all-intro, all-elim, all-fail, all-find, same-eq, not-kind}
-use Rattle.agreement.specs.Numbering.{all-ext}
+use Rattle.ranges.specs.Tests.{decide, and-left}
+use Rattle.ranges.specs.RangeLaws.{all-intro, all-elim, all-fail, all-find, all-ext}
+use Rattle.agreement.specs.Basics.{same-eq, not-kind}
 use Rattle.agreement.specs.Nested.{wellNested}
 use Rattle.diagram_table.specs.Cells.{kindIn}
 use Rattle.diagram_moves.specs.Decisions.{doneAt, doneFrom, allDoneTo, readyVerdict}

@@ -11,7 +11,8 @@ use Rattle.effbd.specs.Ranges.{allBelow, least, only}
 use Rattle.effbd.specs.Diagrams.{Diagram, Use, countTotal, rowCount, takeOf, giveOf, usesAt, usesFine}
 use Rattle.effbd.specs.Records.{word}
 use Rattle.effbd.specs.States.{State, countAt, setCounts}
-use Rattle.agreement.specs.Basics.{decide, clash, only-refl, and-left, and-right, all-elim, all-find, least-found, least-is, least-none, least-ext, not-true, not-false, or-false-right}
+use Rattle.ranges.specs.Tests.{decide, clash, and-left, and-right, not-true, not-false, or-false-right}
+use Rattle.ranges.specs.RangeLaws.{only-refl, all-elim, all-find, least-found, least-is, least-none, least-ext}
 use Rattle.diagram_moves.specs.Decisions.{countPlace, amountOf, exceeds, changed, blockedItem}
 use Rattle.diagram_moves.specs.Changes.{countsChanged}
 use Rattle.diagram_moves.specs.Stores.{Reads, like, set-count}

@@ -17,8 +17,9 @@ use Rattle.effbd.specs.States.{State, turnsAt, stateOf, enteredAs, enteredRow, 
 use Rattle.effbd.specs.Moves.{moveOf, passTicks, enough, allDone, ifReady, stepAs, step, holdsAs, wait, move, wordsOutcome, moveWords, checkedMove}
 use Rattle.diagram_file.specs.Tables.{Holds, HoldsUses}
 use Rattle.diagram_file.proofs.HeldCells.{owner-in}
-use Rattle.agreement.specs.Basics.{decide, clash, kind-in, and-left, all-elim, not-kind, or-false-right}
-use Rattle.agreement.specs.Numbering.{all-ext}
+use Rattle.ranges.specs.Tests.{decide, clash, and-left, or-false-right}
+use Rattle.ranges.specs.RangeLaws.{all-elim, all-ext}
+use Rattle.agreement.specs.Basics.{kind-in, not-kind}
 use Rattle.agreement.specs.Structure.{opens, Laws}
 use Rattle.agreement.specs.NestingLaws.{laws}
 use Rattle.agreement.specs.AcceptedFiles.{Held}

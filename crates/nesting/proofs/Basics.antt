@@ -6,7 +6,7 @@ use mathlib.Core.Bool.{Bool}
 use native.Mathlib.Omega.{arith}
 use Rattle.effbd.specs.Ranges.{least}
 use Rattle.effbd.specs.Answers.{Outcome, refused, unless}
-use Rattle.agreement.specs.Basics.{decide}
+use Rattle.ranges.specs.Tests.{decide}
 
 pub least-low : (n : ℕ) (f : ℕ → Bool) → least n f ≤ n
 least-low zero f = omega arith

@@ -12,7 +12,8 @@ use Rattle.effbd.specs.Answers.{accepted, refused}
 use Rattle.effbd.specs.Ranges.{least, only}
 use Rattle.effbd.specs.Diagrams.{lp-open, end, numberOf, Diagram, rowCount, kind, isKind}
 use Rattle.effbd.specs.Nesting.{Frame, pop, innermostOpen, stack, owner, isClose, close, innermost, loop, follows, standsAs, nestingBroken, exitMisplaced, thirteenthOpen, nestingFault, firstFaulty, nested}
-use Rattle.agreement.specs.Basics.{decide, clash, or-false-right, least-found}
+use Rattle.ranges.specs.Tests.{decide, clash, or-false-right}
+use Rattle.ranges.specs.RangeLaws.{least-found}
 use Rattle.agreement.specs.ByteLaws.{never}
 use Rattle.nesting.specs.declared.Part.{Part}
 use Rattle.nesting.specs.declared.Part.the-variants.{Opens, Turns, Closes, Stays}

@@ -13,7 +13,8 @@ use Rattle.effbd.specs.Answers.{accepted, unless}
 use Rattle.effbd.specs.Ranges.{least}
 use Rattle.effbd.specs.Diagrams.{Diagram, numberOf, rowCount, kind}
 use Rattle.effbd.specs.Nesting.{Frame, stack, nestingFault, firstFaulty, nested}
-use Rattle.agreement.specs.Basics.{decide, least-is, least-none}
+use Rattle.ranges.specs.Tests.{decide}
+use Rattle.ranges.specs.RangeLaws.{least-is, least-none}
 use Rattle.nesting.specs.declared.Part.{Part}
 use Rattle.nesting.specs.declared.Part.the-variants.{Opens, Turns, Closes, Stays}
 use Rattle.nesting.specs.declared.Open.{Open}

@@ -8,7 +8,8 @@ use lib.ListN.{length, drop, length-drop}
 use lib.Seq.{drop-drop}
 use lib.Dec.{leb, eqb}
 use borrow.Author.Tests.{leb-true, eqb-true, eqb-false, le-leb}
-use Rattle.words.proofs.Tests.{decide, and-left, and-right, and-both}
+use Rattle.ranges.specs.Tests.{decide, and-left, and-right, and-intro}
+use Rattle.ranges.specs.RangeLaws.{length-tab}
 use Rattle.effbd.specs.Ranges.{tabulate}
 use Rattle.effbd.specs.Answers.{accepted}
 use Rattle.effbd.specs.Records.{word, lengthAt, kindAt, lengthOf, kindTable, entryIn, Got, readMany}
@@ -16,7 +17,6 @@ use Rattle.effbd.specs.Nets.{Arc, Transition, Net, takeArc, arcDue, above, arcA
 use Rattle.effbd.specs.Firing.{netWordCount}
 use Rattle.net_file.specs.Due.{arcNext}
 use Rattle.net_file.specs.Contents.{arcHere, arcsIn, pastArcs, transitionIn, afterTransition, transitionsIn, behindPlaces, arcsFine, transitionsFine}
-use Rattle.agreement.specs.Numbering.{length-tab}
 use Rattle.agreement.specs.ByteLaws.{none-clean, never, next-inv, bind-inv, adding-inv}
 use Rattle.agreement.specs.NetFiles.{withArc-inv, withTrans-inv, netWith-inv}
 use Rattle.net_file.proofs.Tails.{ArcRead, arc-read, TransitionRead, transition-read, tail-arc, tail-end, tail-over, tail-transition}
@@ -40,12 +40,12 @@ module _ (count total : ℕ) where
   read-arc k from label more rest u r ih = record {
     arcs = ap (λ (xs : List Arc). arcAt rest ∷ xs) (ih .arcs) ∙ sym (arcs-more rest here);
     transitions = ih .transitions ∙ ap (transitionsIn more) (sym (past-more rest here));
-    rising = and-both (and-both (le-leb k (kindAt rest) (r .rising)) (le-leb (kindAt rest) 37 (r .kinds .most))) (and-both (r .fine) (ih .rising));
+    rising = and-intro (and-intro (le-leb k (kindAt rest) (r .rising)) (le-leb (kindAt rest) 37 (r .kinds .most))) (and-intro (r .fine) (ih .rising));
     fine = ih .fine;
   }
     where
       here : arcHere rest ≡ true
-      here = and-both (le-leb 8 (length rest) (r .whole)) (and-both (le-leb 35 (kindAt rest) (r .kinds .least)) (le-leb (kindAt rest) 37 (r .kinds .most)))
+      here = and-intro (le-leb 8 (length rest) (r .whole)) (and-intro (le-leb 35 (kindAt rest) (r .kinds .least)) (le-leb (kindAt rest) 37 (r .kinds .most)))
 
   no-arc : (rest : List ℕ) → kindAt rest ≡ 34 → arcHere rest ≡ false
   unfolding arcHere arcDue
@@ -62,7 +62,7 @@ module _ (count total : ℕ) where
     arcs = sym (arcs-done rest (no-arc rest (r .kind)));
     transitions = rw (past-done rest (no-arc rest (r .kind)), ih .arcs, ih .transitions);
     rising = refl;
-    fine = and-both (r .fine) (and-both (ih .rising) (ih .fine));
+    fine = and-intro (r .fine) (and-intro (ih .rising) (ih .fine));
   }
 
   read-end : (k from label : ℕ) (rest : List ℕ) (t : Tail) → length rest ≡ 0 → accepted noTail ≡ accepted t → TailRead count k from label 0 rest t

@@ -9,7 +9,7 @@ use lib.ListN.{length, drop}
 use lib.Seq.{drop-drop}
 use lib.Dec.{leb, eqb}
 use borrow.Author.Tests.{leb-true, eqb-true, eqb-false, ne-eqb, le-ltb}
-use Rattle.words.proofs.Tests.{decide, and-left, and-right}
+use Rattle.ranges.specs.Tests.{decide, and-left, and-right}
 use Rattle.effbd.specs.Records.{word, lengthAt, kindAt, lengthOf, kindTable, entryIn, faultAt}
 use Rattle.effbd.specs.Nets.{markFault, netHeadFault}
 use Rattle.net_file.specs.declared.Due.{Due}

@@ -7,7 +7,7 @@ use native.Mathlib.Omega.{arith}
 use lib.ListN.{length, drop, length-drop}
 use lib.Dec.{leb, ltb, eqb}
 use borrow.Author.Tests.{leb-true, ltb-true, eqb-true, eqb-false, eq-eqb}
-use Rattle.words.proofs.Tests.{decide, and-left, and-right}
+use Rattle.ranges.specs.Tests.{decide, and-left, and-right}
 use Rattle.effbd.specs.Answers.{Outcome, accepted, refused, unless, andThen, returningZero}
 use Rattle.effbd.specs.Records.{word, lengthAt, kindAt, Got, readMany}
 use Rattle.effbd.specs.Nets.{Arc, Net, clearArc, arcFine, above, arcAt, markAt, markFault, netHeadFault, Tail, readTail, netWith, afterPlaces, readNet}

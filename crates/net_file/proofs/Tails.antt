@@ -8,7 +8,8 @@ use native.Mathlib.Omega.{arith}
 use lib.ListN.{length, drop, length-drop}
 use lib.Dec.{leb, eqb}
 use borrow.Author.Tests.{leb-true, eqb-true, eqb-false, eq-eqb, ne-eqb, lt-leb, lt-ltb}
-use Rattle.words.proofs.Tests.{decide, and-left, and-right, all-elim}
+use Rattle.ranges.specs.Tests.{decide, and-left, and-right}
+use Rattle.ranges.specs.RangeLaws.{all-elim}
 use Rattle.effbd.specs.Ranges.{allBelow}
 use Rattle.effbd.specs.Answers.{accepted, refused, unless}
 use Rattle.effbd.specs.Records.{word, lengthAt, kindAt, lengthOf, faultAt, kindTable, entryIn}

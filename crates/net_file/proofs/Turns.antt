@@ -7,13 +7,12 @@ use native.Mathlib.Omega.{arith}
 use lib.ListN.{length, drop, length-drop}
 use lib.Dec.{leb, eqb}
 use borrow.Author.Tests.{leb-true, eqb-true, eqb-false, eq-eqb, ne-eqb, le-ltb}
-use Rattle.words.proofs.Tests.{decide, clash, and-left, and-right}
+use Rattle.ranges.specs.Tests.{decide, clash, and-left, and-right, not-true}
 use Rattle.effbd.specs.Answers.{Outcome, accepted, refused, unless, andThen, returningZero}
 use Rattle.effbd.specs.Records.{word, lengthAt, kindAt, lengthOf, kindTable, entryIn, faultAt, adding, readMany}
 use Rattle.effbd.specs.Nets.{takeArc, arcDue, arcFine, transitionFine, above, arcAt, transitionAt, Arc, Transition, markAt, markFault, Tail, withArc, withTransition, arcFault, transitionFault, readTail}
 use Rattle.net_file.specs.declared.Due.{Due}
 use Rattle.net_file.specs.Due.{arcNext, arcRight, transitionRight, dueKind, fieldsFine, faultIn, nextDue, ended, verdict}
-use Rattle.agreement.specs.Basics.{not-true}
 use Rattle.agreement.specs.ByteLaws.{none-clean}
 use Rattle.net_file.proofs.Records.{unless-same, unless-then, adding-then}
 use Rattle.net_file.proofs.Tails.{Arcs, arc-kind, arc-length, arc-read, transition-read, tail-arc, tail-end, tail-over, tail-transition, tail-fuel}

@@ -9,7 +9,7 @@ use borrow.Author.Tests.{leb-true}
 use lib.ListN.{length, drop, getD, length-drop}
 use lib.Seq.{drop-drop}
 use lib.Dec.{leb}
-use Rattle.words.proofs.Tests.{decide, and-left}
+use Rattle.ranges.specs.Tests.{decide, and-left}
 use Rattle.effbd.specs.Records.{kindAt}
 use Rattle.effbd.specs.Nets.{Transition, takeArc, arcDue, arcAt}
 use Rattle.net_file.specs.Contents.{arcHere, arcsWithin, arcsIn, pastArcs, transitionIn, afterTransition, transitionsIn, partAt}

@@ -14,7 +14,9 @@ use Rattle.effbd.specs.Nesting.{close, loop, inLoop}
 use Rattle.effbd.specs.States.{enteredRow}
 use Rattle.effbd.specs.Nets.{takeArc, giveArc}
 use Rattle.effbd.specs.Patterns.{none, oneAt, weightOf, nowhere, atOnce, restoresR, patternsAs}
-use Rattle.agreement.specs.Basics.{decide, clash, only-refl, not-kind}
+use Rattle.ranges.specs.Tests.{decide, clash}
+use Rattle.ranges.specs.RangeLaws.{only-refl}
+use Rattle.agreement.specs.Basics.{not-kind}
 use Rattle.agreement.specs.AcceptedFiles.{Held}
 use Rattle.agreement.specs.Structure.{Laws, opens}
 use Rattle.agreement.specs.NestingLaws.{laws}

@@ -10,7 +10,7 @@ use Rattle.effbd.specs.Ranges.{within}
 use Rattle.effbd.specs.Diagrams.{Diagram, rowCount}
 use Rattle.effbd.specs.Layout.{places, placeOf}
 use Rattle.effbd.specs.Patterns.{clearRange, rangesFrom, nowhere, clearsRows}
-use Rattle.agreement.specs.Basics.{decide}
+use Rattle.ranges.specs.Tests.{decide}
 
 pub ranges-none : (f : ℕ → Bool) (n p : ℕ) → ((i : ℕ) → p ≤ i → i < p + n → f i ≡ false) → rangesFrom n p f ≡ []
 unfolding rangesFrom

@@ -12,7 +12,8 @@ use Rattle.effbd.specs.Diagrams.{Diagram, rowCount, countTotal}
 use Rattle.effbd.specs.Layout.{Place, P, Q, R, Count, byPlace, places, placeOf}
 use Rattle.effbd.specs.Nets.{giveArc}
 use Rattle.effbd.specs.Patterns.{none, oneAt, marksP, arcsOf}
-use Rattle.agreement.specs.Basics.{decide, only-refl}
+use Rattle.ranges.specs.Tests.{decide}
+use Rattle.ranges.specs.RangeLaws.{only-refl}
 use Rattle.agreement.specs.Numbering.{place-P, place-Q, place-R, place-I}
 use Rattle.net_records.specs.Writing.{Records, runs}
 use Rattle.net_records.specs.Records.{arc}

@@ -7,7 +7,7 @@ use native.Mathlib.Omega.{arith}
 use native.Mathlib.Nat.{add-zero, add-suc}
 use lib.Dec.{eqb}
 use borrow.Author.Tests.{eqb-true, eqb-false}
-use Rattle.words.proofs.Tests.{decide}
+use Rattle.ranges.specs.Tests.{decide}
 use Rattle.net_records.specs.Writing.{Records, runs, span}
 
 pub runs-same : (f g : ℕ → Records) (n : ℕ) → ((i : ℕ) → i < n → f i ≡ g i) → runs f n ≡ runs g n

@@ -8,7 +8,8 @@ use native.Mathlib.Omega.{arith}
 use lib.Dec.{eqb}
 use borrow.Author.Tests.{eqb-true, eq-eqb, ne-eqb}
 use Rattle.effbd.specs.Ranges.{allBelow, only}
-use Rattle.agreement.specs.Basics.{decide, clash, all-intro, all-fail, and-left, and-right, only-refl}
+use Rattle.ranges.specs.Tests.{decide, clash, and-left, and-right}
+use Rattle.ranges.specs.RangeLaws.{all-intro, all-fail, only-refl}
 use Rattle.net_records.specs.Writing.{Records, runs}
 
 -- a set of numbers below n and, for each, itself or the number behind it, which then is not in the set

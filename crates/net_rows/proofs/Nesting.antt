@@ -8,7 +8,8 @@ use borrow.Author.Tests.{eq-eqb}
 use Rattle.effbd.specs.Diagrams.{Kind, function, and-open, branch, and-close, or-open, or-close, it-open, it-close, lp-open, lp-close, loop-exit, end, Diagram, kind, isKind, sameKind}
 use Rattle.effbd.specs.Nesting.{Frame, turnTo, innermostOpen, latestBranch, stack, owner, branchEnded, close, branchOf, inAndOr}
 use Rattle.effbd.specs.States.{enteredAs, enteredRow}
-use Rattle.agreement.specs.Basics.{and-intro, eq-same, clash}
+use Rattle.ranges.specs.Tests.{and-intro, clash}
+use Rattle.agreement.specs.Basics.{eq-same}
 use Rattle.agreement.specs.Nested.{wellNested}
 use Rattle.agreement.specs.NestingLaws.{laws}
 use Rattle.agreement.specs.Reach.{stands, branch-opens, branch-before}

@@ -12,9 +12,10 @@ use Rattle.effbd.specs.Nesting.{owner}
 use Rattle.effbd.specs.States.{enteredRow}
 use Rattle.effbd.specs.Nets.{Transition, takeArc, giveArc}
 use Rattle.effbd.specs.Patterns.{Pattern, noPattern, Name, names, patterns, patternsAs, arcsOf, rangesFrom, transitionOf, freshMark, netOf}
-use Rattle.agreement.specs.Basics.{decide}
+use Rattle.ranges.specs.Tests.{decide}
+use Rattle.ranges.specs.RangeLaws.{length-tab}
 use Rattle.agreement.specs.AcceptedFiles.{Held}
-use Rattle.agreement.specs.Numbering.{length-tab, length-map}
+use Rattle.agreement.specs.Numbering.{length-map}
 use Rattle.agreement.specs.NetSteps.{many-marks}
 use Rattle.diagram_table.specs.Cells.{enteredIn}
 use Rattle.diagram_file.specs.Tables.{Holds, HoldsUses}

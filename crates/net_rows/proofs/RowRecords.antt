@@ -15,7 +15,8 @@ use Rattle.effbd.specs.Nesting.{owner, close, branchOf}
 use Rattle.effbd.specs.States.{enteredRow, branchEntries}
 use Rattle.effbd.specs.Nets.{takeArc, giveArc}
 use Rattle.effbd.specs.Patterns.{none, oneAt, nowhere, atOnce, marksP, patternsAs}
-use Rattle.agreement.specs.Basics.{decide, and-left, and-right, same-eq, not-kind}
+use Rattle.ranges.specs.Tests.{decide, and-left, and-right}
+use Rattle.agreement.specs.Basics.{same-eq, not-kind}
 use Rattle.agreement.specs.AcceptedFiles.{Held}
 use Rattle.agreement.specs.Structure.{Laws, opens}
 use Rattle.agreement.specs.NestingLaws.{laws}

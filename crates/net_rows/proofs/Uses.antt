@@ -11,7 +11,7 @@ use lib.Dec.{leb, ltb, eqb}
 use borrow.Author.Tests.{leb-true, ltb-true, eqb-true, ne-eqb, eq-eqb}
 use Rattle.effbd.specs.Records.{word}
 use Rattle.effbd.specs.Diagrams.{Use, usesAt, usesFine}
-use Rattle.agreement.specs.Basics.{decide, and-left, and-right}
+use Rattle.ranges.specs.Tests.{decide, and-left, and-right}
 use Rattle.net_records.specs.Writing.{Records, runs}
 use Rattle.net_records.proofs.Runs.{runs-same, runs-none, runs-front, runs-first}
 

@@ -9,7 +9,8 @@ use lib.ListN.{length, take, drop, getD, length-take, List·getD-eq-default}
 use lib.Seq.{drop-drop, getD-drop, getD-take, length-take-le}
 use lib.Dec.{ltb}
 use borrow.Author.Tests.{eq-eqb, ne-eqb, lt-ltb, le-ltb, ltb-true, ltb-false}
-use Rattle.words.proofs.Tests.{decide}
+use Rattle.ranges.specs.Tests.{decide}
+use Rattle.ranges.specs.RangeLaws.{tab-ext}
 use Rattle.effbd.specs.Ranges.{tabulate}
 use Rattle.effbd.specs.Answers.{Outcome, accepted, refused, andThen}
 use Rattle.effbd.specs.Records.{word}
@@ -17,7 +18,6 @@ use Rattle.effbd.specs.Nets.{Net, readNet}
 use Rattle.effbd.specs.Firing.{netWordCount, checkedNetMove, stepNet, freshNetWords, freshNet}
 use Rattle.net_file.specs.Due.{wordsOf}
 use Rattle.net_file.specs.Contents.{transitionsIn, behindPlaces, transitionsFine}
-use Rattle.agreement.specs.Numbering.{tab-ext}
 use Rattle.agreement.specs.ByteLaws.{never, bind-inv}
 use Rattle.net_file.proofs.Accepted.{NetRead, net-read, place-count, transition-count, word-count}
 use Rattle.net_walk.proofs.Effects.{Words}

@@ -8,18 +8,18 @@ use native.Mathlib.Omega.{arith}
 use lib.ListN.{length, getD, length-map}
 use lib.Dec.{leb, ltb, eqb}
 use borrow.Author.Tests.{ltb-false, le-leb, eqb-true, eqb-false, eq-eqb, ne-eqb}
-use Rattle.words.proofs.Tests.{decide, clash, and-left, and-right, all-elim}
+use Rattle.ranges.specs.Tests.{decide, clash, and-left, and-right}
+use Rattle.ranges.specs.RangeLaws.{all-elim, tab-ext, all-ext, all-front}
 use Rattle.effbd.specs.Ranges.{allBelow, least, only, tabulate}
 use Rattle.effbd.specs.Answers.{accepted, refused}
 use Rattle.effbd.specs.Moves.{step-row, wait-ticks, no-move, moveOf}
 use Rattle.effbd.specs.Nets.{Transition, takeArc, giveArc, transitionFine}
 use Rattle.effbd.specs.Firing.{Effect, noEffect, Behaviour, NetState, effectOf, covers, takenAndCleared, firedState, overflows, fire, fireLowest, letsPass, tickedState, netWait, netMove, netWordsOutcome}
 use Rattle.net_file.specs.Contents.{arcsFine, transitionsFine}
-use Rattle.agreement.specs.Numbering.{tab-ext, all-ext, getD-map}
+use Rattle.agreement.specs.Numbering.{getD-map}
 use Rattle.net_walk.specs.Walked.{covered, applied, reduced, sums, stands, lowest}
 use Rattle.net_walk.specs.declared.Sums.{Sums}
 use Rattle.net_walk.specs.declared.Sums.the-variants.{Fit, Over}
-use Rattle.net_walk.proofs.Ranges.{all-front}
 use Rattle.net_walk.proofs.Effects.{Words, reduced-is, reduced-length}
 use Rattle.net_walk.proofs.Rising.{SumsAre, enabled-is, sums-is, given-is, reduced-words}
 use Rattle.net_step.specs.Stepping.{keptClock, grownClock, renewedClock, clocksBy, holdsWait, waitHeld, given, firedWords, noTransition, steppedWords, waitedWords, movedWords}

@@ -9,13 +9,13 @@ use lib.ListN.{length, getD, set, length-set}
 use lib.Seq.{getD-set-same, getD-set-other, ext-getD}
 use lib.Dec.{leb, ltb, eqb}
 use borrow.Author.Tests.{leb-true, ltb-true, eqb-true, eqb-false, ne-eqb, le-leb, lt-leb, le-ltb, lt-ltb}
-use Rattle.words.proofs.Tests.{decide, clash}
+use Rattle.ranges.specs.Tests.{decide, clash}
+use Rattle.ranges.specs.RangeLaws.{length-tab, getD-tab}
 use Rattle.effbd.specs.Ranges.{only, within, tabulate}
 use Rattle.effbd.specs.Moves.{mostWord}
 use Rattle.effbd.specs.Nets.{Arc, Transition, takeArc, clearArc, giveArc}
 use Rattle.effbd.specs.Firing.{Behaviour, weightAt, clearedAt, effectOf, takenAndCleared}
 use Rattle.net_walk.specs.Walked.{zeros, changed, changedIf, applied, reduced}
-use Rattle.net_walk.proofs.Ranges.{length-tabulate, getD-tabulate}
 
 -- numbers of 16 bits
 pub record Words (marks : List ℕ) : Type 0 where
@@ -136,9 +136,9 @@ gives-at (x ∷ xs) marks p l h =
 pub reduced-is : (n : Behaviour) (t : Transition) (marks : List ℕ) → length marks ≡ n .places → takenAndCleared n (effectOf t) marks ≡ reduced (t .arcs) marks
 unfolding takenAndCleared effectOf reduced
 reduced-is n t marks e = ext-getD 0 (tabulate (n .places) f) (applied clearArc (t .arcs) (applied takeArc (t .arcs) marks))
-    (length-tabulate (n .places) f ∙ sym (applied-length clearArc (t .arcs) (applied takeArc (t .arcs) marks) ∙ (applied-length takeArc (t .arcs) marks ∙ e)))
-    (λ p l. let h : p < n .places = rw (length-tabulate (n .places) f) at l in let m : p < length marks = omega arith in
-    getD-tabulate (n .places) f p 0 h ∙ sym (clears-at (t .arcs) (applied takeArc (t .arcs) marks) p (rw (applied-length takeArc (t .arcs) marks) m)
+    (length-tab (n .places) f ∙ sym (applied-length clearArc (t .arcs) (applied takeArc (t .arcs) marks) ∙ (applied-length takeArc (t .arcs) marks ∙ e)))
+    (λ p l. let h : p < n .places = rw (length-tab (n .places) f) at l in let m : p < length marks = omega arith in
+    getD-tab (n .places) f p 0 h ∙ sym (clears-at (t .arcs) (applied takeArc (t .arcs) marks) p (rw (applied-length takeArc (t .arcs) marks) m)
     ∙ ap (λ (x : ℕ). cond (clearedAt (t .arcs) p) 0 x) (takes-at (t .arcs) marks p m)))
   where
     f : ℕ → ℕ

@@ -1,4 +1,3 @@
 pub mod Turns
-pub mod Ranges
 pub mod Effects
 pub mod Rising

@@ -10,7 +10,8 @@ use lib.ListN.{length, getD, List·getD-eq-default}
 use lib.Seq.{ext-getD}
 use lib.Dec.{leb, ltb, eqb}
 use borrow.Author.Tests.{leb-true, ltb-true, ltb-false, eqb-true, eqb-false, eq-eqb, ne-eqb, le-leb, lt-leb}
-use Rattle.words.proofs.Tests.{decide, and-left, and-right, all-elim}
+use Rattle.ranges.specs.Tests.{decide, and-left, and-right}
+use Rattle.ranges.specs.RangeLaws.{all-elim, length-tab, getD-tab, all-ext, all-intro, all-fail, all-but, least-is, least-ext}
 use Rattle.effbd.specs.Ranges.{allBelow, least, only, tabulate}
 use Rattle.effbd.specs.Moves.{mostWord}
 use Rattle.effbd.specs.Nets.{Arc, Transition, takeArc, clearArc, giveArc, arcDue, arcFine, above}
@@ -19,7 +20,6 @@ use Rattle.net_file.specs.Contents.{arcsFine}
 use Rattle.net_walk.specs.Walked.{covered, applied, reduced, tooMuch, sums}
 use Rattle.net_walk.specs.declared.Sums.{Sums}
 use Rattle.net_walk.specs.declared.Sums.the-variants.{Fit, Over}
-use Rattle.net_walk.proofs.Ranges.{length-tabulate, getD-tabulate, all-same, all-intro, all-fail, all-but, least-is, least-same}
 use Rattle.net_walk.proofs.Effects.{Words, applied-length, reduced-length, takes-at, clears-at, gives-at}
 
 -- what fine arcs say of the first
@@ -104,8 +104,8 @@ module _ (count : ℕ) where
 
   sums-step : (f g : ℕ → Bool) (s : Sums) → ((p : ℕ) → p < count → f p ≡ g p) → SumsAre g s → SumsAre f s
   sums-step f g s h r = record {
-    fit = λ e. all-same count (λ p. not (f p)) (λ p. not (g p)) (λ p l. ap not (h p l)) ∙ r .fit e;
-    over = λ p e. (all-same count (λ p. not (f p)) (λ p. not (g p)) (λ p l. ap not (h p l)) ∙ r .over p e .0, least-same count f g h ∙ r .over p e .1);
+    fit = λ e. all-ext count (λ p. not (f p)) (λ p. not (g p)) (λ p l. ap not (h p l)) ∙ r .fit e;
+    over = λ p e. (all-ext count (λ p. not (f p)) (λ p. not (g p)) (λ p l. ap not (h p l)) ∙ r .over p e .0, least-ext count f g h ∙ r .over p e .1);
   }
 
   sums-stop : (f : ℕ → Bool) (q : ℕ) → q < count → f q ≡ true → ((p : ℕ) → p < q → f p ≡ false) → SumsAre f (Over q)
@@ -181,9 +181,9 @@ module _ (n : Behaviour) (t : Transition) (s : NetState) (mid : List ℕ) (reach
       → firedState n j (effectOf t) s .marks ≡ applied giveArc (t .arcs) mid
   unfolding firedState overflows effectOf
   given-is j e fit = ext-getD 0 (tabulate (n .places) f) (applied giveArc (t .arcs) mid)
-      (length-tabulate (n .places) f ∙ sym (applied-length giveArc (t .arcs) mid ∙ e))
-      (λ p l. let h : p < n .places = rw (length-tabulate (n .places) f) at l in
-      getD-tabulate (n .places) f p 0 h ∙ (ap (λ (m : List ℕ). getD m p 0 + weightAt giveArc (t .arcs) p) reached
+      (length-tab (n .places) f ∙ sym (applied-length giveArc (t .arcs) mid ∙ e))
+      (λ p l. let h : p < n .places = rw (length-tab (n .places) f) at l in
+      getD-tab (n .places) f p 0 h ∙ (ap (λ (m : List ℕ). getD m p 0 + weightAt giveArc (t .arcs) p) reached
       ∙ (let b = bounded p h in let z : getD mid p 0 + weightAt giveArc (t .arcs) p ≡ min 65535 (getD mid p 0 + weightAt giveArc (t .arcs) p) = omega arith in
       z ∙ sym (gives-at (t .arcs) mid p (rw e h) (words .each p)))))
     where

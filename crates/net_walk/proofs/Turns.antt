@@ -7,7 +7,7 @@ use native.Mathlib.Omega.{arith}
 use borrow.Author.Tests.{eqb-true, eq-eqb, ne-eqb, le-leb, lt-leb}
 use lib.ListN.{length, drop, getD, set}
 use lib.Dec.{eqb, leb}
-use Rattle.words.proofs.Tests.{decide, clash, and-left, and-right, and-both}
+use Rattle.ranges.specs.Tests.{decide, clash, and-left, and-right, and-intro}
 use Rattle.effbd.specs.Records.{word, kindAt}
 use Rattle.effbd.specs.Nets.{takeArc, arcDue, arcAt}
 use Rattle.net_file.specs.Contents.{arcHere, arcsIn, transitionIn, afterTransition, transitionsIn, partAt}
@@ -23,7 +23,7 @@ pub take-arc : (rest : List ℕ) → takeHere rest ≡ true → arcHere rest ≡
 unfolding takeHere arcHere arcDue
 take-arc rest h =
     let k = eqb-true (kindAt rest) takeArc (take-kind rest h) in
-    and-both (and-left (leb 8 (length rest)) (eqb (kindAt rest) takeArc) h) (and-both (le-leb 35 (kindAt rest) (omega arith)) (le-leb (kindAt rest) 37 (omega arith)))
+    and-intro (and-left (leb 8 (length rest)) (eqb (kindAt rest) takeArc) h) (and-intro (le-leb 35 (kindAt rest) (omega arith)) (le-leb (kindAt rest) 37 (omega arith)))
 
 pub take-long : (rest : List ℕ) → takeHere rest ≡ true → 8 ≤ length rest
 take-long rest h = here-long rest (take-arc rest h)
@@ -40,7 +40,7 @@ module _ (marks rest : List ℕ) (place weight x : ℕ) (h : takeHere rest ≡ t
 
 is-take : (rest : List ℕ) → arcHere rest ≡ true → eqb (kindAt rest) takeArc ≡ true → takeHere rest ≡ true
 unfolding takeHere
-is-take rest a e = and-both (le-leb 8 (length rest) (here-long rest a)) e
+is-take rest a e = and-intro (le-leb 8 (length rest) (here-long rest a)) e
 
 pub covered-end : (marks rest : List ℕ) → takeHere rest ≡ false → covered (arcsIn rest) marks ≡ true
 unfolding covered

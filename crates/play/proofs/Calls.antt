@@ -12,7 +12,7 @@ use Rattle.effbd.specs.Answers.{Outcome, afterwards}
 use Rattle.effbd.specs.Records.{word, lengthAt, kindAt}
 use Rattle.effbd.specs.BusEnds.{offered, taken}
 use Rattle.effbd.specs.History.{Call, offer, hand}
-use Rattle.agreement.specs.Basics.{decide, and-left, and-right}
+use Rattle.ranges.specs.Tests.{decide, and-left, and-right}
 use Rattle.play.specs.CallList.{isCall, callAt}
 use Rattle.play.specs.Played.{Live, liveAfter, liveSeen, Called}
 

@@ -20,7 +20,7 @@ use Rattle.effbd.specs.Nets.{Net, readNet}
 use Rattle.effbd.specs.Firing.{netWordCount, freshNetWords, freshNet}
 use Rattle.effbd.specs.Patterns.{netOf, Translated, translated}
 use Rattle.effbd.specs.History.{Seen, freshEnds, netFileOf}
-use Rattle.agreement.specs.Basics.{decide}
+use Rattle.ranges.specs.Tests.{decide}
 use Rattle.agreement.specs.AcceptedFiles.{held}
 use Rattle.agreement.specs.Theorems.{net-well-formed, net-read-back}
 use Rattle.bus.specs.Demand.{demand-3}

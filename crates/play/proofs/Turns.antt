@@ -11,7 +11,7 @@ use lib.Dec.{leb, eqb}
 use borrow.Author.Tests.{leb-true, le-leb, eqb-true}
 use Rattle.effbd.specs.Records.{word, lengthAt, kindAt}
 use Rattle.effbd.specs.History.{Call, offer, hand, Seen}
-use Rattle.agreement.specs.Basics.{decide, and-left, and-right}
+use Rattle.ranges.specs.Tests.{decide, and-left, and-right}
 use Rattle.play.specs.CallList.{isCall, callAt, afterCall}
 use Rattle.play.specs.Played.{Live, liveAfter, liveSeen, Called, AllCalled}
 use Rattle.play.proofs.Lists.{Making, Made, making-turn, made-early}

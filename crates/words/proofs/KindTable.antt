@@ -9,7 +9,8 @@ use lib.ListN.{getD}
 use lib.Dec.{leb, ltb, eqb}
 use Rattle.effbd.specs.Ranges.{allBelow}
 use Rattle.effbd.specs.Records.{Entry, kindTable, entry, entryIn, lengthOf, fieldsOf}
-use Rattle.words.proofs.Tests.{decide, and-left, and-right, all-elim}
+use Rattle.ranges.specs.Tests.{decide, and-left, and-right}
+use Rattle.ranges.specs.RangeLaws.{all-elim}
 
 unfoldable pub lengths : List ℕ
 lengths = 0 ∷ 10 ∷ 6 ∷ 0 ∷ 0 ∷ 0 ∷ 0 ∷ 0 ∷ 0 ∷ 0 ∷ 0 ∷ 0 ∷ 0 ∷ 0 ∷ 0 ∷ 0 ∷ 8 ∷ 4 ∷ 4 ∷ 4 ∷ 4 ∷ 4 ∷ 6 ∷ 4 ∷ 4 ∷ 4 ∷ 4 ∷ 4 ∷ 0 ∷ 0 ∷ 0 ∷ 0 ∷ 8 ∷ 6 ∷ 10 ∷ 8 ∷ 8 ∷ 8 ∷ []

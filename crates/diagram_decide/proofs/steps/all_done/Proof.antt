@@ -1,7 +1,7 @@
 use Rattle.diagram_decide.proofs.Laws.{done-start, done-from}
 use Rattle.diagram_moves.specs.Loops.{all-more, all-less}
 use Rattle.diagram_moves.specs.Decisions.{doneFrom, allDoneTo}
-use Rattle.agreement.specs.Basics.{all-fail}
+use Rattle.ranges.specs.RangeLaws.{all-fail}
 use Rattle.effbd.specs.Ranges.{allBelow}
 use mathlib.Core.Bool.{true}
 use mathlib.Core.Path.{_≡_, sym, _∙_}
