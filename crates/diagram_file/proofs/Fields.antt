@@ -2,13 +2,16 @@
 use Prim.Native.Nat.{ℕ, zero, suc, _+_, _-_, _/_, _≤_, _<_}
 use mathlib.Core.Path.{_≡_, refl, sym, _∙_, ap}
 use mathlib.Core.Logic.{_≢_}
-use mathlib.Core.Bool.{Bool, true, false, not, cond, _&&_}
+use mathlib.Core.Bool.{Bool, true, false, not, cond, _&&_, _||_}
 use mathlib.Core.List.{List}
 use native.Mathlib.Omega.{arith}
 use lib.ListN.{drop}
 use lib.Dec.{leb, ltb, eqb}
-use borrow.Author.Tests.{lt-ltb, le-leb, lt-leb, ne-eqb}
-use Rattle.effbd.specs.Records.{word, lengthAt, kindAt, lengthOf, faultAt}
+use borrow.Author.Tests.{lt-ltb, le-leb, lt-leb, leb-true, eqb-true, ne-eqb}
+use Rattle.ranges.specs.Tests.{decide, and-right}
+use Rattle.ranges.specs.RangeLaws.{all-elim}
+use Rattle.effbd.specs.Ranges.{allBelow}
+use Rattle.effbd.specs.Records.{word, lengthAt, kindAt, kindTable, entryIn, lengthOf, faultAt}
 use Rattle.effbd.specs.Diagrams.{and-open, branch, and-close, or-open, or-close, it-open, it-close, lp-open, lp-close, loop-exit, end, Row, kindOf, headFault, itemFault, usesAt, usesFine, rowAt, rowRight, rowFineAs, rowFine, rowFault}
 use Rattle.diagram_file.specs.Fields.{useFine, isRow, functionRight, functionFine, turnLimitFine, headFine}
 use Rattle.diagram_file.specs.Reading.{column, putRow, fillRow}
@@ -44,6 +47,23 @@ other false false false false false false false true m items r = refl
 other false false false false false false false false true items r = refl
 other false false false false false false false false false items r = refl
 
+-- the length that the table of kinds has for a row's kind: one computed test
+as-end : ℕ → Bool
+as-end k = not (isRow k) || (eqb k 16 || (eqb k 22 || eqb (lengthOf k) (lengthOf 27)))
+
+all-as-end : allBelow 28 as-end ≡ true
+unfolding as-end isRow kindTable entryIn lengthOf
+all-as-end = refl
+
+row-below : (k : ℕ) → isRow k ≡ true → k < 28
+unfolding isRow
+row-below k t = let l : k ≤ 27 = leb-true k 27 (and-right (leb 16 k) (leb k 27) t) in omega arith
+
+end-length : (k : ℕ) → isRow k ≡ true → k ≢ 16 → k ≢ 22 → lengthOf k ≡ lengthOf 27
+unfolding as-end
+end-length k t p q = let e = all-elim 28 as-end all-as-end k (row-below k t) in
+    eqb-true (lengthOf k) (lengthOf 27) (rw (t, ne-eqb k 16 p, ne-eqb k 22 q) at e)
+
 module _ (items : ℕ) (bytes : List ℕ) where
   -- a row's fault, from what one look at its kind picks
   fault-is : {r : ℕ} {due right fine : Bool} → due ≡ isRow (kindAt bytes) → right ≡ rowRight items bytes → fine ≡ rowFine items (rowAt bytes) → r ≡ faultAt bytes due right fine 5 → r ≡ rowFault items bytes
@@ -70,9 +90,16 @@ module _ (items : ℕ) (bytes : List ℕ) where
       let k : kindAt bytes ≡ 22 = sym ek ∙ e in
       fault-is (rw k) (right-not es (en ∙ ap lengthOf (sym k)) (λ q. let z : _≡_ {A = ℕ} 16 22 = sym q ∙ k in omega arith)) (ef ∙ rw (k, ec)) e5
 
-  pub other-fault : {kind size n r : ℕ} {due : Bool} → kind ≡ kindAt bytes → size ≡ lengthAt bytes → kind ≢ 16 → kind ≢ 22 → due ≡ isRow kind → n ≡ lengthOf kind
+  -- every row that is no FUNCTION and no IT open is as long as an END, and where the kind is not due its length is not asked for
+  pub other-fault : {kind size n r : ℕ} {due : Bool} → kind ≡ kindAt bytes → size ≡ lengthAt bytes → kind ≢ 16 → kind ≢ 22 → due ≡ isRow kind → n ≡ lengthOf 27
       → r ≡ faultAt bytes due (eqb size n) true 5 → r ≡ rowFault items bytes
-  other-fault ek es p q ed en e5 = fault-is (ed ∙ ap isRow ek) (right-not es (en ∙ ap lengthOf ek) (λ x. p (ek ∙ x))) (fine-other (λ x. p (ek ∙ x)) (λ x. q (ek ∙ x))) e5
+  unfolding rowFault isRow faultAt
+  other-fault {kind} {size} {n} {r} ek es p q ed en e5 = decide (isRow (kindAt bytes))
+      (λ t. fault-is (ed ∙ ap isRow ek) (right-not es (en ∙ sym (end-length (kindAt bytes) t (λ x. p (ek ∙ x)) (λ x. q (ek ∙ x)))) (λ x. p (ek ∙ x))) (fine-other (λ x. p (ek ∙ x)) (λ x. q (ek ∙ x))) e5)
+      (λ t. e5 ∙ not-due (ed ∙ (ap isRow ek ∙ t)) t)
+    where
+      not-due : {due : Bool} → due ≡ false → isRow (kindAt bytes) ≡ false → faultAt bytes due (eqb size n) true 5 ≡ rowFault items bytes
+      not-due ed f = rw (ed, f)
 
 -- a row's columns, likewise
 module _ (row at : ℕ) (bytes table : List ℕ) where

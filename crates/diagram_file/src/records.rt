@@ -105,8 +105,9 @@ fn row_fault(bytes: &[u8], items: u16) -> u16
             words::record_fault(bytes, true, length == right, fine, 5)
         }
         _ => {
+            // Every other row is as long as an END.
             let due = is_row(kind);
-            let right = kinds::length_of(kind);
+            let right = kinds::length_of(kinds::END);
             words::record_fault(bytes, due, length == right, true, 5)
         }
     }

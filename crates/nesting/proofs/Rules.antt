@@ -14,7 +14,17 @@ use Rattle.ranges.specs.Tests.{decide, clash}
 use Rattle.nesting.specs.declared.Part.{Part}
 use Rattle.nesting.specs.declared.Part.the-variants.{Opens, Turns, Closes, Stays}
 use Rattle.nesting.specs.declared.Open.{Open}
-use Rattle.nesting.specs.Runs.{partOf, kindIn, topIn, isAndOr, standsOf, followsOf, brokenOf, exitFits, misplacedOf, opening, deepOf, beforeIn, faultIn, Kinds, Shows}
+use Rattle.nesting.specs.Runs.{partOf, kindIn, topIn, isAndOr, standsOf, followsOf, brokenOf, exitFits, misplacedOf, opening, deepOf, beforeIn, functionFault, faultIn, Kinds, Shows}
+
+-- a FUNCTION's fault, the shorter way
+pub function-fault-is : (table : List ℕ) (rows q : ℕ) (o : Open) → kindIn table rows q ≡ 16 → functionFault (beforeIn table rows q) (eqb (q + 1) rows) ≡ faultIn table rows q o
+unfolding faultIn functionFault brokenOf followsOf standsOf misplacedOf deepOf partOf
+function-fault-is table rows q o e = rw e (go (isAndOr (beforeIn table rows q)) (eqb (q + 1) rows))
+  where
+    go : (a l : Bool) → _≡_ {A = ℕ} (cond (a || l) 7 0) (cond (not ((not a || false) && (true && (not l || false)))) 7 0)
+    go true l = refl
+    go false true = refl
+    go false false = refl
 
 -- what a row does, by its part
 abbrev pub passingBy : Part → ℕ → List Frame → List Frame

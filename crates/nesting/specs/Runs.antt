@@ -72,6 +72,10 @@ faultIn table rows q o =
     (cond (misplacedOf (kindIn table rows q) (kindIn table rows (q + 1)) (topIn table rows o) (o .looped)) 8
     (cond (deepOf (kindIn table rows q) (o .depth)) 9 0))
 
+-- the same of a FUNCTION
+unfoldable pub functionFault : (before : ℕ) (last : Bool) → ℕ
+functionFault before last = cond (isAndOr before || last) 7 0
+
 -- the table has the kinds of a diagram's rows
 pub record Kinds (d : Diagram) (rows : ℕ) (table : List ℕ) : Type 0 where
   pub count : rows ≡ rowCount d

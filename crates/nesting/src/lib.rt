@@ -3,7 +3,7 @@
 // Nothing is asked of a caller: past the table's end a kind is 0, which no row has.
 ghost use mathlib.Core.Path.{_≡_};
 ghost use Prim.Native.Nat.{_≤_, _<_};
-ghost use Rattle.nesting.specs.Runs.{partOf, kindIn, beforeIn, topIn, isAndOr, standsOf, followsOf, brokenOf, exitFits, misplacedOf, loopsIn, deepOf, faultIn, RunRead, ConstructRead, NestingRead};
+ghost use Rattle.nesting.specs.Runs.{partOf, kindIn, beforeIn, topIn, isAndOr, standsOf, followsOf, brokenOf, exitFits, misplacedOf, loopsIn, deepOf, functionFault, faultIn, RunRead, ConstructRead, NestingRead};
 use words::kinds;
 
 // What a row does to the constructs that are open: adds one, turns the innermost to its next branch, takes it off, or nothing.
@@ -118,10 +118,10 @@ fn stands(kind: u16, top: u16, two: bool, last: bool) -> bool
 fn follows(before: u16, kind: u16) -> bool
     ensures { λ r. ⌜ r ≡ followsOf before kind ⌝ }
 {
-    if is_and_or(before) {
-        return kind == kinds::BRANCH;
+    if kind == kinds::BRANCH {
+        return true;
     }
-    true
+    !is_and_or(before)
 }
 
 // 7
@@ -195,8 +195,21 @@ fn deep(kind: u16, depth: usize) -> bool
     }
 }
 
+// The fault of a FUNCTION: it stands anywhere but right behind an AND open or OR open, and not last.
+fn function_fault(before: u16, last: bool) -> u16
+    ensures { λ r. ⌜ r ≡ functionFault before last ⌝ }
+{
+    if is_and_or(before) {
+        return 7;
+    }
+    if last {
+        return 7;
+    }
+    0
+}
+
 // "at a row 7, 8, 9": the fault of a row, 0 for none.
-fn fault_in(table: &[u16], rows: usize, row: usize, around: Open) -> u16
+fn any_fault(table: &[u16], rows: usize, row: usize, around: Open) -> u16
     requires { ⌜ (row < rows) × (rows ≤ 65535) ⌝ }
     requires { ⌜ around .opened ≤ 65535 ⌝ }
     ensures { λ r. ⌜ r ≡ faultIn (now (table .entry)) rows row around ⌝ }
@@ -216,6 +229,20 @@ fn fault_in(table: &[u16], rows: usize, row: usize, around: Open) -> u16
         return 9;
     }
     0
+}
+
+// The same, with a shorter way for FUNCTION rows, which most rows are.
+fn fault_in(table: &[u16], rows: usize, row: usize, around: Open) -> u16
+    requires { ⌜ (row < rows) × (rows ≤ 65535) ⌝ }
+    requires { ⌜ around .opened ≤ 65535 ⌝ }
+    ensures { λ r. ⌜ r ≡ faultIn (now (table .entry)) rows row around ⌝ }
+{
+    if kind_in(table, rows, row) == kinds::FUNCTION {
+        let before = before_in(table, rows, row);
+        let last = row + 1 == rows;
+        return function_fault(before, last);
+    }
+    any_fault(table, rows, row, around)
 }
 
 // Reads rows from `from` on, up to the BRANCH or close of the construct that they stand in.
