@@ -1,4 +1,4 @@
-//! `benchmark`: the time of each proved function, of the model, and their ratio, at 5, 30 and 64 rows, in one run.
+//! `benchmark`: the time of each proved function, of the model, and their ratio, at 5, 30 and 64 rows, and what one row more costs, in one run.
 //!
 //! Both are built for release and get the same inputs in the same order; states and areas are copied anew before each call, for both.
 //! At each size the calls go round plants of 960 rows in all: no single diagram's mix of rows decides the ratio, and the processor has as
@@ -273,19 +273,11 @@ fn compare_net(table: &mut Vec<Times>, rows: usize, plants: &[Plant]) {
     );
 }
 
-fn main() {
-    let sizes = [5, 30, 64].map(|rows| (rows, plants(rows)));
-    let mut table = Vec::new();
-    for _ in 0..SWEEPS {
-        for (rows, plants) in &sizes {
-            compare_files(&mut table, *rows, plants);
-            compare_diagram(&mut table, *rows, plants);
-            compare_net(&mut table, *rows, plants);
-        }
-    }
+/// One line for each function and size.
+fn print_calls(table: &[Times]) {
     println!(
         "{:<14} {:>9} {:>13} {:>13} {:>8}",
-        "function", "", "proved", "model", "ratio"
+        "a call", "", "proved", "model", "ratio"
     );
     for line in table {
         println!(
@@ -297,4 +289,45 @@ fn main() {
             line.proved / line.model
         );
     }
+}
+
+/// What one row more costs, from each size to the next: a call's head and items, which are as many at each size, have no part in it.
+fn print_rows(table: &[Times]) {
+    println!(
+        "{:<14} {:>9} {:>13} {:>13} {:>8}",
+        "one row more", "", "proved", "model", "ratio"
+    );
+    for line in table {
+        let next = table
+            .iter()
+            .find(|other| other.name == line.name && other.rows > line.rows);
+        if let Some(next) = next {
+            let rows = (next.rows - line.rows) as f64;
+            let proved = (next.proved - line.proved) / rows;
+            let model = (next.model - line.model) / rows;
+            println!(
+                "{:<14} {:>2} to {:>2} {:>11.1} ns {:>10.1} ns {:>8.2}",
+                line.name,
+                line.rows,
+                next.rows,
+                proved,
+                model,
+                proved / model
+            );
+        }
+    }
+}
+
+fn main() {
+    let sizes = [5, 30, 64].map(|rows| (rows, plants(rows)));
+    let mut table = Vec::new();
+    for _ in 0..SWEEPS {
+        for (rows, plants) in &sizes {
+            compare_files(&mut table, *rows, plants);
+            compare_diagram(&mut table, *rows, plants);
+            compare_net(&mut table, *rows, plants);
+        }
+    }
+    print_calls(&table);
+    print_rows(&table);
 }
