@@ -19,7 +19,7 @@ use Rattle.ranges.specs.RangeLaws.{all-elim}
 use Rattle.agreement.specs.ByteLaws.{Clean, none-clean}
 use Rattle.diagram_file.specs.declared.records.Reached.{Reached}
 use Rattle.diagram_file.specs.Reading.{Stopped, ItemsRead, RowsRead, column, recordRows, recordItems, readRecords, Tabulated, Recorded}
-use Rattle.nesting.proofs.Basics.{unless-refused}
+use Rattle.ranges.specs.Outcomes.{unless-refused}
 use Rattle.diagram_file.proofs.Basics.{andThen-twice, unless-then}
 
 -- n records that were read: their values, their faults, the rest

@@ -19,7 +19,7 @@ use Rattle.diagram_file.specs.Reading.{Tabled, Recorded}
 use Rattle.nesting.specs.Runs.{Kinds, NestingRead}
 use Rattle.diagram_file.specs.Structure.{putStructure, structured}
 use Rattle.diagram_file.specs.Tables.{stateLength, refusalNumber, refusalValue, Holds, HoldsUses, HoldsFile, Judged, Filled, Parsed, partIn}
-use Rattle.nesting.proofs.Basics.{unless-refused}
+use Rattle.ranges.specs.Outcomes.{unless-refused}
 use Rattle.diagram_file.proofs.Files.{two-parts}
 use Rattle.nesting.proofs.Stacks.{owner-low, loop-low, close-low}
 use Rattle.diagram_file.proofs.Columns.{Sound, sound, close-is}

@@ -1,4 +1,3 @@
-pub mod Basics
 pub mod Rules
 pub mod Stacks
 pub mod Walks

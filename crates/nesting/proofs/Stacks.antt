@@ -13,12 +13,11 @@ use Rattle.effbd.specs.Ranges.{least, only}
 use Rattle.effbd.specs.Diagrams.{lp-open, end, numberOf, Diagram, rowCount, kind, isKind}
 use Rattle.effbd.specs.Nesting.{Frame, pop, innermostOpen, stack, owner, isClose, close, innermost, loop, follows, standsAs, nestingBroken, exitMisplaced, thirteenthOpen, nestingFault, firstFaulty, nested}
 use Rattle.ranges.specs.Tests.{decide, clash, or-false-right}
-use Rattle.ranges.specs.RangeLaws.{least-found}
+use Rattle.ranges.specs.RangeLaws.{least-found, least-low}
 use Rattle.agreement.specs.ByteLaws.{never}
 use Rattle.nesting.specs.declared.Part.{Part}
 use Rattle.nesting.specs.declared.Part.the-variants.{Opens, Turns, Closes, Stays}
 use Rattle.nesting.specs.Runs.{partOf}
-use Rattle.nesting.proofs.Basics.{least-low}
 use Rattle.nesting.proofs.Rules.{passingBy, closing, shape, stack-next, ending, bare-faulty}
 
 module _ (d : Diagram) where

@@ -23,7 +23,7 @@ use Rattle.nesting.specs.declared.Run.the-variants.{Judged, Turned, Clos
 use Rattle.nesting.specs.declared.Construct.{Construct}
 use Rattle.nesting.specs.declared.Construct.the-variants.{Judged as WasJudged, Closed as WasClosed}
 use Rattle.nesting.specs.Runs.{partOf, kindIn, loopsIn, faultIn, Kinds, Shows, Clean, AllJudged, Ends, Left, RunEnded, RunWithin, RunRead, ConstructEnded, ConstructWithin, ConstructRead, NestingRead}
-use Rattle.nesting.proofs.Basics.{unless-refused}
+use Rattle.ranges.specs.Outcomes.{unless-refused}
 use Rattle.nesting.proofs.Rules.{passingBy, stack-next, kind-is, fault-is, ending, bare-faulty}
 
 clean-none : (d : Diagram) (a : ℕ) → Clean d a a

@@ -14,7 +14,7 @@ use Rattle.effbd.specs.Nets.{Arc, Net, clearArc, arcFine, above, arcAt, markAt,
 use Rattle.effbd.specs.Firing.{netWordCount}
 use Rattle.net_file.specs.declared.Due.{Due}
 use Rattle.net_file.specs.Due.{start, faultIn, nextDue, ended, verdict, wordsOf}
-use Rattle.net_file.proofs.Records.{unless-none, unless-some}
+use Rattle.ranges.specs.Outcomes.{unless-none, unless-refused}
 use Rattle.net_file.proofs.Tails.{arc-read, transition-read}
 use Rattle.net_file.proofs.Turns.{Way, place, arc, over, transition, way, place-read, fault-place, fault-arc, fault-over, fault-transition, next-place, next-arc, next-transition, turn, at-end}
 use Rattle.net_file.proofs.Accepted.{head-read, net-read, word-count}
@@ -113,7 +113,7 @@ headed file e = unless-none (netHeadFault file) 0 _ e
 
 pub head-bad : (file : List ℕ) → (netHeadFault file ≡ 0 → ⊥) → refused (netHeadFault file) 0 ≡ wordsOf (readNet file)
 unfolding readNet wordsOf
-head-bad file h = sym (ap (λ (o : Outcome Net). andThen o (λ n. accepted (netWordCount n))) (unless-some (netHeadFault file) 0 _ h))
+head-bad file h = sym (ap (λ (o : Outcome Net). andThen o (λ n. accepted (netWordCount n))) (unless-refused (netHeadFault file) 0 _ h))
 
 pub head-fine : (file rest : List ℕ) (count transitions : ℕ) (due : Due) → netHeadFault file ≡ 0 → count ≡ word file 4 → transitions ≡ word file 6
     → due ≡ start count transitions → rest ≡ drop 8 file → Stands file rest count transitions due
@@ -149,7 +149,7 @@ module _ (file rest : List ℕ) (count transitions : ℕ) (due : Due) (at : Stan
   shrinks size more f es em = rw (em, es) (passed count (length file) (at .few) due rest (at .near) f .shorter)
 
   pub stop : ended due rest ≡ false → (faultIn count due rest ≡ 0 → ⊥) → refused (faultIn count due rest) (length file - length rest) ≡ wordsOf (readNet file)
-  stop e h = ap (λ (o : Outcome ℕ). andThen o (λ z. accepted (count + transitions))) (sym (unless-some (faultIn count due rest) (length file - length rest) _ h)) ∙ turned e
+  stop e h = ap (λ (o : Outcome ℕ). andThen o (λ z. accepted (count + transitions))) (sym (unless-refused (faultIn count due rest) (length file - length rest) _ h)) ∙ turned e
 
   pub done : ended due rest ≡ true → accepted (count + transitions) ≡ wordsOf (readNet file)
   done e = ap (λ (o : Outcome ℕ). andThen o (λ z. accepted (count + transitions))) (sym (at-end count (length file) due rest e)) ∙ at .same

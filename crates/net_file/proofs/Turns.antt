@@ -14,7 +14,8 @@ use Rattle.effbd.specs.Nets.{takeArc, arcDue, arcFine, transitionFine, above, a
 use Rattle.net_file.specs.declared.Due.{Due}
 use Rattle.net_file.specs.Due.{arcNext, arcRight, transitionRight, dueKind, fieldsFine, faultIn, nextDue, ended, verdict}
 use Rattle.agreement.specs.ByteLaws.{none-clean}
-use Rattle.net_file.proofs.Records.{unless-same, unless-then, adding-then}
+use Rattle.ranges.specs.Outcomes.{unless-same, unless-then}
+use Rattle.net_file.proofs.Records.{adding-then}
 use Rattle.net_file.proofs.Tails.{Arcs, arc-kind, arc-length, arc-read, transition-read, tail-arc, tail-end, tail-over, tail-transition, tail-fuel}
 
 -- what may stand next

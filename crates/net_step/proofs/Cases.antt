@@ -20,7 +20,7 @@ use Rattle.net_walk.specs.Walked.{stands, applied, reduced, sums, lowest}
 use Rattle.net_walk.specs.declared.Sums.{Sums}
 use Rattle.net_step.specs.Stepping.{keptClock, renewedClock, clocksBy, waitHeld, given, firedWords, noTransition, steppedWords, waitedWords, movedWords, Answered}
 use Rattle.net_step.specs.declared.Renewal.the-variants.{Fired, Waited}
-use Rattle.net_step.proofs.Loops.{tail-is}
+use Rattle.ranges.specs.RangeLaws.{tail-is}
 
 -- a call that is turned away, that moves, whose outcome is another's
 pub turned-away : (before : List ℕ) (number value : ℕ) (outcome : Outcome (List ℕ)) → outcome ≡ refused number value → Answered (Refused number value) before before outcome

@@ -3,11 +3,11 @@ use Prim.Native.Nat.{ℕ, zero, suc, _+_, _-_, _≤_, _<_}
 use mathlib.Core.Path.{_≡_, refl, ap, sym, _∙_}
 use mathlib.Core.Bool.{Bool, true, false, cond, _||_}
 use mathlib.Core.List.{List, [], _∷_, _++_, append-nil}
-use native.Mathlib.Nat.{sub-zero, not-suc-le-zero, le-of-suc-le-suc, le-of-eq}
+use native.Mathlib.Nat.{sub-zero, not-suc-le-zero, le-of-suc-le-suc}
 use native.Mathlib.Numerals.{add-one}
 use native.Mathlib.Omega.{arith}
-use lib.ListN.{length, take, drop, getD, set, length-drop, length-append, drop-of-length-le}
-use lib.Seq.{drop-cons, getD-at, set-at, append-snoc, take-all}
+use lib.ListN.{length, drop, getD, set, length-append, drop-of-length-le}
+use lib.Seq.{drop-cons, getD-at, set-at, append-snoc}
 use lib.Dec.{eqb}
 use Rattle.effbd.specs.Ranges.{tabulate}
 use Rattle.net_walk.specs.Walked.{covered}
@@ -27,9 +27,6 @@ front-more to f n h = rw add-one (front-suc to f n h)
 
 pub front-all : (to : List ℕ) (f : ℕ → ℕ) (n : ℕ) → n ≡ length to → tabulate n f ++ drop n to ≡ tabulate (length to) f
 front-all to f n e = let h : length to ≤ n = omega arith in rw (drop-of-length-le to h, append-nil (tabulate n f), e)
-
-pub tail-is : (n : ℕ) (l : List ℕ) → take (length l - n) (drop n l) ≡ drop n l
-tail-is n l = take-all (length l - n) (drop n l) (le-of-eq (length-drop n l))
 
 -- who holds a wait
 module _ (ticks : ℕ) (marks : List ℕ) (count x : ℕ) (rest clocks : List ℕ) where

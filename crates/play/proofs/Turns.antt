@@ -11,15 +11,12 @@ use lib.Dec.{leb, eqb}
 use borrow.Author.Tests.{leb-true, le-leb, eqb-true}
 use Rattle.effbd.specs.Records.{word, lengthAt, kindAt}
 use Rattle.effbd.specs.History.{Call, offer, hand, Seen}
+use Rattle.ranges.specs.RangeLaws.{tail-is}
 use Rattle.ranges.specs.Tests.{decide, and-left, and-right}
 use Rattle.play.specs.CallList.{isCall, callAt, afterCall}
 use Rattle.play.specs.Played.{Live, liveAfter, liveSeen, Called, AllCalled}
 use Rattle.play.proofs.Lists.{Making, Made, making-turn, made-early}
-use Rattle.play.proofs.Calls.{all-taken, offer-room}
-
--- the tail that is lent is the rest of the list
-pub tail-is : (at : ℕ) (calls : List ℕ) → take (length calls - at) (drop at calls) ≡ drop at calls
-tail-is at calls = ap (λ (n : ℕ). take n (drop at calls)) (sym (length-drop at calls)) ∙ all-taken (drop at calls)
+use Rattle.play.proofs.Calls.{offer-room}
 
 -- what a record that is a call has
 pub record Sized (rest : List ℕ) : Type 0 where

@@ -1,12 +1,13 @@
--- Bounded tests, the least number that passes, tables.
-use Prim.Native.Nat.{ℕ, zero, suc, _+_, _≤_, _<_, zero-le}
+-- Bounded tests, the least number that passes, tables, tails.
+use Prim.Native.Nat.{ℕ, zero, suc, _+_, _-_, _≤_, _<_, zero-le}
 use mathlib.Core.Path.{_≡_, refl, sym, _∙_, ap, ap₂}
 use mathlib.Core.Logic.{_≢_}
 use mathlib.Core.Bool.{Bool, true, false, _&&_}
-use mathlib.Core.List.{_∷_}
+use mathlib.Core.List.{List, _∷_}
 use native.Mathlib.Omega.{arith}
-use native.Mathlib.Nat.{zero-add, suc-add}
-use lib.ListN.{length, getD}
+use native.Mathlib.Nat.{zero-add, suc-add, le-of-eq}
+use lib.ListN.{length, getD, take, drop, length-drop}
+use lib.Seq.{take-all}
 use lib.Dec.{eqb}
 use borrow.Author.Tests.{eqb-true, eqb-false, eq-eqb}
 use Rattle.effbd.specs.Ranges.{allBelow, least, only, tabulate}
@@ -71,6 +72,10 @@ least-is zero f i l e h = absurd (omega arith)
 least-is (suc n) f zero l e h = rw (least, e)
 least-is (suc n) f (suc i) l e h = rw (least, h 0 (omega arith)) (ap suc (least-is n (λ j. f (suc j)) i (omega arith) e (λ j z. h (suc j) (omega arith))))
 
+pub least-low : (n : ℕ) (f : ℕ → Bool) → least n f ≤ n
+least-low zero f = omega arith
+least-low (suc n) f = decide (f zero) (λ e. rw (least, e) zero-le) (λ e. rw (least, e) (let h = least-low n (λ j. f (suc j)) in omega arith))
+
 pub least-none : (n : ℕ) (f : ℕ → Bool) → ((j : ℕ) → j < n → f j ≡ false) → least n f ≡ n
 least-none zero f h = refl
 least-none (suc n) f h = rw (least, h 0 (omega arith)) (ap suc (least-none n (λ j. f (suc j)) (λ j z. h (suc j) (omega arith))))
@@ -99,3 +104,7 @@ length-tab (suc n) f = ap suc (length-tab n (λ x. f (suc x)))
 pub tab-ext : {A : Type 0} (n : ℕ) (f g : ℕ → A) → ((i : ℕ) → i < n → f i ≡ g i) → tabulate n f ≡ tabulate n g
 tab-ext zero f g h = refl
 tab-ext (suc n) f g h = ap₂ _∷_ (h zero (omega arith)) (tab-ext n (λ x. f (suc x)) (λ x. g (suc x)) (λ i l. h (suc i) (omega arith)))
+
+-- the tail that is lent is what follows
+pub tail-is : (n : ℕ) (l : List ℕ) → take (length l - n) (drop n l) ≡ drop n l
+tail-is n l = take-all (length l - n) (drop n l) (le-of-eq (length-drop n l))

@@ -4,7 +4,7 @@ use mathlib.Core.Path.{ap, sym, _∙_}
 use lib.ListN.{length, take, drop}
 use mathlib.Core.List.{List, _++_}
 use Rattle.net_step.specs.declared.Renewal.the-variants.{Waited}
-use Rattle.net_step.proofs.Loops.{tail-is}
+use Rattle.ranges.specs.RangeLaws.{tail-is}
 use Rattle.net_step.proofs.Cases.{tail-put, wait-zero, wait-held, wait-free, turned-away, moved-to}
 use Rattle.net_file.specs.Contents.{transitionsIn}
 use Rattle.net_step.specs.Stepping.{clocksBy, renewedClock}
