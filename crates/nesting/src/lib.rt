@@ -231,7 +231,7 @@ fn any_fault(table: &[u16], rows: usize, row: usize, around: Open) -> u16
     0
 }
 
-// The same, with a shorter way for FUNCTION rows, which most rows are.
+// The same, with a shorter way for FUNCTION rows.
 fn fault_in(table: &[u16], rows: usize, row: usize, around: Open) -> u16
     requires { ⌜ (row < rows) × (rows ≤ 65535) ⌝ }
     requires { ⌜ around .opened ≤ 65535 ⌝ }
