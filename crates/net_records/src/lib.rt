@@ -3,7 +3,7 @@
 // the area: past its end a store changes nothing, so that a writer also measures.
 ghost use mathlib.Core.Path.{_≡_};
 ghost use mathlib.Core.List.{[], _∷_};
-ghost use Prim.Native.Nat.{_≤_};
+ghost use Prim.Native.Nat.{_*_, _≤_};
 ghost use lib.ListN.{length};
 ghost use lib.Seq.{sets};
 ghost use Rattle.net_records.specs.Writing.{encode, past as pastOf, Wrote};
@@ -25,8 +25,22 @@ fn past(at: usize, n: usize) -> usize
     at
 }
 
-// A record's words at the start of an area.
-fn put_record(area: &mut [u8], fields: &[u16])
+// A record's words at the start of an area that has room for them: no byte is asked whether it fits.
+fn put_whole(area: &mut [u8], fields: &[u16])
+    requires { ⌜ (length (now fields) ≤ 5) × (2 * length (now fields) ≤ length (now area)) ⌝ }
+    ensures { λ _. ⌜ now (area .exit) ≡ sets (now (area .entry)) 0 (encode (now (fields .entry))) ⌝ }
+{
+    let mut i: usize = 0;
+    while i < fields.len() {
+        let value = fields[i];
+        area[2 * i] = (value % 256) as u8;
+        area[2 * i + 1] = (value / 256) as u8;
+        i += 1;
+    }
+}
+
+// The same where the area may end before the record does.
+fn put_cut(area: &mut [u8], fields: &[u16])
     requires { ⌜ length (now fields) ≤ 5 ⌝ }
     ensures { λ _. ⌜ now (area .exit) ≡ sets (now (area .entry)) 0 (encode (now (fields .entry))) ⌝ }
 {
@@ -34,6 +48,18 @@ fn put_record(area: &mut [u8], fields: &[u16])
     while i < fields.len() {
         words::put_word(area, 2 * i, fields[i]);
         i += 1;
+    }
+}
+
+// A record's words at the start of an area; one look at its length serves them all.
+fn put_record(area: &mut [u8], fields: &[u16])
+    requires { ⌜ length (now fields) ≤ 5 ⌝ }
+    ensures { λ _. ⌜ now (area .exit) ≡ sets (now (area .entry)) 0 (encode (now (fields .entry))) ⌝ }
+{
+    if 2 * fields.len() <= area.len() {
+        put_whole(area, fields);
+    } else {
+        put_cut(area, fields);
     }
 }
 

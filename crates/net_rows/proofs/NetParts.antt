@@ -23,7 +23,7 @@ use Rattle.diagram_file.proofs.HeldCells.{in-rows, kind-cell, owner-kind, enter
 use Rattle.net_records.specs.Writing.{Records, runs}
 use Rattle.net_records.specs.Records.{pair, transition, mark}
 use Rattle.net_rows.specs.Rows.{rowRecords}
-use Rattle.net_rows.specs.Marks.{firstMark, remaining, rowMarks, itemMark, numberAs, tally}
+use Rattle.net_rows.specs.Marks.{firstMark, remaining, rowMarks, itemMark, ownNumber, branchNumber, numberAs, tally}
 use Rattle.net_records.proofs.Runs.{runs-same, runs-front}
 use Rattle.net_records.proofs.Nets.{arcRecord, markRecord, transitionRecord, transitionRecords, records-append}
 use Rattle.net_loops.proofs.Weights.{arcs-run, weights, by-rows}
@@ -69,7 +69,7 @@ word-mod n l = omega arith
 
 module _ (d : Diagram) where
   numberBy : (k : Kind) (r : ℕ) → (length (patternsAs d k r) ≡ numberAs (numberOf (kind d (owner d r))) (numberOf k)) × (length (patternsAs d k r) ≤ 2)
-  unfolding numberAs
+  unfolding numberAs ownNumber branchNumber
   numberBy function r = (refl, omega arith)
   numberBy and-open r = (refl, omega arith)
   numberBy branch r = decide (isKind d or-open (owner d r)) (λ e. rw e (refl, omega arith)) (λ e. rw e (refl, omega arith))

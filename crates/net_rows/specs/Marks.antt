@@ -1,6 +1,6 @@
 -- The records of a net's places with their fresh marks, and how many transitions its head says. Assumes nothing.
 use Prim.Native.Nat.{ℕ, zero, suc, _+_}
-use mathlib.Core.Bool.{cond}
+use mathlib.Core.Bool.{cond, _&&_}
 use mathlib.Core.List.{List, _++_}
 use lib.Dec.{eqb}
 use Rattle.diagram_table.specs.Cells.{kindIn, firstIn, ownerIn, countIn}
@@ -20,9 +20,15 @@ rowMarks table first row = mark (firstMark first row) ++ mark 0 ++ mark (remaini
 unfoldable pub itemMark : (table : List ℕ) (k : ℕ) → Records
 itemMark table k = mark (countIn table k)
 
--- how many transitions a row of kind k has whose construct's open row is of kind j
+-- how many transitions a row of kind k has: by its kind, and, for a BRANCH, by the kind j of its construct's open row
+unfoldable pub ownNumber : ℕ → ℕ
+ownNumber k = cond (eqb k 16) 2 (cond (eqb k 22) 2 (cond (eqb k 27) 0 (cond (eqb k 20) 0 (cond (eqb k 18) 0 1))))
+
+unfoldable pub branchNumber : (j k : ℕ) → ℕ
+branchNumber j k = cond (eqb k 18 && eqb j 20) 1 0
+
 unfoldable pub numberAs : (j k : ℕ) → ℕ
-numberAs j k = cond (eqb k 16) 2 (cond (eqb k 22) 2 (cond (eqb k 27) 0 (cond (eqb k 20) 0 (cond (eqb k 18) (cond (eqb j 20) 1 0) 1))))
+numberAs j k = ownNumber k + branchNumber j k
 
 unfoldable pub tally : (table : List ℕ) → ℕ → ℕ
 tally table zero = 0

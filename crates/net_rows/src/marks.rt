@@ -4,7 +4,7 @@ ghost use Prim.Native.Nat.{_+_, _*_, _≤_};
 ghost use Rattle.diagram_table.specs.Cells.{enteredIn};
 ghost use Rattle.net_records.specs.Writing.{Wrote, runs};
 ghost use Rattle.net_records.specs.Records.{pair};
-ghost use Rattle.net_rows.specs.Marks.{firstMark, remaining as remainingOf, rowMarks, itemMark, numberAs, tally as tallyOf};
+ghost use Rattle.net_rows.specs.Marks.{firstMark, remaining as remainingOf, rowMarks, itemMark, ownNumber, branchNumber, numberAs, tally as tallyOf};
 use diagram_table::COUNT;
 use diagram_table::FIRST;
 use diagram_table::OWNER;
@@ -66,23 +66,35 @@ pub fn of_items(table: &[u16], items: u16, area: &mut [u8], at: usize) -> usize
     next
 }
 
-// How many transitions a row of a kind has; a BRANCH, by its construct's open row.
-fn number(construct: u16, kind: u16) -> usize
-    ensures { λ r. ⌜ (r ≡ numberAs construct kind) × (r ≤ 2) ⌝ }
+// How many transitions a row of a kind has, whatever it stands in; only a BRANCH asks for that.
+fn own_number(kind: u16) -> usize
+    ensures { λ r. ⌜ (r ≡ ownNumber kind) × (r ≤ 2) ⌝ }
 {
     match kind {
         kinds::FUNCTION => 2,
         kinds::IT_OPEN => 2,
         kinds::END => 0,
         kinds::OR_OPEN => 0,
-        kinds::BRANCH => {
-            if construct == kinds::OR_OPEN {
-                return 1;
-            }
-            0
-        }
+        kinds::BRANCH => 0,
         _ => 1,
     }
+}
+
+// A BRANCH of an OR has one, `construct` being the kind of its construct's open row.
+fn branch_number(construct: u16, kind: u16) -> usize
+    ensures { λ r. ⌜ (r ≡ branchNumber construct kind) × (r ≤ 1) ⌝ }
+{
+    if kind == kinds::BRANCH && construct == kinds::OR_OPEN {
+        return 1;
+    }
+    0
+}
+
+// How many transitions a row has: a sum instead of a choice, which would go another way at every row.
+fn number(construct: u16, kind: u16) -> usize
+    ensures { λ r. ⌜ (r ≡ numberAs construct kind) × (r ≤ 3) ⌝ }
+{
+    own_number(kind) + branch_number(construct, kind)
 }
 
 fn tally(table: &[u16], rows: u16) -> usize

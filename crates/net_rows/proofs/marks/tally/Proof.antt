@@ -8,7 +8,7 @@ use Rattle.net_rows.proofs.marks.tally.Statement.{statement}
 use Rattle.net_rows.proofs.marks.tally.Tie as tie
 
 abbrev Inv-loop : tie.InvT-loop
-Inv-loop table rows sum₀ row₀ sum row = (row ≤ rows) × (sum ≤ 2 * row) × (sum ≡ tally table row)
+Inv-loop table rows sum₀ row₀ sum row = (row ≤ rows) × (sum ≤ 3 * row) × (sum ≡ tally table row)
 
 abbrev μ-loop : tie.MeasureT-loop
 μ-loop table rows sum₀ row₀ sum row = rows - row

@@ -7,8 +7,8 @@ use lib.Seq.{sets, length-sets, take-all}
 use Rattle.net_records.specs.Writing.{encode}
 use Rattle.net_records.proofs.Stores.{word-turn}
 use borrow.Author.Needs.{needs}
-use Rattle.net_records.proofs.put_record.Statement.{statement}
-use Rattle.net_records.proofs.put_record.Tie as tie
+use Rattle.net_records.proofs.put_cut.Statement.{statement}
+use Rattle.net_records.proofs.put_cut.Tie as tie
 
 abbrev Inv-loop : tie.InvT-loop
 Inv-loop area₀ fields i₀ area i = (i ≤ length fields) × (area ≡ sets area₀ 0 (encode (take i fields)))
@@ -51,8 +51,8 @@ returns c = let a = c .before .before .before .before .args in
     let l = c .before .loop in
     l .inv .1 ∙ ap (λ (x : List ℕ). sets (a .area .now) 0 (encode x)) (take-all (l .i) (a .fields .now) (omega arith))
 
-pub put-record-spec : {M : Type 1} → statement M
-put-record-spec =
+pub put-cut-spec : {M : Type 1} → statement M
+put-cut-spec =
     tie.close
     (tie.spec
     Inv-loop
