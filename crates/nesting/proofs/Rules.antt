@@ -1,30 +1,31 @@
 -- The nesting rules over the table's numbers are those of the diagram.
-use Prim.Native.Nat.{ℕ, zero, suc, _+_, _≤_, _<_}
+use Prim.Native.Nat.{ℕ, suc, _+_, _≤_, _<_}
 use mathlib.Core.Path.{_≡_, refl, sym, _∙_, ap}
-use mathlib.Core.Bool.{Bool, true, false, not, cond, _&&_, _||_}
+use mathlib.Core.Bool.{Bool, true, false, not, cond, _&&_, _||_, and-true, and-false, and-comm}
 use mathlib.Core.List.{List, [], _∷_}
 use native.Mathlib.Omega.{arith}
 use native.Mathlib.Numerals.{add-one}
-use lib.ListN.{List·getD-eq-default}
+use lib.ListN.{length, List·getD-eq-default}
 use lib.Dec.{leb, ltb, eqb}
-use borrow.Author.Tests.{ltb-true, ltb-false, leb-false, eqb-true, ne-eqb}
+use borrow.Author.Tests.{ltb-true, ltb-false, eqb-true, eq-eqb, ne-eqb}
 use Rattle.effbd.specs.Diagrams.{Kind, function, and-open, branch, and-close, or-open, or-close, it-open, it-close, lp-open, lp-close, loop-exit, end, numberOf, sameKind, Row, plain, Diagram, rowCount, kind, isKind}
 use Rattle.effbd.specs.Nesting.{Frame, push, turnTo, pop, passing, innermostOpen, stack, innermostIs, someOpen, noneOpen, inAndOr, twoBranches, follows, standsAs, nestingBroken, exitMisplaced, thirteenthOpen, nestingFault}
-use Rattle.ranges.specs.Tests.{decide, clash}
+use Rattle.ranges.specs.Tests.{decide, clash, or-false-left}
 use Rattle.nesting.specs.declared.Part.{Part}
 use Rattle.nesting.specs.declared.Part.the-variants.{Opens, Turns, Closes, Stays}
 use Rattle.nesting.specs.declared.Open.{Open}
-use Rattle.nesting.specs.Runs.{partOf, kindIn, topIn, isAndOr, standsOf, followsOf, brokenOf, exitFits, misplacedOf, opening, deepOf, beforeIn, functionFault, faultIn, Kinds, Shows}
+use Rattle.nesting.specs.Runs.{partOf, kindIn, topIn, isAndOr, exitFits, closesIn, stayFault, lastFault, Kinds, Shows}
 
--- a FUNCTION's fault, the shorter way
-pub function-fault-is : (table : List ℕ) (rows q : ℕ) (o : Open) → kindIn table rows q ≡ 16 → functionFault (beforeIn table rows q) (eqb (q + 1) rows) ≡ faultIn table rows q o
-unfolding faultIn functionFault brokenOf followsOf standsOf misplacedOf deepOf partOf
-function-fault-is table rows q o e = rw e (go (isAndOr (beforeIn table rows q)) (eqb (q + 1) rows))
-  where
-    go : (a l : Bool) → _≡_ {A = ℕ} (cond (a || l) 7 0) (cond (not ((not a || false) && (true && (not l || false)))) 7 0)
-    go true l = refl
-    go false true = refl
-    go false false = refl
+-- the fault of a row that is not the last and stands behind no AND open or OR open, by its part
+abbrev pub faultBy : Part → (kind next top : ℕ) (two looped : Bool) (depth : ℕ) → ℕ
+faultBy Opens k next top two looped depth = cond (leb 12 depth) 9 0
+faultBy Turns k next top two looped depth = cond (isAndOr top) 0 7
+faultBy Closes k next top two looped depth = cond (closesIn k top two) 0 7
+faultBy Stays k next top two looped depth = stayFault k next top looped
+
+-- the same of row q of the table, where `o` is open
+abbrev pub faultIn : List ℕ → ℕ → ℕ → Open → Part → ℕ
+faultIn table rows q o part = faultBy part (kindIn table rows q) (kindIn table rows (q + 1)) (topIn table rows o) (ltb (o .opened + 1) (o .latest)) (o .looped) (o .depth)
 
 -- what a row does, by its part
 abbrev pub passingBy : Part → ℕ → List Frame → List Frame
@@ -33,11 +34,24 @@ passingBy Turns q fs = turnTo q fs
 passingBy Closes q fs = pop fs
 passingBy Stays q fs = fs
 
+abbrev pub opening : Part → Bool
+opening Opens = true
+opening Turns = false
+opening Closes = false
+opening Stays = false
+
 abbrev pub closing : Part → Bool
 closing Opens = false
 closing Turns = false
 closing Closes = true
 closing Stays = false
+
+-- with nothing open no BRANCH and no close may stand
+abbrev pub ending : Part → Bool
+ending Opens = false
+ending Turns = true
+ending Closes = true
+ending Stays = false
 
 -- a kind, by its number
 pub record Shape (k : Kind) : Type 0 where
@@ -45,21 +59,23 @@ pub record Shape (k : Kind) : Type 0 where
   pub opens : (sameKind k and-open || sameKind k or-open || sameKind k it-open || sameKind k lp-open) ≡ opening (partOf (numberOf k))
   pub closes : (sameKind k and-close || sameKind k or-close || sameKind k it-close || sameKind k lp-close) ≡ closing (partOf (numberOf k))
   pub nonzero : (eqb (numberOf k) 0 ≡ false) × (eqb 0 (numberOf k) ≡ false)
+  pub bare : (d : Diagram) (q : ℕ) → (ending (partOf (numberOf k)) && standsAs d k q []) ≡ false
+  pub last : (d : Diagram) (q : ℕ) (fs : List Frame) → (sameKind k end && standsAs d k q fs) ≡ (sameKind k end && (noneOpen d fs && eqb (suc q) (rowCount d)))
 
 pub shape : (k : Kind) → Shape k
 unfolding partOf
-shape function = record { passes = λ q fs. refl; opens = refl; closes = refl; nonzero = (refl, refl) }
-shape and-open = record { passes = λ q fs. refl; opens = refl; closes = refl; nonzero = (refl, refl) }
-shape branch = record { passes = λ q fs. refl; opens = refl; closes = refl; nonzero = (refl, refl) }
-shape and-close = record { passes = λ q fs. refl; opens = refl; closes = refl; nonzero = (refl, refl) }
-shape or-open = record { passes = λ q fs. refl; opens = refl; closes = refl; nonzero = (refl, refl) }
-shape or-close = record { passes = λ q fs. refl; opens = refl; closes = refl; nonzero = (refl, refl) }
-shape it-open = record { passes = λ q fs. refl; opens = refl; closes = refl; nonzero = (refl, refl) }
-shape it-close = record { passes = λ q fs. refl; opens = refl; closes = refl; nonzero = (refl, refl) }
-shape lp-open = record { passes = λ q fs. refl; opens = refl; closes = refl; nonzero = (refl, refl) }
-shape lp-close = record { passes = λ q fs. refl; opens = refl; closes = refl; nonzero = (refl, refl) }
-shape loop-exit = record { passes = λ q fs. refl; opens = refl; closes = refl; nonzero = (refl, refl) }
-shape end = record { passes = λ q fs. refl; opens = refl; closes = refl; nonzero = (refl, refl) }
+shape function = record { passes = λ q fs. refl; opens = refl; closes = refl; nonzero = (refl, refl); bare = λ d q. refl; last = λ d q fs. refl }
+shape and-open = record { passes = λ q fs. refl; opens = refl; closes = refl; nonzero = (refl, refl); bare = λ d q. refl; last = λ d q fs. refl }
+shape branch = record { passes = λ q fs. refl; opens = refl; closes = refl; nonzero = (refl, refl); bare = λ d q. refl; last = λ d q fs. refl }
+shape and-close = record { passes = λ q fs. refl; opens = refl; closes = refl; nonzero = (refl, refl); bare = λ d q. refl; last = λ d q fs. refl }
+shape or-open = record { passes = λ q fs. refl; opens = refl; closes = refl; nonzero = (refl, refl); bare = λ d q. refl; last = λ d q fs. refl }
+shape or-close = record { passes = λ q fs. refl; opens = refl; closes = refl; nonzero = (refl, refl); bare = λ d q. refl; last = λ d q fs. refl }
+shape it-open = record { passes = λ q fs. refl; opens = refl; closes = refl; nonzero = (refl, refl); bare = λ d q. refl; last = λ d q fs. refl }
+shape it-close = record { passes = λ q fs. refl; opens = refl; closes = refl; nonzero = (refl, refl); bare = λ d q. refl; last = λ d q fs. refl }
+shape lp-open = record { passes = λ q fs. refl; opens = refl; closes = refl; nonzero = (refl, refl); bare = λ d q. refl; last = λ d q fs. refl }
+shape lp-close = record { passes = λ q fs. refl; opens = refl; closes = refl; nonzero = (refl, refl); bare = λ d q. refl; last = λ d q fs. refl }
+shape loop-exit = record { passes = λ q fs. refl; opens = refl; closes = refl; nonzero = (refl, refl); bare = λ d q. refl; last = λ d q fs. refl }
+shape end = record { passes = λ q fs. refl; opens = refl; closes = refl; nonzero = (refl, refl); bare = λ d q. refl; last = λ d q fs. refl }
 
 module _ (d : Diagram) where
   pub stack-next : (q : ℕ) (part : Part) → partOf (numberOf (kind d q)) ≡ part → stack d (q + 1) ≡ passingBy part q (stack d q)
@@ -85,20 +101,101 @@ module _ (d : Diagram) where
   unfolding isAndOr
   fork-is fs = rw (top-is and-open fs, top-is or-open fs)
 
-  stands-is : (k : Kind) (q : ℕ) (fs : List Frame) → standsAs d k q fs ≡ standsOf (numberOf k) (topNumber fs) (twoBranches d fs) (eqb (suc q) (rowCount d))
-  unfolding standsOf
-  stands-is function q fs = refl
-  stands-is and-open q fs = refl
-  stands-is branch q fs = fork-is fs
-  stands-is and-close q fs = rw (top-is and-open fs)
-  stands-is or-open q fs = refl
-  stands-is or-close q fs = rw (top-is or-open fs)
-  stands-is it-open q fs = refl
-  stands-is it-close q fs = top-is it-open fs
-  stands-is lp-open q fs = refl
-  stands-is lp-close q fs = top-is lp-open fs
-  stands-is loop-exit q fs = refl
-  stands-is end q fs = rw (none-is fs)
+  -- behind a row that is no AND open or OR open any row may stand
+  pub free-behind : (q : ℕ) → isAndOr (numberOf (kind d q)) ≡ false → follows d (q + 1) ≡ true
+  unfolding isAndOr
+  free-behind q h = ap (follows d) (add-one q) ∙ rw h
+
+  pub free-next : (q : ℕ) (part : Part) → partOf (numberOf (kind d q)) ≡ part → opening part ≡ false → follows d (q + 1) ≡ true
+  unfolding isAndOr
+  free-next q part e h =
+      let none = shape (kind d q) .opens ∙ (ap opening e ∙ h) in
+      free-behind q (or-false-left (isKind d and-open q || isKind d or-open q) (isKind d it-open q) (or-false-left (isKind d and-open q || isKind d or-open q || isKind d it-open q) (isKind d lp-open q) none))
+
+  exit-same : (a b l x y z : Bool) → (a ≡ true → b ≡ false) → ((a || b) && (l && (x || ((a && y) || (b && z))))) ≡ (l && ((a || b) && (x || cond a y z)))
+  exit-same true true l x y z h = clash refl (h refl)
+  exit-same true false true true y z h = refl
+  exit-same true false true false true z h = refl
+  exit-same true false true false false z h = refl
+  exit-same true false false x y z h = refl
+  exit-same false true true x y z h = refl
+  exit-same false true false x y z h = refl
+  exit-same false false true x y z h = refl
+  exit-same false false false x y z h = refl
+
+  exit-is : (q : ℕ) → exitMisplaced d q ≡ (isKind d loop-exit q && not (exitFits (numberOf (kind d (q + 1))) (topNumber (stack d q)) (someOpen d lp-open (stack d q))))
+  unfolding exitMisplaced exitFits isAndOr
+  exit-is q =
+      let top : ℕ = topNumber (stack d q) in
+      rw (add-one q, top-is and-open (stack d q), top-is or-open (stack d q))
+      (ap (λ (b : Bool). isKind d loop-exit q && not b)
+      (exit-same (eqb top 17) (eqb top 20) (someOpen d lp-open (stack d q)) (isKind d branch (suc q)) (isKind d and-close (suc q)) (isKind d or-close (suc q))
+      (λ e. ne-eqb top 20 (λ z. let y = eqb-true top 17 e in absurd (omega arith)))))
+
+  swap : (b : Bool) (n : ℕ) → cond (not b) n 0 ≡ cond b 0 n
+  swap true n = refl
+  swap false n = refl
+
+  inside-as : (k : Kind) (next q : ℕ) (fs : List Frame) → eqb (suc q) (rowCount d) ≡ false
+      → cond (not (standsAs d k q fs)) 7 (cond (sameKind k loop-exit && not (exitFits next (topNumber fs) (someOpen d lp-open fs))) 8 (cond (opening (partOf (numberOf k)) && leb 12 (length fs)) 9 0))
+      ≡ faultBy (partOf (numberOf k)) (numberOf k) next (topNumber fs) (twoBranches d fs) (someOpen d lp-open fs) (length fs)
+  unfolding partOf closesIn stayFault
+  inside-as function next q fs l = refl
+  inside-as and-open next q fs l = refl
+  inside-as branch next q fs l = rw (fork-is fs) (swap (isAndOr (topNumber fs)) 7)
+  inside-as and-close next q fs l = rw (top-is and-open fs) (swap (eqb (topNumber fs) 17 && twoBranches d fs) 7)
+  inside-as or-open next q fs l = refl
+  inside-as or-close next q fs l = rw (top-is or-open fs) (swap (eqb (topNumber fs) 20 && twoBranches d fs) 7)
+  inside-as it-open next q fs l = refl
+  inside-as it-close next q fs l = rw (top-is it-open fs) (swap (eqb (topNumber fs) 22) 7)
+  inside-as lp-open next q fs l = refl
+  inside-as lp-close next q fs l = rw (top-is lp-open fs) (swap (eqb (topNumber fs) 24) 7)
+  inside-as loop-exit next q fs l = swap (exitFits next (topNumber fs) (someOpen d lp-open fs)) 8
+  inside-as end next q fs l = rw (l, and-false (noneOpen d fs))
+
+  last-as : (n : ℕ) (b x y : Bool) → _≡_ {A = ℕ} (cond (not (eqb n 27 && b)) 7 (cond (eqb n 26 && x) 8 (cond (opening (partOf n) && y) 9 0))) (cond (eqb n 27 && b) 0 7)
+  unfolding partOf
+  last-as n b x y = decide (eqb n 27) (λ e. rw (eqb-true n 27 e) (swap b 7)) (λ e. rw e)
+
+  module _ (q : ℕ) (f : follows d q ≡ true) where
+    deep-is : thirteenthOpen d q ≡ (opening (partOf (numberOf (kind d q))) && leb 12 (length (stack d q)))
+    unfolding thirteenthOpen
+    deep-is = rw (shape (kind d q) .opens)
+
+    -- the fault of a row that is not the last, by its part
+    inside-is : eqb (suc q) (rowCount d) ≡ false → nestingFault d q
+        ≡ faultBy (partOf (numberOf (kind d q))) (numberOf (kind d q)) (numberOf (kind d (q + 1))) (topNumber (stack d q)) (twoBranches d (stack d q)) (someOpen d lp-open (stack d q)) (length (stack d q))
+    unfolding nestingFault nestingBroken
+    inside-is l = rw (f, l, and-true (standsAs d (kind d q) q (stack d q)), exit-is q, deep-is) (inside-as (kind d q) (numberOf (kind d (q + 1))) q (stack d q) l)
+
+    -- the fault of the last row
+    last-is : eqb (suc q) (rowCount d) ≡ true → nestingFault d q ≡ lastFault (numberOf (kind d q)) (topNumber (stack d q))
+    unfolding nestingFault nestingBroken lastFault
+    last-is l =
+        let s : (standsAs d (kind d q) q (stack d q) && isKind d end q) ≡ (isKind d end q && eqb (topNumber (stack d q)) 0) =
+        and-comm (standsAs d (kind d q) q (stack d q)) (isKind d end q) ∙ (shape (kind d q) .last d q (stack d q) ∙ rw (l, and-true (noneOpen d (stack d q)), none-is (stack d q))) in
+        rw (f, l, s, exit-is q, deep-is)
+        (last-as (numberOf (kind d q)) (eqb (topNumber (stack d q)) 0) (not (exitFits (numberOf (kind d (q + 1))) (topNumber (stack d q)) (someOpen d lp-open (stack d q)))) (leb 12 (length (stack d q))))
+
+  -- behind an AND open or OR open: a BRANCH that is not the last row stands there, all else does not
+  module _ (q : ℕ) (h : isAndOr (numberOf (kind d q)) ≡ true) where
+    forked : follows d (q + 1) ≡ isKind d branch (q + 1)
+    unfolding isAndOr
+    forked = ap (follows d) (add-one q) ∙ rw (h, add-one q)
+
+    pub branched : partOf (numberOf (kind d q)) ≡ Opens → isKind d branch (q + 1) ≡ true → q + 1 + 1 < rowCount d → nestingFault d (q + 1) ≡ 0
+    unfolding partOf topNumber
+    branched opens b l =
+        let inner : eqb (suc (q + 1)) (rowCount d) ≡ false = ne-eqb (suc (q + 1)) (rowCount d) (λ z. absurd (omega arith)) in
+        let top : topNumber (stack d (q + 1)) ≡ numberOf (kind d q) = ap topNumber (stack-next q Opens opens) in
+        inside-is (q + 1) (forked ∙ b) inner ∙ rw (eqb-true (numberOf (kind d (q + 1))) 18 b, top, h)
+
+    pub unbranched : q + 1 < rowCount d → (isKind d branch (q + 1) && ltb (q + 1 + 1) (rowCount d)) ≡ false → nestingFault d (q + 1) ≡ 7
+    unfolding nestingFault nestingBroken lastFault
+    unbranched l e = decide (isKind d branch (q + 1))
+        (λ b. let last : eqb (suc (q + 1)) (rowCount d) ≡ true = eq-eqb (suc (q + 1)) (rowCount d) (omega (arith, ltb-false (q + 1 + 1) (rowCount d) (rw b at e))) in
+        last-is (q + 1) (forked ∙ b) last ∙ rw (eqb-true (numberOf (kind d (q + 1))) 18 b))
+        (λ b. rw (forked, b))
 
   module _ (rows : ℕ) (table : List ℕ) (k : Kinds d rows table) where
     pub kind-is : (q : ℕ) → kindIn table rows q ≡ numberOf (kind d q)
@@ -107,77 +204,21 @@ module _ (d : Diagram) where
         (λ e. let past : rowCount d ≤ q = omega (arith, k .count, ltb-false q rows e) in
         rw e (sym (ap (λ (r : Row). numberOf (r .kind)) (List·getD-eq-default (d .rows) (plain end) past))))
 
-    follows-is : (q : ℕ) → follows d q ≡ followsOf (beforeIn table rows q) (kindIn table rows q)
-    unfolding followsOf isAndOr
-    follows-is zero = refl
-    follows-is (suc p) = rw (kind-is p, kind-is (suc p))
-
     top-shown : (fs : List Frame) (o : Open) → Shows d fs o → topIn table rows o ≡ topNumber fs
     unfolding topIn topNumber
     top-shown [] o s = rw (s .depth)
     top-shown (f ∷ fs) o s = rw (ne-eqb (o .depth) 0 (λ z. let h = s .depth in absurd (omega arith)), s .opened) (kind-is (f .opened))
 
-    exit-same : (a b l x y z : Bool) → (a ≡ true → b ≡ false) → ((a || b) && (l && (x || ((a && y) || (b && z))))) ≡ (l && ((a || b) && (x || cond a y z)))
-    exit-same true true l x y z h = clash refl (h refl)
-    exit-same true false true true y z h = refl
-    exit-same true false true false true z h = refl
-    exit-same true false true false false z h = refl
-    exit-same true false false x y z h = refl
-    exit-same false true true x y z h = refl
-    exit-same false true false x y z h = refl
-    exit-same false false true x y z h = refl
-    exit-same false false false x y z h = refl
-
-    module _ (q : ℕ) (o : Open) (s : Shows d (stack d q) o) where
-      fs : List Frame
-      fs = stack d q
-
-      broken-is : nestingBroken d q ≡ brokenOf (beforeIn table rows q) (kindIn table rows q) (topIn table rows o) (ltb (o .opened + 1) (o .latest)) (eqb (q + 1) rows)
-      unfolding nestingBroken brokenOf fs
-      broken-is =
-          let last : eqb (suc q) (rowCount d) ≡ eqb (q + 1) rows = rw (add-one q, k .count) in
-          let two : twoBranches d fs ≡ ltb (o .opened + 1) (o .latest) = rw (s .opened, s .latest, add-one (innermostOpen fs)) in
-          rw (follows-is q, stands-is (kind d q) q fs, last, two, ← top-shown fs o s, ← kind-is q)
-
-      exit-is : exitMisplaced d q ≡ misplacedOf (kindIn table rows q) (kindIn table rows (q + 1)) (topIn table rows o) (o .looped)
-      unfolding exitMisplaced misplacedOf exitFits isAndOr fs
-      exit-is =
-          rw (kind-is q, kind-is (q + 1), add-one q, top-shown fs o s, top-is and-open fs, top-is or-open fs, s .looped)
-          (ap (λ (b : Bool). isKind d loop-exit q && not b)
-          (exit-same (eqb (topNumber fs) 17) (eqb (topNumber fs) 20) (someOpen d lp-open fs) (isKind d branch (suc q)) (isKind d and-close (suc q)) (isKind d or-close (suc q))
-          (λ e. ne-eqb (topNumber fs) 20 (λ z. let y = eqb-true (topNumber fs) 17 e in absurd (omega arith)))))
-
-      deep-is : thirteenthOpen d q ≡ deepOf (kindIn table rows q) (o .depth)
-      unfolding thirteenthOpen deepOf
-      deep-is = rw (kind-is q, s .depth, shape (kind d q) .opens)
-
+    module _ (q : ℕ) (o : Open) (s : Shows d (stack d q) o) (f : follows d q ≡ true) where
       -- THEOREM: the code's fault is the definition's
-      pub fault-is : faultIn table rows q o ≡ nestingFault d q
-      unfolding faultIn nestingFault
-      fault-is = rw (broken-is, exit-is, deep-is)
+      pub fault-is : (part : Part) → q + 1 < rows → partOf (kindIn table rows q) ≡ part → nestingFault d q ≡ faultIn table rows q o part
+      fault-is part l e =
+          let inner : eqb (suc q) (rowCount d) ≡ false = ne-eqb (suc q) (rowCount d) (λ z. absurd (omega (arith, k .count))) in
+          let two : twoBranches d (stack d q) ≡ ltb (o .opened + 1) (o .latest) = rw (s .opened, s .latest, add-one (innermostOpen (stack d q))) in
+          rw (← e, kind-is q, kind-is (q + 1), top-shown (stack d q) o s, ← two, s .looped, s .depth) (inside-is q f inner)
 
--- with nothing open no BRANCH and no close may stand
-abbrev pub ending : Part → Bool
-ending Opens = false
-ending Turns = true
-ending Closes = true
-ending Stays = false
-
-module _ (d : Diagram) where
-  bare : (k : Kind) (q : ℕ) → ending (partOf (numberOf k)) ≡ true → standsAs d k q [] ≡ false
-  unfolding partOf
-  bare function q h = clash h refl
-  bare and-open q h = clash h refl
-  bare branch q h = refl
-  bare and-close q h = refl
-  bare or-open q h = clash h refl
-  bare or-close q h = refl
-  bare it-open q h = clash h refl
-  bare it-close q h = refl
-  bare lp-open q h = clash h refl
-  bare lp-close q h = refl
-  bare loop-exit q h = clash h refl
-  bare end q h = clash h refl
+      pub last-fault-is : q + 1 ≡ rows → nestingFault d q ≡ lastFault (kindIn table rows q) (topIn table rows o)
+      last-fault-is l = rw (kind-is q, top-shown (stack d q) o s) (last-is q f (eq-eqb (suc q) (rowCount d) (omega (arith, k .count))))
 
   stopped : (a b : Bool) → not (a && (false && b)) ≡ true
   stopped true b = refl
@@ -186,18 +227,5 @@ module _ (d : Diagram) where
   pub bare-faulty : (q : ℕ) → stack d q ≡ [] → ending (partOf (numberOf (kind d q))) ≡ true → nestingFault d q ≡ 7
   unfolding nestingFault nestingBroken
   bare-faulty q e h =
-      let s : standsAs d (kind d q) q (stack d q) ≡ false = ap (standsAs d (kind d q) q) e ∙ bare (kind d q) q h in
+      let s : standsAs d (kind d q) q (stack d q) ≡ false = ap (standsAs d (kind d q) q) e ∙ (rw h at (shape (kind d q) .bare d q)) in
       rw (s, stopped (follows d q) (not (eqb (suc q) (rowCount d)) || isKind d end q))
-
--- a row without fault that opens: there is room
-pub room : (table : List ℕ) (rows q : ℕ) (o : Open) → faultIn table rows q o ≡ 0 → partOf (kindIn table rows q) ≡ Opens → o .depth < 12
-unfolding faultIn deepOf
-room table rows q o e p =
-    go (brokenOf (beforeIn table rows q) (kindIn table rows q) (topIn table rows o) (ltb (o .opened + 1) (o .latest)) (eqb (q + 1) rows))
-    (misplacedOf (kindIn table rows q) (kindIn table rows (q + 1)) (topIn table rows o) (o .looped)) (leb 12 (o .depth)) refl (rw p at e)
-  where
-    go : (a b c : Bool) → leb 12 (o .depth) ≡ c → _≡_ {A = ℕ} (cond a 7 (cond b 8 (cond c 9 0))) 0 → o .depth < 12
-    go true b c h z = absurd (omega arith)
-    go false true c h z = absurd (omega arith)
-    go false false true h z = absurd (omega arith)
-    go false false false h z = let l = leb-false 12 (o .depth) h in omega arith

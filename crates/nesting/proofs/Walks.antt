@@ -2,18 +2,18 @@
 use Prim.Native.Nat.{ℕ, _+_, _≤_, _<_}
 use mathlib.Core.Path.{_≡_, refl, sym, _∙_, ap, subst}
 use mathlib.Core.Logic.{_≢_}
-use mathlib.Core.Bool.{Bool, true, false, not}
+use mathlib.Core.Bool.{Bool, true, false, not, _&&_}
 use mathlib.Core.List.{List, _∷_}
 use native.Mathlib.Omega.{arith}
 use native.Mathlib.Numerals.{add-one}
 use lib.ListN.{length}
 use lib.Dec.{ltb, eqb}
-use borrow.Author.Tests.{eqb-true, eqb-false, ltb-true, ltb-false, lt-ltb, le-ltb}
+use borrow.Author.Tests.{eqb-true, eqb-false, ltb-true, ltb-false, lt-ltb, le-ltb, lt-leb, le-leb}
 use Rattle.effbd.specs.Answers.{accepted, unless}
 use Rattle.effbd.specs.Ranges.{least}
-use Rattle.effbd.specs.Diagrams.{Diagram, numberOf, rowCount, kind}
+use Rattle.effbd.specs.Diagrams.{Diagram, branch, numberOf, rowCount, kind, isKind}
 use Rattle.effbd.specs.Nesting.{Frame, stack, nestingFault, firstFaulty, nested}
-use Rattle.ranges.specs.Tests.{decide}
+use Rattle.ranges.specs.Tests.{decide, and-left, and-right}
 use Rattle.ranges.specs.RangeLaws.{least-is, least-none}
 use Rattle.nesting.specs.declared.Part.{Part}
 use Rattle.nesting.specs.declared.Part.the-variants.{Opens, Turns, Closes, Stays}
@@ -22,9 +22,9 @@ use Rattle.nesting.specs.declared.Run.{Run}
 use Rattle.nesting.specs.declared.Run.the-variants.{Judged, Turned, Closed}
 use Rattle.nesting.specs.declared.Construct.{Construct}
 use Rattle.nesting.specs.declared.Construct.the-variants.{Judged as WasJudged, Closed as WasClosed}
-use Rattle.nesting.specs.Runs.{partOf, kindIn, loopsIn, faultIn, Kinds, Shows, Clean, AllJudged, Ends, Left, RunEnded, RunWithin, RunRead, ConstructEnded, ConstructWithin, ConstructRead, NestingRead}
+use Rattle.nesting.specs.Runs.{partOf, kindIn, topIn, isAndOr, loopsIn, closesIn, lastFault, branchFollows, Kinds, Shows, At, Clean, AllJudged, Reached, Ends, RunEnded, RunWithin, RunRead, ConstructEnded, ConstructWithin, ConstructRead, NestingRead}
 use Rattle.ranges.specs.Outcomes.{unless-refused}
-use Rattle.nesting.proofs.Rules.{passingBy, stack-next, kind-is, fault-is, ending, bare-faulty}
+use Rattle.nesting.proofs.Rules.{faultIn, passingBy, opening, ending, stack-next, free-behind, free-next, branched, unbranched, kind-is, fault-is, last-fault-is, bare-faulty}
 
 clean-none : (d : Diagram) (a : ℕ) → Clean d a a
 clean-none d a = record { fine = λ q l h. absurd (omega arith) }
@@ -56,147 +56,236 @@ shows-inside d rows table k fs o opened latest depth looped s ed el = record {
   looped = el ∙ rw (kind-is d rows table k opened, s .looped);
 }
 
+-- what is open where these frames are reached
+at-reached : (d : Diagram) (table : List ℕ) (rows a q : ℕ) (o : Open) (fs : List Frame) → Kinds d rows table → Shows d fs o → Reached d a q fs → At table rows q o d
+at-reached d table rows a q o fs k s r = record { kinds = k; shows = subst (λ gs. Shows d gs o) (sym (r .around)) s; free = r .free }
+
+reached-on : (d : Diagram) (a b q : ℕ) (fs : List Frame) → Clean d a b → Reached d b q fs → Reached d a q fs
+reached-on d a b q fs c r = record { clean = clean-both d a b q c (r .clean); around = r .around; free = r .free }
+
+-- behind a row that opens nothing
+passed : (d : Diagram) (part : Part) (a j : ℕ) (fs : List Frame) → opening part ≡ false → stack d a ≡ fs → Ends d part a j → Reached d a (j + 1) (passingBy part j fs)
+passed d part a j fs h e x = record {
+  clean = x .clean;
+  around = stack-next d j part (x .does) ∙ ap (passingBy part j) (x .around ∙ e);
+  free = free-next d j part (x .does) h;
+}
+
 -- ---- a run
+
+-- a row's part, as the code finds it
+pub part-is : {kind k : ℕ} {part p : Part} → part ≡ partOf kind → kind ≡ k → part ≡ p → partOf k ≡ p
+part-is e f g = sym (e ∙ ap partOf f) ∙ g
 
 -- rows from `from` on are read up to row q: none is at fault, and the same is open as at `from`
 pub record RunState (table : List ℕ) (rows from : ℕ) (o : Open) (q : ℕ) : Type 0 where
   pub low : from ≤ q
-  pub high : q ≤ rows
-  pub clean : (d : Diagram) → Kinds d rows table → Shows d (stack d from) o → Clean d from q
-  pub around : (d : Diagram) → Kinds d rows table → Shows d (stack d from) o → stack d q ≡ stack d from
+  pub high : q < rows
+  pub reached : (d : Diagram) → At table rows from o d → Reached d from q (stack d from)
 
-pub run-start : (table : List ℕ) (rows from : ℕ) (o : Open) → from ≤ rows → RunState table rows from o from
-run-start table rows from o h = record { low = omega arith; high = h; clean = λ d k s. clean-none d from; around = λ d k s. refl }
+pub run-start : (table : List ℕ) (rows from : ℕ) (o : Open) → from < rows → RunState table rows from o from
+run-start table rows from o h = record { low = omega arith; high = h; reached = λ d a. record { clean = clean-none d from; around = refl; free = a .free } }
 
 module _ (table : List ℕ) (rows from : ℕ) (o : Open) (q : ℕ) (st : RunState table rows from o q) where
-  pub run-end : rows ≤ q → RunRead table rows from o (Judged 0 0)
-  run-end h = record {
-    within = omega arith;
-    ended = λ d k s. record {
-      good = λ e. let z : q ≡ rowCount d = omega (arith, k .count, st .high) in subst (Clean d from) z (st .clean d k s);
-      bad = λ ne. absurd (ne refl);
+  here : (d : Diagram) → At table rows from o d → At table rows q o d
+  here d a = at-reached d table rows from q o (stack d from) (a .kinds) (a .shows) (st .reached d a)
+
+  -- row q has this fault
+  abbrev Faulty : ℕ → Type 0
+  Faulty fault = (d : Diagram) → At table rows from o d → nestingFault d q ≡ fault
+
+  judged-here : (fault : ℕ) → Faulty fault → fault ≢ 0 → RunRead table rows from o (Judged fault q)
+  judged-here fault f ne = record {
+    within = let h = st .high in omega arith;
+    ended = λ d a. record {
+      good = λ e. absurd (ne e);
+      bad = λ e. (st .low, omega (arith, a .kinds .count, st .high), f d a, st .reached d a .clean);
     };
   }
 
-  module _ (l : q < rows) (fault : ℕ) (ef : fault ≡ faultIn table rows q o) where
-    is-fault : (d : Diagram) → Kinds d rows table → Shows d (stack d from) o → fault ≡ nestingFault d q
-    is-fault d k s = ef ∙ fault-is d rows table k q o (subst (λ fs. Shows d fs o) (sym (st .around d k s)) s)
+  clean-here : Faulty 0 → (d : Diagram) → At table rows from o d → Clean d from (q + 1)
+  clean-here f d a = clean-more d from q (st .reached d a .clean) (f d a)
 
-    pub run-fault : fault ≢ 0 → RunRead table rows from o (Judged fault q)
-    run-fault ne = record {
+  -- the last row
+  module _ (l : rows ≤ q + 1) (fault : ℕ) (ef : fault ≡ lastFault (kindIn table rows q) (topIn table rows o)) where
+    last : Faulty fault
+    last d a = let w = here d a in last-fault-is d rows table (a .kinds) q o (w .shows) (w .free) (let h = st .high in omega arith) ∙ sym ef
+
+    pub run-last : fault ≢ 0 → RunRead table rows from o (Judged fault q)
+    run-last ne = judged-here fault last ne
+
+    pub run-end : fault ≡ 0 → RunRead table rows from o (Judged 0 0)
+    run-end z = record {
       within = omega arith;
-      ended = λ d k s. record {
-        good = λ e. absurd (ne e);
-        bad = λ e. (st .low, omega (arith, k .count), sym (is-fault d k s), st .clean d k s);
+      ended = λ d a. record {
+        good = λ e. let n : q + 1 ≡ rowCount d = omega (arith, a .kinds .count, st .high) in subst (Clean d from) n (clean-here (λ c b. last c b ∙ z) d a);
+        bad = λ ne. absurd (ne refl);
       };
     }
 
-    module _ (fine : fault ≡ 0) (part : Part) (ep : part ≡ partOf (kindIn table rows q)) where
-      clean-here : (d : Diagram) → Kinds d rows table → Shows d (stack d from) o → Clean d from (q + 1)
-      clean-here d k s = clean-more d from q (st .clean d k s) (sym (is-fault d k s) ∙ fine)
+  -- any other row, by its part
+  module _ (l : q + 1 < rows) where
+    module _ (part : Part) (e : partOf (kindIn table rows q) ≡ part) where
+      inside : (fault : ℕ) → fault ≡ faultIn table rows q o part → Faulty fault
+      inside fault ef d a = let w = here d a in fault-is d rows table (a .kinds) q o (w .shows) (w .free) part l e ∙ sym ef
 
-      does : (d : Diagram) → Kinds d rows table → (p : Part) → part ≡ p → partOf (numberOf (kind d q)) ≡ p
-      does d k p e = ap partOf (sym (kind-is d rows table k q)) ∙ (sym ep ∙ e)
+      pub run-fault : (fault : ℕ) → fault ≡ faultIn table rows q o part → fault ≢ 0 → RunRead table rows from o (Judged fault q)
+      run-fault fault ef ne = judged-here fault (inside fault ef) ne
 
-      ends : (p : Part) → part ≡ p → (d : Diagram) → Kinds d rows table → Shows d (stack d from) o → Ends d p from q
-      ends p e d k s = record { clean = clean-here d k s; does = does d k p e; around = st .around d k s }
+      does : (d : Diagram) → At table rows from o d → partOf (numberOf (kind d q)) ≡ part
+      does d a = ap partOf (sym (kind-is d rows table (a .kinds) q)) ∙ e
 
-      pub run-turned : part ≡ Turns → RunRead table rows from o (Turned q)
-      run-turned e = record { within = (st .low, l); ended = ends Turns e }
+      module _ (fine : 0 ≡ faultIn table rows q o part) where
+        clean-past : (d : Diagram) → At table rows from o d → Clean d from (q + 1)
+        clean-past = clean-here (inside 0 fine)
 
-      pub run-closed : part ≡ Closes → RunRead table rows from o (Closed q)
-      run-closed e = record { within = (st .low, l); ended = ends Closes e }
+        ends : (d : Diagram) → At table rows from o d → Ends d part from q
+        ends d a = record { clean = clean-past d a; does = does d a; around = st .reached d a .around }
 
-      pub run-stays : part ≡ Stays → RunState table rows from o (q + 1)
-      run-stays e = record {
-        low = let h = st .low in omega arith;
-        high = omega arith;
-        clean = clean-here;
-        around = λ d k s. stack-next d q Stays (does d k Stays e) ∙ st .around d k s;
-      }
+    module _ (e : partOf (kindIn table rows q) ≡ Turns) where
+      pub run-turned : isAndOr (topIn table rows o) ≡ true → RunRead table rows from o (Turned q)
+      run-turned h = record { within = (st .low, l); ended = ends Turns e (rw h) }
 
-      module _ (opens : part ≡ Opens) (r : Construct) (read : ConstructRead table rows q o r) where
-        inner : (d : Diagram) → Kinds d rows table → Shows d (stack d from) o → ConstructEnded d q r
-        inner d k s = read .ended d k (subst (λ fs. Shows d fs o) (sym (st .around d k s)) s) (does d k Opens opens)
+      pub run-astray : isAndOr (topIn table rows o) ≡ false → RunRead table rows from o (Judged 7 q)
+      run-astray h = run-fault Turns e 7 (rw h) (λ z. absurd (omega arith))
+
+    module _ (e : partOf (kindIn table rows q) ≡ Closes) where
+      pub run-closed : closesIn (kindIn table rows q) (topIn table rows o) (ltb (o .opened + 1) (o .latest)) ≡ true → RunRead table rows from o (Closed q)
+      run-closed h = record { within = (st .low, l); ended = ends Closes e (rw h) }
+
+      pub run-unclosed : closesIn (kindIn table rows q) (topIn table rows o) (ltb (o .opened + 1) (o .latest)) ≡ false → RunRead table rows from o (Judged 7 q)
+      run-unclosed h = run-fault Closes e 7 (rw h) (λ z. absurd (omega arith))
+
+    pub run-stays : partOf (kindIn table rows q) ≡ Stays → 0 ≡ faultIn table rows q o Stays → RunState table rows from o (q + 1)
+    run-stays e fine = record {
+      low = let h = st .low in omega arith;
+      high = l;
+      reached = λ d a. passed d Stays from q (stack d from) refl refl (ends Stays e fine d a);
+    }
+
+    module _ (e : partOf (kindIn table rows q) ≡ Opens) where
+      pub run-deep : 12 ≤ o .depth → RunRead table rows from o (Judged 9 q)
+      run-deep h = run-fault Opens e 9 (rw (le-leb 12 (o .depth) h)) (λ z. absurd (omega arith))
+
+      module _ (h : o .depth < 12) (r : Construct) (read : ConstructRead table rows q o r) where
+        fine : 0 ≡ faultIn table rows q o Opens
+        fine = rw (lt-leb 12 (o .depth) h)
+
+        inner : (d : Diagram) → At table rows from o d → ConstructEnded d q r
+        inner d a = read .ended d (here d a) (does Opens e d a)
 
         pub run-over : (number row : ℕ) → r ≡ WasJudged number row → RunRead table rows from o (Judged number row)
-        run-over number row e = record {
-          within = subst (ConstructWithin q rows) e (read .within);
-          ended = λ d k s. judged-from d from (q + 1) number row (let h = st .low in omega arith) (clean-here d k s) (subst (ConstructEnded d q) e (inner d k s));
+        run-over number row j = record {
+          within = subst (ConstructWithin q rows) j (read .within);
+          ended = λ d a. judged-from d from (q + 1) number row (let x = st .low in omega arith) (clean-past Opens e fine d a) (subst (ConstructEnded d q) j (inner d a));
         }
 
         pub run-on : (close : ℕ) → r ≡ WasClosed close → RunState table rows from o (close + 1)
-        run-on close e =
-            let w : (q < close) × (close < rows) = subst (ConstructWithin q rows) e (read .within) in
-            let a = w .0 in let b = w .1 in
+        run-on close j =
+            let w : (q < close) × (close + 1 < rows) = subst (ConstructWithin q rows) j (read .within) in
+            let x = w .0 in
             record {
-              low = let h = st .low in omega arith;
-              high = omega arith;
-              clean = λ d k s. let x : Left d q close = subst (ConstructEnded d q) e (inner d k s) in clean-both d from (q + 1) (close + 1) (clean-here d k s) (x .clean);
-              around = λ d k s. let x : Left d q close = subst (ConstructEnded d q) e (inner d k s) in x .around ∙ st .around d k s;
+              low = let y = st .low in omega arith;
+              high = w .1;
+              reached = λ d a. let y : Reached d (q + 1) (close + 1) (stack d q) = subst (ConstructEnded d q) j (inner d a) in
+                  subst (Reached d from (close + 1)) (st .reached d a .around) (reached-on d from (q + 1) (close + 1) (stack d q) (clean-past Opens e fine d a) y);
             }
 
-pub closed-within : (table : List ℕ) (rows opened : ℕ) (o : Open) (r : Construct) (close : ℕ) → ConstructRead table rows opened o r → r ≡ WasClosed close → (opened < close) × (close < rows)
+pub closed-within : (table : List ℕ) (rows opened : ℕ) (o : Open) (r : Construct) (close : ℕ) → ConstructRead table rows opened o r → r ≡ WasClosed close → (opened < close) × (close + 1 < rows)
 closed-within table rows opened o r close read e = subst (ConstructWithin opened rows) e (read .within)
 
-pub turned-within : (table : List ℕ) (rows from : ℕ) (o : Open) (r : Run) (j : ℕ) → RunRead table rows from o r → r ≡ Turned j → (from ≤ j) × (j < rows)
+pub turned-within : (table : List ℕ) (rows from : ℕ) (o : Open) (r : Run) (j : ℕ) → RunRead table rows from o r → r ≡ Turned j → (from ≤ j) × (j + 1 < rows)
 turned-within table rows from o r j read e = subst (RunWithin from rows) e (read .within)
 
 -- ---- a construct
 
+-- the frame of the construct that row `opened` opens, at its branch `latest`, above what is open around it
+abbrev framed : Diagram → (opened latest : ℕ) → List Frame
+framed d opened latest = record { opened = opened; latest = latest } ∷ stack d opened
+
 -- the construct that row `opened` opens is read up to row q: none is at fault, and it is the innermost, at its branch `latest`
 pub record ConstructState (table : List ℕ) (rows opened : ℕ) (o : Open) (latest q : ℕ) : Type 0 where
   pub low : opened < q
-  pub high : q ≤ rows
-  pub clean : (d : Diagram) → Kinds d rows table → Shows d (stack d opened) o → partOf (numberOf (kind d opened)) ≡ Opens → Clean d (opened + 1) q
-  pub around : (d : Diagram) → Kinds d rows table → Shows d (stack d opened) o → partOf (numberOf (kind d opened)) ≡ Opens
-      → stack d q ≡ record { opened = opened; latest = latest } ∷ stack d opened
+  pub high : q < rows
+  pub reached : (d : Diagram) → At table rows opened o d → partOf (numberOf (kind d opened)) ≡ Opens → Reached d (opened + 1) q (framed d opened latest)
 
-pub construct-start : (table : List ℕ) (rows opened : ℕ) (o : Open) → opened < rows → ConstructState table rows opened o (opened + 1) (opened + 1)
-construct-start table rows opened o h = record {
-  low = omega arith;
-  high = omega arith;
-  clean = λ d k s e. clean-none d (opened + 1);
-  around = λ d k s e. stack-next d opened Opens e ∙ ap (λ (n : ℕ). record { opened = opened; latest = n } ∷ stack d opened) (sym (add-one opened));
-}
+pushed : (d : Diagram) (opened : ℕ) → partOf (numberOf (kind d opened)) ≡ Opens → stack d (opened + 1) ≡ framed d opened (opened + 1)
+pushed d opened e = stack-next d opened Opens e ∙ ap (framed d opened) (sym (add-one opened))
+
+module _ (table : List ℕ) (rows opened : ℕ) (o : Open) (l : opened + 1 < rows) where
+  and-or-is : (d : Diagram) → At table rows opened o d → {b : Bool} → isAndOr (kindIn table rows opened) ≡ b → isAndOr (numberOf (kind d opened)) ≡ b
+  and-or-is d a h = ap isAndOr (sym (kind-is d rows table (a .kinds) opened)) ∙ h
+
+  -- an IT or LP
+  pub construct-start : isAndOr (kindIn table rows opened) ≡ false → ConstructState table rows opened o (opened + 1) (opened + 1)
+  construct-start h = record {
+    low = omega arith;
+    high = l;
+    reached = λ d a e. record { clean = clean-none d (opened + 1); around = pushed d opened e; free = free-behind d opened (and-or-is d a h) };
+  }
+
+  -- an AND or OR: behind its first BRANCH
+  module _ (h : isAndOr (kindIn table rows opened) ≡ true) where
+    branch-is : (d : Diagram) → At table rows opened o d → branchFollows table rows (opened + 1) ≡ (isKind d branch (opened + 1) && ltb (opened + 1 + 1) (rowCount d))
+    unfolding branchFollows
+    branch-is d a = rw (kind-is d rows table (a .kinds) (opened + 1), a .kinds .count)
+
+    pub construct-branched : branchFollows table rows (opened + 1) ≡ true → ConstructState table rows opened o (opened + 1) (opened + 1 + 1)
+    unfolding branchFollows partOf
+    construct-branched f = record {
+      low = omega arith;
+      high = ltb-true (opened + 1 + 1) rows (and-right (eqb (kindIn table rows (opened + 1)) 18) (ltb (opened + 1 + 1) rows) f);
+      reached = λ d a e.
+          let g = sym (branch-is d a) ∙ f in
+          let b = and-left (isKind d branch (opened + 1)) (ltb (opened + 1 + 1) (rowCount d)) g in
+          let m = ltb-true (opened + 1 + 1) (rowCount d) (and-right (isKind d branch (opened + 1)) (ltb (opened + 1 + 1) (rowCount d)) g) in
+          passed d Turns (opened + 1) (opened + 1) (framed d opened (opened + 1)) refl (pushed d opened e) (record {
+            clean = clean-more d (opened + 1) (opened + 1) (clean-none d (opened + 1)) (branched d opened (and-or-is d a h) e b m);
+            does = ap partOf (eqb-true (numberOf (kind d (opened + 1))) 18 b);
+            around = refl;
+          });
+    }
+
+    pub construct-unbranched : branchFollows table rows (opened + 1) ≡ false → ConstructRead table rows opened o (WasJudged 7 (opened + 1))
+    construct-unbranched f = record {
+      within = omega arith;
+      ended = λ d a e. record {
+        good = λ z. absurd (omega arith);
+        bad = λ z. let m : opened + 1 < rowCount d = omega (arith, a .kinds .count) in
+            (omega arith, m, unbranched d opened (and-or-is d a h) m (sym (branch-is d a) ∙ f), clean-none d (opened + 1));
+      };
+    }
 
 module _ (table : List ℕ) (rows opened : ℕ) (o : Open) (latest q depth : ℕ) (looped : Bool) (st : ConstructState table rows opened o latest q)
     (ed : depth ≡ o .depth + 1) (el : looped ≡ loopsIn (kindIn table rows opened) (o .looped)) (r : Run)
     (read : RunRead table rows q (record { depth = depth; opened = opened; latest = latest; looped = looped }) r) where
-  ran : (d : Diagram) → Kinds d rows table → Shows d (stack d opened) o → partOf (numberOf (kind d opened)) ≡ Opens → RunEnded d q r
-  ran d k s e = read .ended d k (subst (λ fs. Shows d fs (record { depth = depth; opened = opened; latest = latest; looped = looped })) (sym (st .around d k s e))
-      (shows-inside d rows table k (stack d opened) o opened latest depth looped s ed el))
+  ran : (d : Diagram) → At table rows opened o d → partOf (numberOf (kind d opened)) ≡ Opens → RunEnded d q r
+  ran d a e = read .ended d (at-reached d table rows (opened + 1) q (record { depth = depth; opened = opened; latest = latest; looped = looped }) (framed d opened latest) (a .kinds)
+      (shows-inside d rows table (a .kinds) (stack d opened) o opened latest depth looped (a .shows) ed el) (st .reached d a e))
 
   pub construct-judged : (number row : ℕ) → r ≡ Judged number row → ConstructRead table rows opened o (WasJudged number row)
   construct-judged number row e = record {
     within = subst (RunWithin q rows) e (read .within);
-    ended = λ d k s p. judged-from d (opened + 1) q number row (let h = st .low in omega arith) (st .clean d k s p) (subst (RunEnded d q) e (ran d k s p));
+    ended = λ d a p. judged-from d (opened + 1) q number row (let h = st .low in omega arith) (st .reached d a p .clean) (subst (RunEnded d q) e (ran d a p));
   }
 
-  module _ (j : ℕ) (w : (q ≤ j) × (j < rows)) (part : Part) (ended : (d : Diagram) → Kinds d rows table → Shows d (stack d opened) o → partOf (numberOf (kind d opened)) ≡ Opens → Ends d part q j) where
-    clean-to : (d : Diagram) → Kinds d rows table → Shows d (stack d opened) o → partOf (numberOf (kind d opened)) ≡ Opens → Clean d (opened + 1) (j + 1)
-    clean-to d k s p = clean-both d (opened + 1) q (j + 1) (st .clean d k s p) (ended d k s p .clean)
-
-    then : (d : Diagram) → Kinds d rows table → Shows d (stack d opened) o → partOf (numberOf (kind d opened)) ≡ Opens
-        → stack d (j + 1) ≡ passingBy part j (record { opened = opened; latest = latest } ∷ stack d opened)
-    then d k s p = stack-next d j part (ended d k s p .does) ∙ ap (passingBy part j) (ended d k s p .around ∙ st .around d k s p)
+  -- behind the BRANCH or close that ended the run
+  behind : (d : Diagram) → At table rows opened o d → partOf (numberOf (kind d opened)) ≡ Opens → (part : Part) (j : ℕ) → opening part ≡ false → Ends d part q j
+      → Reached d (opened + 1) (j + 1) (passingBy part j (framed d opened latest))
+  behind d a p part j h x = let w = st .reached d a p in
+      reached-on d (opened + 1) q (j + 1) (passingBy part j (framed d opened latest)) (w .clean) (passed d part q j (framed d opened latest) h (w .around) x)
 
   pub construct-turned : (j : ℕ) → r ≡ Turned j → ConstructState table rows opened o j (j + 1)
   construct-turned j e =
-      let w : (q ≤ j) × (j < rows) = subst (RunWithin q rows) e (read .within) in
-      let a = w .0 in let b = w .1 in
-      let x : (d : Diagram) → Kinds d rows table → Shows d (stack d opened) o → partOf (numberOf (kind d opened)) ≡ Opens → Ends d Turns q j = λ d k s p. subst (RunEnded d q) e (ran d k s p) in
-      record { low = let h = st .low in omega arith; high = omega arith; clean = clean-to j w Turns x; around = then j w Turns x }
+      let w : (q ≤ j) × (j + 1 < rows) = subst (RunWithin q rows) e (read .within) in
+      let x = w .0 in
+      record { low = let h = st .low in omega arith; high = w .1; reached = λ d a p. behind d a p Turns j refl (subst (RunEnded d q) e (ran d a p)) }
 
   pub construct-closed : (j : ℕ) → r ≡ Closed j → ConstructRead table rows opened o (WasClosed j)
   construct-closed j e =
-      let w : (q ≤ j) × (j < rows) = subst (RunWithin q rows) e (read .within) in
-      let a = w .0 in let b = w .1 in
-      let x : (d : Diagram) → Kinds d rows table → Shows d (stack d opened) o → partOf (numberOf (kind d opened)) ≡ Opens → Ends d Closes q j = λ d k s p. subst (RunEnded d q) e (ran d k s p) in
-      record {
-        within = (let h = st .low in omega arith, b);
-        ended = λ d k s p. record { clean = clean-to j w Closes x d k s p; around = then j w Closes x d k s p };
-      }
+      let w : (q ≤ j) × (j + 1 < rows) = subst (RunWithin q rows) e (read .within) in
+      let x = w .0 in
+      record { within = (let h = st .low in omega arith, w .1); ended = λ d a p. behind d a p Closes j refl (subst (RunEnded d q) e (ran d a p)) }
 
 -- ---- all rows
 
@@ -216,10 +305,16 @@ judged-is d number row j = decide (eqb number 0)
     let n : least (rowCount d) (faulty d) ≡ row = least-is (rowCount d) (faulty d) row (w .1) (rw (w .2, e)) (λ q l. rw (w .3 .fine q (omega arith) l)) in
     rw (n, lt-ltb row (rowCount d) (w .1), w .2) (sym (unless-refused number row (accepted d) ne)))
 
+pub no-rows : (table : List ℕ) (rows : ℕ) → rows ≡ 0 → NestingRead table rows (record { number = 0; row = 0 })
+no-rows table rows e = record {
+  within = omega arith;
+  judged = λ d k. judged-is d 0 0 (record { good = λ z. record { fine = λ q l h. absurd (omega (arith, k .count)) }; bad = λ ne. absurd (ne refl) });
+}
+
 module _ (table : List ℕ) (rows : ℕ) (r : Run) (read : RunRead table rows 0 nothing r) where
   ran-all : (d : Diagram) → Kinds d rows table → RunEnded d 0 r
   unfolding stack
-  ran-all d k = read .ended d k (record { depth = refl; opened = refl; latest = refl; looped = refl })
+  ran-all d k = read .ended d (record { kinds = k; shows = record { depth = refl; opened = refl; latest = refl; looped = refl }; free = refl })
 
   pub all-judged : (number row : ℕ) → r ≡ Judged number row → NestingRead table rows (record { number = number; row = row })
   all-judged number row e = record {
@@ -228,7 +323,7 @@ module _ (table : List ℕ) (rows : ℕ) (r : Run) (read : RunRead table rows 0 
   }
 
   -- the whole table is no run that a BRANCH or a close ends
-  never-ends : (part : Part) (j : ℕ) → ending part ≡ true → j < rows → ((d : Diagram) → Kinds d rows table → Ends d part 0 j) → NestingRead table rows (record { number = 7; row = j })
+  never-ends : (part : Part) (j : ℕ) → ending part ≡ true → j + 1 < rows → ((d : Diagram) → Kinds d rows table → Ends d part 0 j) → NestingRead table rows (record { number = 7; row = j })
   unfolding stack
   never-ends part j h l ends = record {
     within = omega arith;

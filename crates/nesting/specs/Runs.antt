@@ -1,14 +1,14 @@
 -- The nesting rules over the table's numbers, and what the two readers of runs and constructs find. Assumes nothing.
-use Prim.Native.Nat.{ℕ, zero, suc, _+_, _≤_, _<_}
+use Prim.Native.Nat.{ℕ, _+_, _≤_, _<_}
 use mathlib.Core.Path.{_≡_}
 use mathlib.Core.Logic.{_≢_}
-use mathlib.Core.Bool.{Bool, true, false, not, cond, _&&_, _||_}
+use mathlib.Core.Bool.{Bool, true, false, cond, _&&_, _||_}
 use mathlib.Core.List.{List}
 use lib.ListN.{length, getD}
-use lib.Dec.{leb, ltb, eqb}
+use lib.Dec.{ltb, eqb}
 use Rattle.effbd.specs.Answers.{accepted, unless}
 use Rattle.effbd.specs.Diagrams.{Diagram, lp-open, numberOf, rowCount, kind}
-use Rattle.effbd.specs.Nesting.{Frame, innermostOpen, latestBranch, stack, someOpen, nestingFault, nested}
+use Rattle.effbd.specs.Nesting.{Frame, innermostOpen, latestBranch, stack, someOpen, follows, nestingFault, nested}
 use Rattle.nesting.specs.declared.Part.{Part}
 use Rattle.nesting.specs.declared.Part.the-variants.{Opens, Turns, Closes, Stays}
 use Rattle.nesting.specs.declared.Open.{Open}
@@ -32,49 +32,27 @@ topIn table rows o = cond (eqb (o .depth) 0) 0 (kindIn table rows (o .opened))
 unfoldable pub isAndOr : ℕ → Bool
 isAndOr k = eqb k 17 || eqb k 20
 
-unfoldable pub standsOf : (kind top : ℕ) (two last : Bool) → Bool
-standsOf k top two last = cond (eqb k 18) (isAndOr top) (cond (eqb k 19) (eqb top 17 && two) (cond (eqb k 21) (eqb top 20 && two)
-    (cond (eqb k 23) (eqb top 22) (cond (eqb k 25) (eqb top 24) (cond (eqb k 27) (eqb top 0 && last) true)))))
-
-unfoldable pub followsOf : (before kind : ℕ) → Bool
-followsOf before k = not (isAndOr before) || eqb k 18
-
-unfoldable pub brokenOf : (before kind top : ℕ) (two last : Bool) → Bool
-brokenOf before k top two last = not (followsOf before k && (standsOf k top two last && (not last || eqb k 27)))
-
 unfoldable pub exitFits : (next top : ℕ) (looped : Bool) → Bool
 exitFits next top looped = looped && (isAndOr top && (eqb next 18 || cond (eqb top 17) (eqb next 19) (eqb next 21)))
-
-unfoldable pub misplacedOf : (kind next top : ℕ) (looped : Bool) → Bool
-misplacedOf k next top looped = eqb k 26 && not (exitFits next top looped)
 
 unfoldable pub loopsIn : (kind : ℕ) (looped : Bool) → Bool
 loopsIn k looped = eqb k 24 || looped
 
-abbrev pub opening : Part → Bool
-opening Opens = true
-opening Turns = false
-opening Closes = false
-opening Stays = false
+-- a close's own construct is innermost, an AND or OR with two BRANCH rows or more
+unfoldable pub closesIn : (kind top : ℕ) (two : Bool) → Bool
+closesIn k top two = cond (eqb k 19) (eqb top 17 && two) (cond (eqb k 21) (eqb top 20 && two) (cond (eqb k 23) (eqb top 22) (cond (eqb k 25) (eqb top 24) false)))
 
-unfoldable pub deepOf : (kind depth : ℕ) → Bool
-deepOf k depth = opening (partOf k) && leb 12 depth
+-- the fault of a row that stays and is not the last
+unfoldable pub stayFault : (kind next top : ℕ) (looped : Bool) → ℕ
+stayFault k next top looped = cond (eqb k 26) (cond (exitFits next top looped) 0 8) (cond (eqb k 27) 7 0)
 
--- the kind of the row before
-abbrev pub beforeIn : List ℕ → ℕ → ℕ → ℕ
-beforeIn table rows zero = 0
-beforeIn table rows (suc p) = kindIn table rows p
+-- the fault of the last row
+unfoldable pub lastFault : (kind top : ℕ) → ℕ
+lastFault k top = cond (eqb k 27 && eqb top 0) 0 7
 
--- the fault of row q, where `o` is open
-unfoldable pub faultIn : List ℕ → ℕ → ℕ → Open → ℕ
-faultIn table rows q o =
-    cond (brokenOf (beforeIn table rows q) (kindIn table rows q) (topIn table rows o) (ltb (o .opened + 1) (o .latest)) (eqb (q + 1) rows)) 7
-    (cond (misplacedOf (kindIn table rows q) (kindIn table rows (q + 1)) (topIn table rows o) (o .looped)) 8
-    (cond (deepOf (kindIn table rows q) (o .depth)) 9 0))
-
--- the same of a FUNCTION
-unfoldable pub functionFault : (before : ℕ) (last : Bool) → ℕ
-functionFault before last = cond (isAndOr before || last) 7 0
+-- row q is a BRANCH and not the last row
+unfoldable pub branchFollows : List ℕ → ℕ → ℕ → Bool
+branchFollows table rows q = eqb (kindIn table rows q) 18 && ltb (q + 1) rows
 
 -- the table has the kinds of a diagram's rows
 pub record Kinds (d : Diagram) (rows : ℕ) (table : List ℕ) : Type 0 where
@@ -88,6 +66,12 @@ pub record Shows (d : Diagram) (frames : List Frame) (o : Open) : Type 0 where
   pub latest : o .latest ≡ latestBranch frames
   pub looped : o .looped ≡ someOpen d lp-open frames
 
+-- a diagram of the table's kinds: at row q `o` is open, and row q may follow the row before it
+pub record At (table : List ℕ) (rows q : ℕ) (o : Open) (d : Diagram) : Type 0 where
+  pub kinds : Kinds d rows table
+  pub shows : Shows d (stack d q) o
+  pub free : follows d q ≡ true
+
 -- no row from a on, up to but not including b, is at fault
 pub record Clean (d : Diagram) (a b : ℕ) : Type 0 where
   pub fine : (q : ℕ) → a ≤ q → q < b → nestingFault d q ≡ 0
@@ -96,6 +80,12 @@ pub record Clean (d : Diagram) (a b : ℕ) : Type 0 where
 pub record AllJudged (d : Diagram) (a number row : ℕ) : Type 0 where
   pub good : number ≡ 0 → Clean d a (rowCount d)
   pub bad : number ≢ 0 → (a ≤ row) × (row < rowCount d) × (nestingFault d row ≡ number) × Clean d a row
+
+-- no row from a on, up to but not including q, is at fault; at q these frames are open, and it may follow the row before it
+pub record Reached (d : Diagram) (a q : ℕ) (frames : List Frame) : Type 0 where
+  pub clean : Clean d a q
+  pub around : stack d q ≡ frames
+  pub free : follows d q ≡ true
 
 -- row j ends a run that began at row a: no row up to and with j is at fault, and at j the same is open as at a
 pub record Ends (d : Diagram) (part : Part) (a j : ℕ) : Type 0 where
@@ -110,29 +100,25 @@ RunEnded d a (Closed j) = Ends d Closes a j
 
 abbrev pub RunWithin : ℕ → ℕ → Run → Type 0
 RunWithin a rows (Judged number row) = row ≤ rows
-RunWithin a rows (Turned j) = (a ≤ j) × (j < rows)
-RunWithin a rows (Closed j) = (a ≤ j) × (j < rows)
+RunWithin a rows (Turned j) = (a ≤ j) × (j + 1 < rows)
+RunWithin a rows (Closed j) = (a ≤ j) × (j + 1 < rows)
 
 pub record RunRead (table : List ℕ) (rows from : ℕ) (o : Open) (r : Run) : Type 0 where
   pub within : RunWithin from rows r
-  pub ended : (d : Diagram) → Kinds d rows table → Shows d (stack d from) o → RunEnded d from r
+  pub ended : (d : Diagram) → At table rows from o d → RunEnded d from r
 
--- behind the close j of the construct that row a opens the same is open as at a
-pub record Left (d : Diagram) (a j : ℕ) : Type 0 where
-  pub clean : Clean d (a + 1) (j + 1)
-  pub around : stack d (j + 1) ≡ stack d a
-
+-- behind the close of the construct that row a opens the same is open as at a
 abbrev pub ConstructEnded : Diagram → ℕ → Construct → Type 0
 ConstructEnded d a (WasJudged number row) = AllJudged d (a + 1) number row
-ConstructEnded d a (WasClosed j) = Left d a j
+ConstructEnded d a (WasClosed j) = Reached d (a + 1) (j + 1) (stack d a)
 
 abbrev pub ConstructWithin : ℕ → ℕ → Construct → Type 0
 ConstructWithin a rows (WasJudged number row) = row ≤ rows
-ConstructWithin a rows (WasClosed j) = (a < j) × (j < rows)
+ConstructWithin a rows (WasClosed j) = (a < j) × (j + 1 < rows)
 
 pub record ConstructRead (table : List ℕ) (rows opened : ℕ) (o : Open) (r : Construct) : Type 0 where
   pub within : ConstructWithin opened rows r
-  pub ended : (d : Diagram) → Kinds d rows table → Shows d (stack d opened) o → partOf (numberOf (kind d opened)) ≡ Opens → ConstructEnded d opened r
+  pub ended : (d : Diagram) → At table rows opened o d → partOf (numberOf (kind d opened)) ≡ Opens → ConstructEnded d opened r
 
 -- the nesting of the table's rows was judged: of every diagram that has their kinds, `nested` refuses that row with that number, or accepts
 pub record NestingRead (table : List ℕ) (rows : ℕ) (r : Judgement) : Type 0 where

@@ -2,8 +2,8 @@
 // runs inside it; they call each other, and the call stack is the stack of what is open. The rows left and the depth left fall together.
 // Nothing is asked of a caller: past the table's end a kind is 0, which no row has.
 ghost use mathlib.Core.Path.{_≡_};
-ghost use Prim.Native.Nat.{_≤_, _<_};
-ghost use Rattle.nesting.specs.Runs.{partOf, kindIn, beforeIn, topIn, isAndOr, standsOf, followsOf, brokenOf, exitFits, misplacedOf, loopsIn, deepOf, functionFault, faultIn, RunRead, ConstructRead, NestingRead};
+ghost use Prim.Native.Nat.{_+_, _≤_, _<_};
+ghost use Rattle.nesting.specs.Runs.{partOf, kindIn, topIn, isAndOr, exitFits, loopsIn, closesIn, stayFault, lastFault, branchFollows, RunRead, ConstructRead, NestingRead};
 use words::kinds;
 
 // What a row does to the constructs that are open: adds one, turns the innermost to its next branch, takes it off, or nothing.
@@ -69,16 +69,6 @@ fn kind_in(table: &[u16], rows: usize, row: usize) -> u16
     kinds::END
 }
 
-// The kind of the row before, 0 before the first.
-fn before_in(table: &[u16], rows: usize, row: usize) -> u16
-    ensures { λ r. ⌜ r ≡ beforeIn (now (table .entry)) rows row ⌝ }
-{
-    if row == 0 {
-        return 0;
-    }
-    kind_in(table, rows, row - 1)
-}
-
 // The kind of the innermost open construct's open row, 0 where nothing is open.
 fn top_in(table: &[u16], rows: usize, around: Open) -> u16
     ensures { λ r. ⌜ r ≡ topIn (now (table .entry)) rows around ⌝ }
@@ -97,47 +87,6 @@ fn is_and_or(kind: u16) -> bool
         kinds::OR_OPEN => true,
         _ => false,
     }
-}
-
-// May a row of this kind stand here? `two`: the innermost construct has two BRANCH rows or more; `last`: it is the last row.
-fn stands(kind: u16, top: u16, two: bool, last: bool) -> bool
-    ensures { λ r. ⌜ r ≡ standsOf kind top two last ⌝ }
-{
-    match kind {
-        kinds::BRANCH => is_and_or(top),
-        kinds::AND_CLOSE => top == kinds::AND_OPEN && two,
-        kinds::OR_CLOSE => top == kinds::OR_OPEN && two,
-        kinds::IT_CLOSE => top == kinds::IT_OPEN,
-        kinds::LP_CLOSE => top == kinds::LP_OPEN,
-        kinds::END => top == 0 && last,
-        _ => true,
-    }
-}
-
-// "AND open and OR open are followed by BRANCH at once": `before` is the kind of the row before.
-fn follows(before: u16, kind: u16) -> bool
-    ensures { λ r. ⌜ r ≡ followsOf before kind ⌝ }
-{
-    if kind == kinds::BRANCH {
-        return true;
-    }
-    !is_and_or(before)
-}
-
-// 7
-fn broken(before: u16, kind: u16, top: u16, two: bool, last: bool) -> bool
-    ensures { λ r. ⌜ r ≡ brokenOf before kind top two last ⌝ }
-{
-    if !follows(before, kind) {
-        return true;
-    }
-    if !stands(kind, top, two, last) {
-        return true;
-    }
-    if last {
-        return kind != kinds::END;
-    }
-    false
 }
 
 // May an LE stand here? `next` is the kind of the row after.
@@ -159,16 +108,6 @@ fn exit_fits(next: u16, top: u16, looped: bool) -> bool
     next == kinds::OR_CLOSE
 }
 
-// 8
-fn misplaced(kind: u16, next: u16, top: u16, looped: bool) -> bool
-    ensures { λ r. ⌜ r ≡ misplacedOf kind next top looped ⌝ }
-{
-    if kind != kinds::LOOP_EXIT {
-        return false;
-    }
-    !exit_fits(next, top, looped)
-}
-
 // Is an LP open in a construct that a row of this kind opens? `looped`: one is open around it.
 fn loops(kind: u16, looped: bool) -> bool
     ensures { λ r. ⌜ r ≡ loopsIn kind looped ⌝ }
@@ -179,87 +118,77 @@ fn loops(kind: u16, looped: bool) -> bool
     looped
 }
 
-// 9. The depth comes first: few rows stand so deep.
-fn deep(kind: u16, depth: usize) -> bool
-    ensures { λ r. ⌜ r ≡ deepOf kind depth ⌝ }
+// Is a row of this kind the innermost construct's own close? `two`: that has two BRANCH rows or more, as an AND or OR must.
+fn closes(kind: u16, top: u16, two: bool) -> bool
+    ensures { λ r. ⌜ r ≡ closesIn kind top two ⌝ }
 {
-    if depth < 12 {
+    match kind {
+        kinds::AND_CLOSE => top == kinds::AND_OPEN && two,
+        kinds::OR_CLOSE => top == kinds::OR_OPEN && two,
+        kinds::IT_CLOSE => top == kinds::IT_OPEN,
+        kinds::LP_CLOSE => top == kinds::LP_OPEN,
+        _ => false,
+    }
+}
+
+// The fault of a row that stays and is not the last: 8 for an LE that may not stand here, 7 for an END.
+fn stay_fault(kind: u16, next: u16, top: u16, looped: bool) -> u16
+    ensures { λ r. ⌜ r ≡ stayFault kind next top looped ⌝ }
+{
+    match kind {
+        kinds::LOOP_EXIT => {
+            if exit_fits(next, top, looped) {
+                return 0;
+            }
+            8
+        }
+        kinds::END => 7,
+        _ => 0,
+    }
+}
+
+// The fault of the last row, which has to be an END with nothing open.
+fn last_fault(kind: u16, top: u16) -> u16
+    ensures { λ r. ⌜ r ≡ lastFault kind top ⌝ }
+{
+    if kind != kinds::END {
+        return 7;
+    }
+    if top != 0 {
+        return 7;
+    }
+    0
+}
+
+// "AND open and OR open are followed by BRANCH at once": is the row behind one a BRANCH, and not the last row?
+fn branch_follows(table: &[u16], rows: usize, row: usize) -> bool
+    requires { ⌜ (row < rows) × (rows ≤ 65535) ⌝ }
+    ensures { λ r. ⌜ r ≡ branchFollows (now (table .entry)) rows row ⌝ }
+{
+    if kind_in(table, rows, row) != kinds::BRANCH {
         return false;
     }
-    let part = part_of(kind);
-    match part {
-        Part::Opens => true,
-        Part::Turns => false,
-        Part::Closes => false,
-        Part::Stays => false,
-    }
+    row + 1 < rows
 }
 
-// The fault of a FUNCTION: it stands anywhere but right behind an AND open or OR open, and not last.
-fn function_fault(before: u16, last: bool) -> u16
-    ensures { λ r. ⌜ r ≡ functionFault before last ⌝ }
-{
-    if is_and_or(before) {
-        return 7;
-    }
-    if last {
-        return 7;
-    }
-    0
-}
-
-// "at a row 7, 8, 9": the fault of a row, 0 for none.
-fn any_fault(table: &[u16], rows: usize, row: usize, around: Open) -> u16
-    requires { ⌜ (row < rows) × (rows ≤ 65535) ⌝ }
-    requires { ⌜ around .opened ≤ 65535 ⌝ }
-    ensures { λ r. ⌜ r ≡ faultIn (now (table .entry)) rows row around ⌝ }
-{
-    let kind = kind_in(table, rows, row);
-    let top = top_in(table, rows, around);
-    let before = before_in(table, rows, row);
-    let two = around.opened + 1 < around.latest;
-    let last = row + 1 == rows;
-    if broken(before, kind, top, two, last) {
-        return 7;
-    }
-    if misplaced(kind, kind_in(table, rows, row + 1), top, around.looped) {
-        return 8;
-    }
-    if deep(kind, around.depth) {
-        return 9;
-    }
-    0
-}
-
-// The same, with a shorter way for FUNCTION rows.
-fn fault_in(table: &[u16], rows: usize, row: usize, around: Open) -> u16
-    requires { ⌜ (row < rows) × (rows ≤ 65535) ⌝ }
-    requires { ⌜ around .opened ≤ 65535 ⌝ }
-    ensures { λ r. ⌜ r ≡ faultIn (now (table .entry)) rows row around ⌝ }
-{
-    if kind_in(table, rows, row) == kinds::FUNCTION {
-        let before = before_in(table, rows, row);
-        let last = row + 1 == rows;
-        return function_fault(before, last);
-    }
-    any_fault(table, rows, row, around)
-}
-
-// Reads rows from `from` on, up to the BRANCH or close of the construct that they stand in.
+// Reads rows from `from` on, up to the BRANCH or close of the construct that they stand in. No row of a run stands right behind an AND open
+// or OR open, and the last row is judged behind the loop: so each row is looked at once, by its part.
 fn read_run(table: &[u16], rows: usize, from: usize, around: Open) -> Run
-    requires { ⌜ (from ≤ rows) × (rows ≤ 65535) ⌝ }
+    requires { ⌜ (from < rows) × (rows ≤ 65535) ⌝ }
     requires { ⌜ (around .depth ≤ 12) × (around .opened ≤ 65535) ⌝ }
     ensures { λ r. ⌜ RunRead (now (table .entry)) rows from around r ⌝ }
 {
+    let top = top_in(table, rows, around);
+    let two = around.opened + 1 < around.latest;
     let mut row = from;
-    while row < rows {
-        let fault = fault_in(table, rows, row, around);
-        if fault != 0 {
-            return Run::Judged(fault, row);
-        }
-        let part = part_of(kind_in(table, rows, row));
+    while row + 1 < rows {
+        let kind = kind_in(table, rows, row);
+        let part = part_of(kind);
         match part {
             Part::Opens => {
+                if 12 <= around.depth {
+                    return Run::Judged(9, row);
+                }
                 let inner = read_construct(table, rows, row, around);
                 match inner {
                     Construct::Judged(number, at) => {
@@ -271,28 +200,49 @@ fn read_run(table: &[u16], rows: usize, from: usize, around: Open) -> Run
                 }
             }
             Part::Turns => {
-                return Run::Turned(row);
+                if is_and_or(top) {
+                    return Run::Turned(row);
+                }
+                return Run::Judged(7, row);
             }
             Part::Closes => {
-                return Run::Closed(row);
+                if closes(kind, top, two) {
+                    return Run::Closed(row);
+                }
+                return Run::Judged(7, row);
             }
             Part::Stays => {
+                let fault = stay_fault(kind, kind_in(table, rows, row + 1), top, around.looped);
+                if fault != 0 {
+                    return Run::Judged(fault, row);
+                }
                 row += 1;
             }
         }
+    }
+    let last = last_fault(kind_in(table, rows, row), top);
+    if last != 0 {
+        return Run::Judged(last, row);
     }
     Run::Judged(0, 0)
 }
 
 // Reads the construct that row `opened` opens, up to its close; `around` is what is open around it.
 fn read_construct(table: &[u16], rows: usize, opened: usize, around: Open) -> Construct
-    requires { ⌜ (opened < rows) × (rows ≤ 65535) ⌝ }
+    requires { ⌜ (opened + 1 < rows) × (rows ≤ 65535) ⌝ }
     requires { ⌜ around .depth < 12 ⌝ }
     ensures { λ r. ⌜ ConstructRead (now (table .entry)) rows opened around r ⌝ }
 {
-    let looped = loops(kind_in(table, rows, opened), around.looped);
+    let kind = kind_in(table, rows, opened);
+    let looped = loops(kind, around.looped);
     let mut latest = opened + 1;
     let mut from = opened + 1;
+    if is_and_or(kind) {
+        if !branch_follows(table, rows, from) {
+            return Construct::Judged(7, from);
+        }
+        from += 1;
+    }
     loop {
         let inside = Open {
             depth: around.depth + 1,
@@ -316,10 +266,13 @@ fn read_construct(table: &[u16], rows: usize, opened: usize, around: Open) -> Co
     }
 }
 
-// Judges the nesting of all rows; their kinds are the table's first words.
+// Judges the nesting of all rows; their kinds are the table's first words. Of no rows none is at fault.
 pub fn read_nesting(table: &[u16], rows: u16) -> Judgement
     ensures { λ r. ⌜ NestingRead (now (table .entry)) rows r ⌝ }
 {
+    if rows == 0 {
+        return Judgement { number: 0, row: 0 };
+    }
     let nothing = Open {
         depth: 0,
         opened: 0,
