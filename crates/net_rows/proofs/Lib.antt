@@ -1,4 +1,5 @@
 pub mod Uses
+pub mod Walks
 pub mod Nesting
 pub mod Branches
 pub mod RowRecords

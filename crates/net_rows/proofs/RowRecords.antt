@@ -21,7 +21,7 @@ use Rattle.agreement.specs.AcceptedFiles.{Held}
 use Rattle.agreement.specs.Structure.{Laws, opens}
 use Rattle.agreement.specs.NestingLaws.{laws}
 use Rattle.agreement.specs.Reach.{close-in}
-use Rattle.diagram_table.specs.Cells.{usesStartIn, usesNumberIn, isBranch}
+use Rattle.diagram_table.specs.Cells.{usesStartIn, usesNumberIn, closeIn, isBranch}
 use Rattle.diagram_file.specs.Tables.{Holds, HoldsUses}
 use Rattle.diagram_file.proofs.HeldCells.{in-rows, kind-cell, owner-cell, owner-kind, close-cell, branch-cell}
 use Rattle.net_records.specs.Writing.{Records, runs, span}
@@ -29,7 +29,8 @@ use Rattle.net_records.specs.Records.{arc}
 use Rattle.net_rows.specs.Rows.{token, useArc, useArcs, functionStart, functionEnd, branchPlace, branchArc, branchArcs, andOpen, andClose, branchToken, onward, back, rowAs, rowRecords}
 use Rattle.net_records.proofs.Runs.{runs-same, runs-span}
 use Rattle.net_rows.proofs.Uses.{uses-read}
-use Rattle.net_rows.proofs.Nesting.{behind-branch, branch-inside}
+use Rattle.net_rows.proofs.Walks.{walk-span}
+use Rattle.net_rows.proofs.Nesting.{behind-branch, branch-inside, owner-inside}
 use Rattle.net_rows.proofs.Branches.{images}
 use Rattle.net_loops.proofs.Weights.{arc-none, countArcs, at-P, mark-P, mark-Q, mark-each}
 use Rattle.net_loops.proofs.Patterns.{patternRecords, allPatterns, unclearing}
@@ -81,11 +82,11 @@ module _ (d : Diagram) (rows items : ℕ) (table file : List ℕ) (h : Holds d r
   -- the arcs of a construct's BRANCH rows
   branches-are : (o k : ℕ) (place : ℕ → ℕ) → o < rowCount d → opens d o ≡ true → ((q : ℕ) → branchOf d o q ≡ true → branchPlace table k q ≡ place q)
       → runs (λ q. cond (branchOf d o q) (arc k (place q) 1) []) (rowCount d) ≡ branchArcs table o k
-  unfolding branchArcs branchArc span
+  unfolding branchArc span
   branches-are o k place l opened same = runs-span f o (close d o) (rowCount d) low (let c = close-in d (held .acc) o opened in omega arith)
       (λ q m. rw (off q (λ e. let b = h .ownerLow q in let w = owned q e in absurd (omega arith))))
       (λ q m. rw (off q (λ e. let w = inside q e in absurd (omega arith))))
-      ∙ (rw (close-cell d rows items table h o l) (runs-same _ _ (_) (λ i m. turn (o + i) (let c = close-in d (held .acc) o opened in omega arith))))
+      ∙ (runs-same _ _ (close d o - o) (λ i m. turn (o + i) (let c = close-in d (held .acc) o opened in omega arith)) ∙ sym walked)
     where
       f : ℕ → Records
       f q = cond (branchOf d o q) (arc k (place q) 1) []
@@ -105,6 +106,17 @@ module _ (d : Diagram) (rows items : ℕ) (table file : List ℕ) (h : Holds d r
 
       turn : (q : ℕ) → q < rowCount d → f q ≡ cond (isBranch table o q) (arc k (branchPlace table k q) 1) []
       turn q m = rw (branch-cell d rows items table h o q m) (decide (branchOf d o q) (λ e. rw (e, same q e)) (λ e. rw e))
+
+      -- the rows of a construct in this one are none of its BRANCH rows
+      jumped : (p q : ℕ) → o ≤ p → p < q → q ≤ closeIn table p → closeIn table p < close d o → branchArc table o k q ≡ []
+      jumped p q i j m n =
+          let c = close-in d (held .acc) o opened in
+          let e = close-cell d rows items table h p (omega arith) in
+          let ne : o ≢ p = λ z. let y : closeIn table p ≡ close d o = rw (← z) (close-cell d rows items table h o l) in absurd (omega arith) in
+          rw (branch-cell d rows items table h o q (omega arith), off q (λ b. let w = owned q b in let v = owner-inside d (held .acc) p q (omega arith) j (omega arith) (omega arith) in absurd (omega arith)))
+
+      walked : branchArcs table o k ≡ span (branchArc table o k) o (close d o)
+      walked = unfold branchArcs in rw (close-cell d rows items table h o l) (walk-span table (close d o) (branchArc table o k) o jumped (close d o) o (omega arith) (omega arith))
 
   and-close-is : (r : ℕ) → r < rowCount d → kind d r ≡ and-close → andClose table r ≡ allPatterns d r (patternsAs d and-close r)
   unfolding andClose allPatterns

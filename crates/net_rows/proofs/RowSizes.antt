@@ -19,6 +19,7 @@ use Rattle.net_loops.specs.Loops.{itTurn, itOpen, restore, leave, loopExit}
 use Rattle.net_rows.specs.Rows.{token, useArc, useArcs, functionStart, functionEnd, branchArc, branchArcs, andOpen, andClose, branchToken, onward, back, rowAs, rowRecords}
 use Rattle.net_rows.specs.Marks.{rowMarks}
 use Rattle.net_rows.proofs.Uses.{uses-few}
+use Rattle.net_rows.proofs.Walks.{walk-small}
 use Rattle.net_rows.proofs.RowRecords.{uses-fine}
 
 token-small : (r p q : ℕ) → Small (token r p q) 26
@@ -45,8 +46,8 @@ module _ (table file : List ℕ) (rows : ℕ) where
   branch-small o k q = either (isBranch table o q) (arc-small k _ 1) (more zero-le none-small)
 
   branches-small : (o k : ℕ) → closeIn table o ≤ 64 → Small (branchArcs table o k) 512
-  unfolding branchArcs span
-  branches-small o k l = more (omega arith) (turns _ 8 (closeIn table o - o) (λ i m. branch-small o k (o + i)))
+  unfolding branchArcs
+  branches-small o k l = more (omega arith) (walk-small table (closeIn table o) (branchArc table o k) 8 (closeIn table o) o (branch-small o k))
 
   restore-small : (q : ℕ) → Small (restore table q) 8
   unfolding restore

@@ -1,13 +1,13 @@
 -- The records of each row's transitions, in the order of the file, from a diagram's table and its file's bytes.
 -- Any words are a table: past its end a word is 0. Assumes nothing.
-use Prim.Native.Nat.{ℕ, _+_, _*_}
-use mathlib.Core.Bool.{cond}
+use Prim.Native.Nat.{ℕ, zero, suc, _+_, _*_}
+use mathlib.Core.Bool.{cond, _&&_}
 use mathlib.Core.List.{List, [], _++_}
-use lib.Dec.{eqb}
+use lib.Dec.{ltb, eqb}
 use Rattle.effbd.specs.Records.{word}
 use Rattle.effbd.specs.Nets.{takeArc, giveArc}
 use Rattle.diagram_table.specs.Cells.{kindIn, firstIn, secondIn, usesStartIn, usesNumberIn, ownerIn, closeIn, isBranch}
-use Rattle.net_records.specs.Writing.{Records, runs, span}
+use Rattle.net_records.specs.Writing.{Records, runs}
 use Rattle.net_records.specs.Records.{transition, arc}
 use Rattle.net_loops.specs.Loops.{entry, itOpen, loopExit}
 
@@ -38,8 +38,17 @@ branchPlace table kind q = cond (eqb kind takeArc) (3 * q) (entry table (q + 1))
 unfoldable pub branchArc : (table : List ℕ) (opened kind q : ℕ) → Records
 branchArc table opened kind q = cond (isBranch table opened q) (arc kind (branchPlace table kind q) 1) []
 
+-- the row behind row q, or behind the construct that it opens where that closes before `closed`
+unfoldable pub behindIn : (table : List ℕ) (q closed : ℕ) → ℕ
+behindIn table q closed = let inner = closeIn table q in cond (ltb q inner && ltb inner closed) (inner + 1) (q + 1)
+
+-- what the rows from q up to `closed` write, without those in the constructs between; n turns, which are enough where `closed` is at most q + n
+unfoldable pub walk : (table : List ℕ) (closed : ℕ) (f : ℕ → Records) (n q : ℕ) → Records
+walk table closed f zero q = []
+walk table closed f (suc n) q = cond (ltb q closed) (f q ++ walk table closed f n (behindIn table q closed)) []
+
 unfoldable pub branchArcs : (table : List ℕ) (opened kind : ℕ) → Records
-branchArcs table opened kind = span (branchArc table opened kind) opened (closeIn table opened)
+branchArcs table opened kind = let closed = closeIn table opened in walk table closed (branchArc table opened kind) closed opened
 
 unfoldable pub andOpen : (table : List ℕ) (row : ℕ) → Records
 andOpen table row = transition row 0 0 ++ arc takeArc (3 * row) 1 ++ branchArcs table row giveArc

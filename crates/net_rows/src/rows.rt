@@ -1,8 +1,9 @@
 // The transitions of a diagram's rows, from its table (crate diagram_table). Nothing is asked of a caller: any words are a table.
+ghost use Prim.Native.Nat.{_<_};
 ghost use mathlib.Core.Path.{_≡_};
 ghost use mathlib.Core.List.{_++_};
 ghost use Rattle.net_records.specs.Writing.{Wrote, runs};
-ghost use Rattle.net_rows.specs.Rows.{token as tokenRecords, useArcs, functionStart, functionEnd, branchPlace, branchArc, branchArcs, andOpen, andClose, branchToken, onward as onwardRecords, back as backRecords, rowRecords};
+ghost use Rattle.net_rows.specs.Rows.{token as tokenRecords, useArcs, functionStart, functionEnd, branchPlace, branchArc, behindIn, branchArcs, andOpen, andClose, branchToken, onward as onwardRecords, back as backRecords, rowRecords};
 use diagram_table::CLOSE;
 use diagram_table::FIRST;
 use diagram_table::OWNER;
@@ -111,7 +112,19 @@ fn branch_arc(table: &[u16], opened: u16, kind: u16, row: u16, area: &mut [u8], 
     at
 }
 
-// The arcs of an AND's BRANCH rows, all of which stand before its close.
+// The row behind a row, or behind the construct that it opens where that closes before `closed`.
+fn behind(table: &[u16], row: u16, closed: u16) -> u16
+    requires { ⌜ row < closed ⌝ }
+    ensures { λ r. ⌜ r ≡ behindIn (now (table .entry)) row closed ⌝ }
+{
+    let inner = diagram_table::cell(table, CLOSE, row as u32);
+    if row < inner && inner < closed {
+        return inner + 1;
+    }
+    row + 1
+}
+
+// The arcs of an AND's BRANCH rows, which stand before its close and in none of the constructs between.
 fn branch_arcs(table: &[u16], opened: u16, kind: u16, area: &mut [u8], at: usize) -> usize
     ensures { λ r. ⌜ Wrote (now (area .entry)) at (now (area .exit)) r (branchArcs (now (table .entry)) opened kind) ⌝ }
 {
@@ -120,7 +133,7 @@ fn branch_arcs(table: &[u16], opened: u16, kind: u16, area: &mut [u8], at: usize
     let mut row = opened;
     while row < closed {
         next = branch_arc(table, opened, kind, row, area, next);
-        row += 1;
+        row = behind(table, row, closed);
     }
     next
 }
