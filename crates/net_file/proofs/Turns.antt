@@ -12,7 +12,7 @@ use Rattle.effbd.specs.Answers.{Outcome, accepted, refused, unless, andThen, re
 use Rattle.effbd.specs.Records.{word, lengthAt, kindAt, lengthOf, kindTable, entryIn, faultAt, adding, readMany}
 use Rattle.effbd.specs.Nets.{takeArc, arcDue, arcFine, transitionFine, above, arcAt, transitionAt, Arc, Transition, markAt, markFault, Tail, withArc, withTransition, arcFault, transitionFault, readTail}
 use Rattle.net_file.specs.declared.Due.{Due}
-use Rattle.net_file.specs.Due.{arcNext, arcRight, transitionRight, dueKind, fieldsFine, faultIn, nextDue, ended, verdict}
+use Rattle.net_file.specs.Due.{arcNext, arcRight, transitionRight, dueKind, fieldsFine, faultIn, behindArc, nextDue, ended, verdict}
 use Rattle.agreement.specs.ByteLaws.{none-clean}
 use Rattle.ranges.specs.Outcomes.{unless-same, unless-then}
 use Rattle.net_file.proofs.Records.{adding-then}
@@ -63,8 +63,14 @@ no-fault count due rest l p n a e f =
       le-ltb (length rest) 8 l,
     )
 
-pub right-arc : (count : ℕ) (due : Due) (rest : List ℕ) → arcRight count due rest ≡ true → faultIn count due rest ≡ 0
-unfolding arcRight arcNext arcDue
+-- an arc that is right: no fault, and where to go on
+pub record RightArc (count : ℕ) (due : Due) (rest : List ℕ) : Type 0 where
+  pub none : faultIn count due rest ≡ 0
+  pub long : lengthOf takeArc ≡ lengthAt rest
+  pub next : behindArc due rest ≡ nextDue due rest
+
+pub right-arc : (count : ℕ) (due : Due) (rest : List ℕ) → arcRight count due rest ≡ true → RightArc count due rest
+unfolding arcRight arcNext arcDue nextDue
 right-arc count due rest h =
     let q = and-right (leb 8 (length rest)) _ h in
     let r = and-right (eqb (due .places) 0) _ q in
@@ -73,9 +79,13 @@ right-arc count due rest h =
     let t = and-right (leb 4 (length rest) && (leb (due .kind) (kindAt rest) && leb (kindAt rest) 37)) _ s in
     let most = leb-true (kindAt rest) 37 (and-right (leb (due .kind) (kindAt rest)) _ (and-right (leb 4 (length rest)) _ n)) in
     let least = leb-true 35 (kindAt rest) (and-left (leb 35 (kindAt rest)) _ r) in
-    no-fault count due rest (leb-true 8 (length rest) (and-left (leb 8 (length rest)) _ h)) (and-left (eqb (due .places) 0) _ q) n (record { least = least; most = most })
-    (eqb-true (lengthAt rest) (lengthOf 35) (and-left (eqb (lengthAt rest) (lengthOf 35)) _ t) ∙ arc-length 35 (record { least = omega arith; most = omega arith }))
-    (and-right (eqb (lengthAt rest) (lengthOf 35)) _ t)
+    let e = eqb-true (lengthAt rest) (lengthOf 35) (and-left (eqb (lengthAt rest) (lengthOf 35)) _ t) in
+    record {
+      none = no-fault count due rest (leb-true 8 (length rest) (and-left (leb 8 (length rest)) _ h)) (and-left (eqb (due .places) 0) _ q) n (record { least = least; most = most })
+          (e ∙ arc-length 35 (record { least = omega arith; most = omega arith })) (and-right (eqb (lengthAt rest) (lengthOf 35)) _ t);
+      long = sym e;
+      next = rw (ne-eqb (kindAt rest) 33 (omega arith), ne-eqb (kindAt rest) 34 (omega arith));
+    }
 
 -- a transition with nothing off has none
 due-transition : (due : Due) (rest : List ℕ) → eqb (due .places) 0 ≡ true → eqb (due .transitions) 0 ≡ false → kindAt rest ≡ 34 → dueKind due rest ≡ 34
@@ -134,7 +144,7 @@ module _ (count total : ℕ) where
 
   pub next-arc : (due : Due) (rest : List ℕ) → 35 ≤ kindAt rest
       → nextDue due rest ≡ record { places = due .places; transitions = due .transitions; kind = kindAt rest; from = above (arcAt rest); label = due .label }
-  unfolding nextDue
+  unfolding nextDue behindArc
   next-arc due rest h = rw (ne-eqb (kindAt rest) 33 (omega arith), ne-eqb (kindAt rest) 34 (omega arith))
 
   -- the verdict over the numbers that are due

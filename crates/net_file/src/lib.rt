@@ -14,7 +14,7 @@ ghost use lib.Dec.{eqb};
 ghost use Rattle.effbd.specs.Answers.{said};
 ghost use Rattle.effbd.specs.Nets.{arcFine, above as aboveOf, transitionFine, netHeadFault, readNet};
 ghost use Rattle.net_file.specs.Contents.{headFine};
-ghost use Rattle.net_file.specs.Due.{start as startOf, arcOf, timed, arcNext, dueKind, arcRight, transitionRight, fieldsFine, faultIn, nextDue, ended as endedBy, placeRight, RightPlaces, wordsOf};
+ghost use Rattle.net_file.specs.Due.{start as startOf, arcOf, timed, arcNext, dueKind, arcRight, transitionRight, fieldsFine, faultIn, behindArc, nextDue, ended as endedBy, placeRight, RightPlaces, wordsOf};
 
 // The limits that a net's head has to keep, and its labels.
 const MOST_PLACES: u16 = 208;
@@ -182,9 +182,6 @@ fn transition_right(due: Due, rest: &[u8]) -> bool
 fn fault(count: u16, due: Due, rest: &[u8]) -> u16
     ensures { λ r. ⌜ r ≡ faultIn count due (now (rest .entry)) ⌝ }
 {
-    if arc_right(count, due, rest) {
-        return 0;
-    }
     if transition_right(due, rest) {
         return 0;
     }
@@ -214,12 +211,25 @@ fn above(kind: u16, first: u16, second: u16) -> u32
     }
 }
 
+// What is due behind the arc at the start of `rest`.
+fn behind_arc(due: Due, rest: &[u8]) -> Due
+    ensures { λ r. ⌜ r ≡ behindArc due (now (rest .entry)) ⌝ }
+{
+    let kind = words::word(rest, 2);
+    Due {
+        places: due.places,
+        transitions: due.transitions,
+        kind,
+        from: above(kind, words::word(rest, 4), words::word(rest, 6)),
+        label: due.label,
+    }
+}
+
 // What is due behind the record at the start of `rest`.
 fn next(due: Due, rest: &[u8]) -> Due
     ensures { λ r. ⌜ r ≡ nextDue due (now (rest .entry)) ⌝ }
 {
     let kind = words::word(rest, 2);
-    let first = words::word(rest, 4);
     match kind {
         PLACE => Due {
             places: less_one(due.places),
@@ -233,15 +243,9 @@ fn next(due: Due, rest: &[u8]) -> Due
             transitions: less_one(due.transitions),
             kind: TAKE,
             from: 0,
-            label: first,
+            label: words::word(rest, 4),
         },
-        _ => Due {
-            places: due.places,
-            transitions: due.transitions,
-            kind,
-            from: above(kind, first, words::word(rest, 6)),
-            label: due.label,
-        },
+        _ => behind_arc(due, rest),
     }
 }
 
@@ -292,14 +296,20 @@ pub fn read(net: &[u8]) -> Answer
     let mut due = start(places - right, transitions);
     let mut rest = words::tail(net, 8 + 6 * right as usize);
     while !ended(due, rest) {
-        let wrong = fault(places, due, rest);
-        if wrong != 0 {
-            return Answer::Refused(wrong, (net.len() - rest.len()) as u32);
+        if arc_right(places, due, rest) {
+            due = behind_arc(due, rest);
+            let more = words::tail(rest, kinds::length_of(TAKE) as usize);
+            rest = more;
+        } else {
+            let wrong = fault(places, due, rest);
+            if wrong != 0 {
+                return Answer::Refused(wrong, (net.len() - rest.len()) as u32);
+            }
+            let size = words::word(rest, 0) as usize;
+            due = next(due, rest);
+            let more = words::tail(rest, size);
+            rest = more;
         }
-        let size = words::word(rest, 0) as usize;
-        due = next(due, rest);
-        let more = words::tail(rest, size);
-        rest = more;
     }
     Answer::Accepted(places as u32 + transitions as u32)
 }

@@ -8,43 +8,39 @@ use Rattle.net_file.proofs.next.Tie as tie
 word-requires : tie.Need-word-requires
 word-requires c κs = search needs
 
-word-requires-2 : tie.Need-word-requires-2
-word-requires-2 c κs = search needs
-
 less-one-requires : tie.Need-less-one-requires
 less-one-requires c κs = search needs
 
 less-one-requires-2 : tie.Need-less-one-requires-2
 less-one-requires-2 c κs = search needs
 
-word-requires-3 : tie.Need-word-requires-3
-word-requires-3 c κs = search needs
+word-requires-2 : tie.Need-word-requires-2
+word-requires-2 c κs = search needs
 
-above-requires : tie.Need-above-requires
-above-requires c κs = search needs
+behind-arc-requires : tie.Need-behind-arc-requires
+behind-arc-requires c κs = search needs
 
 returns : tie.Need-returns
 unfolding nextDue
-returns c = let k = sym (c .before .before .before .word .ensures) ∙ c .before .match .keys1 in simp (k, c .less-one .ensures)
+returns c = let k = sym (c .before .before .word .ensures) ∙ c .before .match .keys1 in simp (k, c .less-one .ensures)
 
 returns-2 : tie.Need-returns-2
 unfolding nextDue
-returns-2 c = let k = sym (c .before .before .before .word .ensures) ∙ c .before .match .keys2 in simp (k, c .less-one2 .ensures, c .before .before .word2 .ensures)
+returns-2 c = let k = sym (c .before .before .before .word .ensures) ∙ c .before .before .match .keys2 in simp (k, c .before .less-one2 .ensures, c .word2 .ensures)
 
 returns-3 : tie.Need-returns-3
 unfolding nextDue
-returns-3 c = let r = c .before .before .match .rest in simp (← c .before .before .before .before .word .ensures, ne-eqb _ _ (r .1), ne-eqb _ _ (r .0 .1), c .above .ensures, ← c .before .word3 .ensures, ← c .before .before .before .word2 .ensures)
+returns-3 c = let r = c .before .match .rest in rw (← c .before .before .word .ensures, ne-eqb _ _ (r .1), ne-eqb _ _ (r .0 .1)) (c .behind-arc .ensures)
 
 pub next-spec : {M : Type 1} → statement M
 next-spec =
     tie.close
     (tie.spec
     word-requires
-    word-requires-2
     less-one-requires
     less-one-requires-2
-    word-requires-3
-    above-requires
+    word-requires-2
+    behind-arc-requires
     returns
     returns-2
     returns-3)

@@ -6,6 +6,7 @@ use native.Mathlib.Omega.{arith}
 use lib.ListN.{length}
 use Rattle.effbd.specs.Answers.{refused}
 use Rattle.net_file.proofs.Standing.{Stands, head-bad, go-on, shrinks, stop, done, near-offset}
+use Rattle.net_file.proofs.Turns.{right-arc}
 use Rattle.net_file.proofs.Places.{behind-right}
 use Rattle.net_file.proofs.read.Statement.{statement}
 use Rattle.net_file.proofs.read.Tie as tie
@@ -62,21 +63,51 @@ loop-holds c =
 ended-requires : tie.Need-ended-requires Inv-loop μ-loop
 ended-requires c κs = search needs
 
+arc-right-requires : tie.Need-arc-right-requires Inv-loop μ-loop
+arc-right-requires c κs = search needs
+
+behind-arc-requires : tie.Need-behind-arc-requires Inv-loop μ-loop
+behind-arc-requires c κs = search needs
+
+length-of-requires : tie.Need-length-of-requires Inv-loop μ-loop
+length-of-requires c κs = search needs
+
+cast-tail-2 : tie.Need-cast-tail-2 Inv-loop μ-loop
+cast-tail-2 c = search needs
+
+tail-requires-3 : tie.Need-tail-requires-3 Inv-loop μ-loop
+tail-requires-3 c κs = search needs
+
+loop-less : tie.Need-loop-less Inv-loop μ-loop
+loop-less c =
+    let l = c .before .before .before .before .before .before .before .loop in
+    let a = right-arc (c .before .before .before .before .before .before .before .before .before .before .before .before .before .word .result) (l .due) (l .rest .now) (sym (c .before .before .before .before .arc-right .ensures) ∙ c .before .before .before .if3 .taken) in
+    shrinks (c .before .before .before .before .before .before .before .before .before .before .before .before .before .before .before .before .before .args .net .now) (l .rest .now) (c .before .before .before .before .before .before .before .before .before .before .before .before .before .word .result) (c .before .before .before .before .before .before .before .before .before .before .before .before .word2 .result) (l .due) (l .inv)
+    (c .before .length-of .result) (c .tail3 .result .now) (a .none) (c .before .length-of .ensures ∙ a .long) (c .tail3 .ensures)
+
+loop-again : tie.Need-loop-again Inv-loop μ-loop
+loop-again c =
+    let l = c .before .before .before .before .before .before .before .loop in
+    let a = right-arc (c .before .before .before .before .before .before .before .before .before .before .before .before .before .word .result) (l .due) (l .rest .now) (sym (c .before .before .before .before .arc-right .ensures) ∙ c .before .before .before .if3 .taken) in
+    go-on (c .before .before .before .before .before .before .before .before .before .before .before .before .before .before .before .before .before .args .net .now) (l .rest .now) (c .before .before .before .before .before .before .before .before .before .before .before .before .before .word .result) (c .before .before .before .before .before .before .before .before .before .before .before .before .word2 .result) (l .due) (l .inv)
+    (c .before .length-of .result) (c .before .before .behind-arc .result) (c .tail3 .result .now)
+    (sym (c .before .before .before .before .before .before .ended .ensures) ∙ not-true _ (c .before .before .before .before .before .if2 .taken)) (a .none) (c .before .length-of .ensures ∙ a .long) (c .before .before .behind-arc .ensures ∙ a .next) (c .tail3 .ensures)
+
 fault-requires : tie.Need-fault-requires Inv-loop μ-loop
 fault-requires c κs = search needs
 
-sub-t21 : tie.Need-sub-t21 Inv-loop μ-loop
-sub-t21 c = let n = c .before .before .before .before .loop .inv .near .inside in omega arith
+sub-t26 : tie.Need-sub-t26 Inv-loop μ-loop
+sub-t26 c = let n = c .before .before .before .before .before .before .loop .inv .near .inside in omega arith
 
-cast-t22 : tie.Need-cast-t22 Inv-loop μ-loop
-cast-t22 c = let n = near-offset (length (c .before .before .before .before .before .before .before .before .before .before .before .before .before .before .args .net .now)) (c .before .before .before .before .loop .due) (c .before .before .before .before .loop .rest .now) (c .before .before .before .before .loop .inv .near) in omega arith
+cast-t27 : tie.Need-cast-t27 Inv-loop μ-loop
+cast-t27 c = let n = near-offset (length (c .before .before .before .before .before .before .before .before .before .before .before .before .before .before .before .before .args .net .now)) (c .before .before .before .before .before .before .loop .due) (c .before .before .before .before .before .before .loop .rest .now) (c .before .before .before .before .before .before .loop .inv .near) in omega arith
 
 returns-2 : tie.Need-returns-2 Inv-loop μ-loop
 returns-2 c =
-    let l = c .before .before .before .before .loop in
-    ap (λ k. refused k (length (c .before .before .before .before .before .before .before .before .before .before .before .before .before .before .args .net .now) - length (l .rest .now))) (c .before .fault .ensures)
-    ∙ stop (c .before .before .before .before .before .before .before .before .before .before .before .before .before .before .args .net .now) (l .rest .now) (c .before .before .before .before .before .before .before .before .before .before .word .result) (c .before .before .before .before .before .before .before .before .before .word2 .result) (l .due) (l .inv)
-    (sym (c .before .before .before .ended .ensures) ∙ not-true _ (c .before .before .if2 .taken)) (λ q. c .if3 .taken (c .before .fault .ensures ∙ q))
+    let l = c .before .before .before .before .before .before .loop in
+    ap (λ k. refused k (length (c .before .before .before .before .before .before .before .before .before .before .before .before .before .before .before .before .args .net .now) - length (l .rest .now))) (c .before .fault .ensures)
+    ∙ stop (c .before .before .before .before .before .before .before .before .before .before .before .before .before .before .before .before .args .net .now) (l .rest .now) (c .before .before .before .before .before .before .before .before .before .before .before .before .word .result) (c .before .before .before .before .before .before .before .before .before .before .before .word2 .result) (l .due) (l .inv)
+    (sym (c .before .before .before .before .before .ended .ensures) ∙ not-true _ (c .before .before .before .before .if2 .taken)) (λ q. c .if4 .taken (c .before .fault .ensures ∙ q))
 
 word-requires-3 : tie.Need-word-requires-3 Inv-loop μ-loop
 word-requires-3 c κs = search needs
@@ -87,31 +118,31 @@ cast-size c = search needs
 next-requires : tie.Need-next-requires Inv-loop μ-loop
 next-requires c κs = search needs
 
-tail-requires-3 : tie.Need-tail-requires-3 Inv-loop μ-loop
-tail-requires-3 c κs = search needs
+tail-requires-4 : tie.Need-tail-requires-4 Inv-loop μ-loop
+tail-requires-4 c κs = search needs
 
-loop-less : tie.Need-loop-less Inv-loop μ-loop
-loop-less c =
-    let l = c .before .before .before .before .before .before .before .loop in
-    shrinks (c .before .before .before .before .before .before .before .before .before .before .before .before .before .before .before .before .before .args .net .now) (l .rest .now) (c .before .before .before .before .before .before .before .before .before .before .before .before .before .word .result) (c .before .before .before .before .before .before .before .before .before .before .before .before .word2 .result) (l .due) (l .inv)
-    (c .before .before .word3 .result) (c .tail3 .result .now) (sym (c .before .before .before .before .fault .ensures) ∙ c .before .before .before .if3 .left) (c .before .before .word3 .ensures) (c .tail3 .ensures)
+loop-less-2 : tie.Need-loop-less-2 Inv-loop μ-loop
+loop-less-2 c =
+    let l = c .before .before .before .before .before .before .before .before .before .loop in
+    shrinks (c .before .before .before .before .before .before .before .before .before .before .before .before .before .before .before .before .before .before .before .args .net .now) (l .rest .now) (c .before .before .before .before .before .before .before .before .before .before .before .before .before .before .before .word .result) (c .before .before .before .before .before .before .before .before .before .before .before .before .before .before .word2 .result) (l .due) (l .inv)
+    (c .before .before .word3 .result) (c .tail4 .result .now) (sym (c .before .before .before .before .fault .ensures) ∙ c .before .before .before .if4 .left) (c .before .before .word3 .ensures) (c .tail4 .ensures)
 
-loop-again : tie.Need-loop-again Inv-loop μ-loop
-loop-again c =
-    let l = c .before .before .before .before .before .before .before .loop in
-    go-on (c .before .before .before .before .before .before .before .before .before .before .before .before .before .before .before .before .before .args .net .now) (l .rest .now) (c .before .before .before .before .before .before .before .before .before .before .before .before .before .word .result) (c .before .before .before .before .before .before .before .before .before .before .before .before .word2 .result) (l .due) (l .inv)
-    (c .before .before .word3 .result) (c .before .next .result) (c .tail3 .result .now)
-    (sym (c .before .before .before .before .before .before .ended .ensures) ∙ not-true _ (c .before .before .before .before .before .if2 .taken)) (sym (c .before .before .before .before .fault .ensures) ∙ c .before .before .before .if3 .left)
-    (c .before .before .word3 .ensures) (c .before .next .ensures) (c .tail3 .ensures)
+loop-again-2 : tie.Need-loop-again-2 Inv-loop μ-loop
+loop-again-2 c =
+    let l = c .before .before .before .before .before .before .before .before .before .loop in
+    go-on (c .before .before .before .before .before .before .before .before .before .before .before .before .before .before .before .before .before .before .before .args .net .now) (l .rest .now) (c .before .before .before .before .before .before .before .before .before .before .before .before .before .before .before .word .result) (c .before .before .before .before .before .before .before .before .before .before .before .before .before .before .word2 .result) (l .due) (l .inv)
+    (c .before .before .word3 .result) (c .before .next .result) (c .tail4 .result .now)
+    (sym (c .before .before .before .before .before .before .before .before .ended .ensures) ∙ not-true _ (c .before .before .before .before .before .before .before .if2 .taken)) (sym (c .before .before .before .before .fault .ensures) ∙ c .before .before .before .if4 .left)
+    (c .before .before .word3 .ensures) (c .before .next .ensures) (c .tail4 .ensures)
 
-cast-t24 : tie.Need-cast-t24 Inv-loop μ-loop
-cast-t24 c = search needs
+cast-t29 : tie.Need-cast-t29 Inv-loop μ-loop
+cast-t29 c = search needs
 
-cast-t25 : tie.Need-cast-t25 Inv-loop μ-loop
-cast-t25 c = search needs
+cast-t30 : tie.Need-cast-t30 Inv-loop μ-loop
+cast-t30 c = search needs
 
-add-t26 : tie.Need-add-t26 Inv-loop μ-loop
-add-t26 c = search needs
+add-t31 : tie.Need-add-t31 Inv-loop μ-loop
+add-t31 c = search needs
 
 returns-3 : tie.Need-returns-3 Inv-loop μ-loop
 returns-3 c =
@@ -139,17 +170,24 @@ read-spec =
     tail-requires-2
     loop-holds
     ended-requires
+    arc-right-requires
+    behind-arc-requires
+    length-of-requires
+    cast-tail-2
+    tail-requires-3
+    loop-less
+    loop-again
     fault-requires
-    sub-t21
-    cast-t22
+    sub-t26
+    cast-t27
     returns-2
     word-requires-3
     cast-size
     next-requires
-    tail-requires-3
-    loop-less
-    loop-again
-    cast-t24
-    cast-t25
-    add-t26
+    tail-requires-4
+    loop-less-2
+    loop-again-2
+    cast-t29
+    cast-t30
+    add-t31
     returns-3)
