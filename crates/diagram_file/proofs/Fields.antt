@@ -7,14 +7,15 @@ use mathlib.Core.List.{List}
 use native.Mathlib.Omega.{arith}
 use lib.ListN.{drop}
 use lib.Dec.{leb, ltb, eqb}
-use borrow.Author.Tests.{lt-ltb, le-leb, lt-leb, leb-true, eqb-true, ne-eqb}
+use borrow.Author.Tests.{lt-ltb, le-leb, lt-leb, leb-true, eqb-true, eqb-false, ne-eqb}
 use Rattle.ranges.specs.Tests.{decide, and-right}
 use Rattle.ranges.specs.RangeLaws.{all-elim}
 use Rattle.effbd.specs.Ranges.{allBelow}
 use Rattle.effbd.specs.Records.{word, lengthAt, kindAt, kindTable, entryIn, lengthOf, faultAt}
 use Rattle.effbd.specs.Diagrams.{and-open, branch, and-close, or-open, or-close, it-open, it-close, lp-open, lp-close, loop-exit, end, Row, kindOf, headFault, itemFault, usesAt, usesFine, rowAt, rowRight, rowFineAs, rowFine, rowFault}
+use Rattle.agreement.specs.ByteLaws.{none-clean}
 use Rattle.diagram_file.specs.Fields.{useFine, isRow, functionRight, functionFine, turnLimitFine, headFine}
-use Rattle.diagram_file.specs.Reading.{column, putRow, fillRow}
+use Rattle.diagram_file.specs.Reading.{column, putRow, rowLength, fillRow}
 
 positive : (x : ℕ) → not (eqb x 0) ≡ ltb 0 x
 positive zero = refl
@@ -101,7 +102,29 @@ module _ (items : ℕ) (bytes : List ℕ) where
       not-due : {due : Bool} → due ≡ false → isRow (kindAt bytes) ≡ false → faultAt bytes due (eqb size n) true 5 ≡ rowFault items bytes
       not-due ed f = rw (ed, f)
 
--- a row's columns, likewise
+  -- a row without fault is as long as its kind says
+  pub row-length : rowFault items bytes ≡ 0 → rowLength bytes ≡ lengthAt bytes
+  unfolding rowFault rowRight rowLength isRow
+  row-length e = let c = none-clean bytes (leb 16 (kindAt bytes) && leb (kindAt bytes) 27) (rowRight items bytes) (rowFine items (rowAt bytes)) 4 e in
+      decide (eqb (kindAt bytes) 16) (λ f. rw f)
+      (λ f. let z = eqb-true (lengthAt bytes) (lengthOf (kindAt bytes)) (rw f at (c .isRight)) in
+      decide (eqb (kindAt bytes) 22) (λ i. rw (f, i, z, eqb-true (kindAt bytes) 22 i))
+      (λ i. rw (f, i, z) (sym (end-length (kindAt bytes) (c .isDue) (eqb-false (kindAt bytes) 16 f) (eqb-false (kindAt bytes) 22 i)))))
+
+-- a row's length and its columns, likewise
+module _ (bytes : List ℕ) where
+  pub function-long : {kind size : ℕ} → kind ≡ kindAt bytes → kind ≡ 16 → size ≡ lengthAt bytes → size ≡ rowLength bytes
+  unfolding rowLength
+  function-long ek e ez = let k : kindAt bytes ≡ 16 = sym ek ∙ e in ez ∙ rw k
+
+  pub limit-long : {kind n : ℕ} → kind ≡ kindAt bytes → kind ≡ 22 → n ≡ lengthOf 22 → n ≡ rowLength bytes
+  unfolding rowLength
+  limit-long ek e en = let k : kindAt bytes ≡ 22 = sym ek ∙ e in en ∙ rw k
+
+  pub other-long : {kind n : ℕ} → kind ≡ kindAt bytes → kind ≢ 16 → kind ≢ 22 → n ≡ lengthOf 27 → n ≡ rowLength bytes
+  unfolding rowLength
+  other-long ek p q en = en ∙ rw (ne-eqb (kindAt bytes) 16 (λ x. p (ek ∙ x)), ne-eqb (kindAt bytes) 22 (λ x. q (ek ∙ x)))
+
 module _ (row at : ℕ) (bytes table : List ℕ) where
   pub function-row : {kind first second size number : ℕ} {next : List ℕ} → kind ≡ kindAt bytes → kind ≡ 16 → first ≡ word bytes 4 → second ≡ word bytes 6 → size ≡ lengthAt bytes → number ≡ (size - 8) / 6
       → next ≡ putRow row kind first second (at + 8) number table → next ≡ fillRow row at bytes table

@@ -7,7 +7,7 @@ use mathlib.Core.List.{List, [], _∷_}
 use lib.ListN.{length, getD, drop}
 use lib.Dec.{eqb}
 use Rattle.effbd.specs.Answers.{Outcome, accepted, refused, unless, andThen}
-use Rattle.effbd.specs.Records.{word, lengthAt, kindAt, Got, readMany}
+use Rattle.effbd.specs.Records.{word, lengthAt, kindAt, lengthOf, Got, readMany}
 use Rattle.effbd.specs.Diagrams.{function, numberOf, Row, Diagram, rowCount, countTotal, initialCount, row, kind, isKind, headFault, itemFault, itemAt, rowFault, rowAt, usesAt}
 use Rattle.effbd.specs.Nesting.{skip, fromRow}
 use Rattle.diagram_file.specs.Cells.{Cell, cell, putAll}
@@ -31,6 +31,10 @@ putRow row kind first second offset number table = putAll (rowCells row kind fir
 unfoldable pub fillRow : (row at : ℕ) → (bytes table : List ℕ) → List ℕ
 fillRow row at bytes table =
     putRow row (kindAt bytes) (column 0 1 bytes) (column 0 2 bytes) (cond (eqb (kindAt bytes) 16) (at + 8) 0) (column 0 4 bytes) table
+
+-- how long a row's record is that has no fault, by its kind; a FUNCTION says it itself
+unfoldable pub rowLength : List ℕ → ℕ
+rowLength bytes = cond (eqb (kindAt bytes) 16) (lengthAt bytes) (cond (eqb (kindAt bytes) 22) (lengthOf 22) (lengthOf 27))
 
 -- so many records of a sort are read without fault, from `start` on; the rest begins at byte `at`
 pub record Reading (fault : List ℕ → ℕ) (file start : List ℕ) (count : ℕ) (rest : List ℕ) (at : ℕ) : Type 0 where

@@ -4,7 +4,7 @@ ghost use Prim.Native.Nat.{_-_, _/_, _≤_, _<_};
 ghost use lib.ListN.{length};
 ghost use Rattle.effbd.specs.Diagrams.{usesAt, usesFine, headFault, itemFault, rowFault};
 ghost use Rattle.diagram_file.specs.Fields.{useFine, functionRight, functionFine, turnLimitFine, headFine, isRow};
-ghost use Rattle.diagram_file.specs.Reading.{putRow, fillRow, ItemsRead, RowsRead, Recorded};
+ghost use Rattle.diagram_file.specs.Reading.{putRow, rowLength, fillRow, ItemsRead, RowsRead, Recorded};
 use crate::Diagram;
 use words::kinds;
 
@@ -162,10 +162,11 @@ fn put_row(
 }
 
 // The columns of a row whose record begins `bytes`, at byte `at` of the file: α and β of a FUNCTION, where its uses begin and how many
-// they are; the count of an IT open.
-fn fill_row(table: &mut [u16], row: usize, bytes: &[u8], at: usize)
+// they are; the count of an IT open. Answers how long a record without fault is: a FUNCTION's length alone has to be looked up.
+fn fill_row(table: &mut [u16], row: usize, bytes: &[u8], at: usize) -> u16
     requires { ⌜ (row < 64) × (at < 60000) ⌝ }
     requires { ⌜ length (now table) ≡ 592 ⌝ }
+    ensures { λ r. ⌜ r ≡ rowLength (now (bytes .entry)) ⌝ }
     ensures { λ _. ⌜ now (table .exit) ≡ fillRow row at (now (bytes .entry)) (now (table .entry)) ⌝ }
 {
     let kind = words::word(bytes, 2);
@@ -173,14 +174,18 @@ fn fill_row(table: &mut [u16], row: usize, bytes: &[u8], at: usize)
         kinds::FUNCTION => {
             let first = words::word(bytes, 4);
             let second = words::word(bytes, 6);
-            let number = use_count(words::word(bytes, 0));
+            let length = words::word(bytes, 0);
+            let number = use_count(length);
             put_row(table, row, kind, first, second, (at + 8) as u16, number);
+            length
         }
         kinds::IT_OPEN => {
             put_row(table, row, kind, words::word(bytes, 4), 0, 0, 0);
+            kinds::length_of(kinds::IT_OPEN)
         }
         _ => {
             put_row(table, row, kind, 0, 0, 0, 0);
+            kinds::length_of(kinds::END)
         }
     }
 }
@@ -231,8 +236,7 @@ fn read_rows(file: &[u8], from: usize, count: usize, items: u16, table: &mut [u1
                 at: at,
             };
         }
-        fill_row(table, row, rest, at);
-        let length = words::word(rest, 0) as usize;
+        let length = fill_row(table, row, rest, at) as usize;
         let more = words::tail(rest, length);
         rest = more;
         at += length;

@@ -1,4 +1,5 @@
 use Rattle.diagram_file.proofs.Loops.{rows-start, rows-turn, rows-stop, rows-end}
+use Rattle.diagram_file.proofs.Fields.{row-length}
 use Rattle.diagram_file.specs.Reading.{RowsState}
 use Prim.Native.Nat.{_-_, _≤_}
 use native.Mathlib.Omega.{arith}
@@ -33,9 +34,6 @@ returns c =
 fill-row-requires : tie.Need-fill-row-requires Inv-loop μ-loop
 fill-row-requires c κs = search needs
 
-word-requires : tie.Need-word-requires Inv-loop μ-loop
-word-requires c κs = search needs
-
 cast-length : tie.Need-cast-length Inv-loop μ-loop
 cast-length c = search needs
 
@@ -49,13 +47,15 @@ add-row : tie.Need-add-row Inv-loop μ-loop
 add-row c = search needs
 
 loop-less : tie.Need-loop-less Inv-loop μ-loop
-loop-less c = omega (arith, c .before .before .before .before .before .before .before .before .loop-test .taken)
+loop-less c = omega (arith, c .before .before .before .before .before .before .before .loop-test .taken)
 
 loop-again : tie.Need-loop-again Inv-loop μ-loop
 loop-again c =
-    let l = c .before .before .before .before .before .before .before .before .before .loop in let a = c .before .before .before .before .before .before .before .before .before .before .before .before .before .args in (
-      omega (arith, c .before .before .before .before .before .before .before .before .loop-test .taken),
-      rows-turn (a .file .now) (a .items) (a .from) (l .row) (l .at) (l .rest .now) (a .table .now) (l .table) (l .inv .1) (c .before .word .result) (c .tail2 .result .now) (c .before .before .before .before .fill-row .last .0) (omega (arith, c .before .before .before .before .before .before .before .before .loop-test .taken, c .before .before .before .before .before .before .before .before .before .before .before .before .before .pre)) (omega (arith, c .before .before .before .before .before .before .before .before .before .before .before .before .before .pre)) (sym (c .before .before .before .before .before .before .before .row-fault .ensures) ∙ c .before .before .before .before .before .before .if1 .left) (c .before .word .ensures) (c .tail2 .ensures) (c .before .before .before .before .fill-row .ensures),
+    let l = c .before .before .before .before .before .before .before .before .loop in let a = c .before .before .before .before .before .before .before .before .before .before .before .before .args in
+    let fine = sym (c .before .before .before .before .before .before .row-fault .ensures) ∙ c .before .before .before .before .before .if1 .left in (
+      omega (arith, c .before .before .before .before .before .before .before .loop-test .taken),
+      rows-turn (a .file .now) (a .items) (a .from) (l .row) (l .at) (l .rest .now) (a .table .now) (l .table) (l .inv .1) (c .before .before .before .fill-row .result) (c .tail2 .result .now) (c .before .before .before .fill-row .last .0)
+          (omega (arith, c .before .before .before .before .before .before .before .loop-test .taken, c .before .before .before .before .before .before .before .before .before .before .before .before .pre)) (omega (arith, c .before .before .before .before .before .before .before .before .before .before .before .before .pre)) fine (c .before .before .before .fill-row .ensures .0 ∙ row-length (a .items) (l .rest .now) fine) (c .tail2 .ensures) (c .before .before .before .fill-row .ensures .1),
     )
 
 same-length-2 : tie.Need-same-length-2 Inv-loop μ-loop
@@ -78,7 +78,6 @@ read-rows-spec =
     same-length
     returns
     fill-row-requires
-    word-requires
     cast-length
     tail-requires-2
     add-at
