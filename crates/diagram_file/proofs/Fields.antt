@@ -5,7 +5,7 @@ use mathlib.Core.Logic.{_≢_}
 use mathlib.Core.Bool.{Bool, true, false, not, cond, _&&_, _||_}
 use mathlib.Core.List.{List}
 use native.Mathlib.Omega.{arith}
-use lib.ListN.{drop}
+use lib.ListN.{length, drop}
 use lib.Dec.{leb, ltb, eqb}
 use borrow.Author.Tests.{lt-ltb, le-leb, lt-leb, leb-true, eqb-true, eqb-false, ne-eqb}
 use Rattle.ranges.specs.Tests.{decide, and-right}
@@ -14,7 +14,7 @@ use Rattle.effbd.specs.Ranges.{allBelow}
 use Rattle.effbd.specs.Records.{word, lengthAt, kindAt, kindTable, entryIn, lengthOf, faultAt}
 use Rattle.effbd.specs.Diagrams.{and-open, branch, and-close, or-open, or-close, it-open, it-close, lp-open, lp-close, loop-exit, end, Row, kindOf, headFault, itemFault, usesAt, usesFine, rowAt, rowRight, rowFineAs, rowFine, rowFault}
 use Rattle.agreement.specs.ByteLaws.{none-clean}
-use Rattle.diagram_file.specs.Fields.{useFine, isRow, functionRight, functionFine, turnLimitFine, headFine}
+use Rattle.diagram_file.specs.Fields.{useFine, isRow, functionRight, functionFine, functionFault, turnLimitFine, headFine}
 use Rattle.diagram_file.specs.Reading.{column, putRow, rowLength, fillRow}
 
 positive : (x : ℕ) → not (eqb x 0) ≡ ltb 0 x
@@ -79,10 +79,18 @@ module _ (items : ℕ) (bytes : List ℕ) where
   unfolding rowFine rowAt kindOf
   fine-other p q = rw (ne-eqb (kindAt bytes) 16 p, ne-eqb (kindAt bytes) 22 q) (sym (other (eqb (kindAt bytes) 17) (eqb (kindAt bytes) 18) (eqb (kindAt bytes) 19) (eqb (kindAt bytes) 20) (eqb (kindAt bytes) 21) (eqb (kindAt bytes) 23) (eqb (kindAt bytes) 24) (eqb (kindAt bytes) 25) (eqb (kindAt bytes) 26) items _))
 
-  pub function-fault : {kind size r : ℕ} {right fine : Bool} → kind ≡ kindAt bytes → size ≡ lengthAt bytes → kind ≡ 16 → right ≡ functionRight size items → fine ≡ functionFine items bytes
-      → r ≡ faultAt bytes true right fine 5 → r ≡ rowFault items bytes
-  unfolding isRow functionRight rowRight rowFine rowAt kindOf functionFine
-  function-fault ek es e er ef e5 = let k : kindAt bytes ≡ 16 = sym ek ∙ e in fault-is (rw k) (er ∙ rw (k, es)) (ef ∙ rw k) e5
+  -- where a FUNCTION is cut short its fields are not asked for
+  pub function-cut : {size r : ℕ} {right : Bool} → size ≡ lengthAt bytes → right ≡ functionRight size items → length bytes < size → r ≡ faultAt bytes true right true 5 → r ≡ functionFault items bytes
+  unfolding functionFault faultAt
+  function-cut es er l e = let z : length bytes < lengthAt bytes = omega (arith, es, l) in e ∙ rw (er, es, lt-ltb (length bytes) (lengthAt bytes) z)
+
+  pub function-whole : {size r : ℕ} {right fine : Bool} → size ≡ lengthAt bytes → right ≡ functionRight size items → fine ≡ functionFine items bytes → r ≡ faultAt bytes true right fine 5 → r ≡ functionFault items bytes
+  unfolding functionFault
+  function-whole es er ef e = e ∙ rw (er, ef, es)
+
+  pub function-fault : {kind r : ℕ} → kind ≡ kindAt bytes → kind ≡ 16 → r ≡ functionFault items bytes → r ≡ rowFault items bytes
+  unfolding isRow functionRight rowRight rowFine rowAt kindOf functionFine functionFault
+  function-fault ek e er = let k : kindAt bytes ≡ 16 = sym ek ∙ e in fault-is (rw k) (rw k) (rw k) er
 
   pub limit-fault : {kind size n count r : ℕ} {fine : Bool} → kind ≡ kindAt bytes → size ≡ lengthAt bytes → kind ≡ 22 → n ≡ lengthOf 22 → count ≡ word bytes 4 → fine ≡ turnLimitFine count
       → r ≡ faultAt bytes true (eqb size n) fine 5 → r ≡ rowFault items bytes

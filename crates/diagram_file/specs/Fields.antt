@@ -1,10 +1,10 @@
 -- The tests of one record's fields, over numbers. Assumes nothing.
 use Prim.Native.Nat.{ℕ, _+_, _-_, _/_, _%_}
-use mathlib.Core.Bool.{Bool, _&&_}
+use mathlib.Core.Bool.{Bool, true, _&&_}
 use mathlib.Core.List.{List}
 use lib.ListN.{drop}
 use lib.Dec.{leb, ltb, eqb}
-use Rattle.effbd.specs.Records.{word, lengthAt}
+use Rattle.effbd.specs.Records.{word, lengthAt, faultAt}
 use Rattle.effbd.specs.Diagrams.{edition, mostRows, mostItems, usesAt, usesFine}
 
 unfoldable pub useFine : (items from item take give : ℕ) → Bool
@@ -21,6 +21,9 @@ turnLimitFine count = leb 2 count && leb count 255
 
 unfoldable pub functionFine : ℕ → List ℕ → Bool
 functionFine items bytes = leb (word bytes 4) (word bytes 6) && usesFine items 0 (usesAt ((lengthAt bytes - 8) / 6) (drop 8 bytes))
+
+unfoldable pub functionFault : ℕ → List ℕ → ℕ
+functionFault items bytes = faultAt bytes true (functionRight (lengthAt bytes) items) (functionFine items bytes) 5
 
 unfoldable pub headFine : (editionGiven rows items : ℕ) → Bool
 headFine editionGiven rows items = eqb editionGiven edition && (leb 1 rows && (leb rows mostRows && leb items mostItems))

@@ -1,9 +1,10 @@
 // Reads a diagram file's records by its tails, into one flat table: refusals 1 to 6.
 ghost use mathlib.Core.Path.{_≡_};
-ghost use Prim.Native.Nat.{_-_, _/_, _≤_, _<_};
+ghost use Prim.Native.Nat.{_+_, _-_, _*_, _/_, _≤_, _<_};
 ghost use lib.ListN.{length};
+ghost use Rattle.effbd.specs.Records.{word};
 ghost use Rattle.effbd.specs.Diagrams.{usesAt, usesFine, headFault, itemFault, rowFault};
-ghost use Rattle.diagram_file.specs.Fields.{useFine, functionRight, functionFine, turnLimitFine, headFine, isRow};
+ghost use Rattle.diagram_file.specs.Fields.{useFine, functionRight, functionFine, functionFault, turnLimitFine, headFine, isRow};
 ghost use Rattle.diagram_file.specs.Reading.{putRow, rowLength, fillRow, ItemsRead, RowsRead, Recorded};
 use crate::Diagram;
 use words::kinds;
@@ -20,22 +21,25 @@ fn use_fine(items: u16, from: u32, item: u16, take: u16, give: u16) -> bool
     from <= item as u32 && (item < items && 0 < take as u32 + give as u32)
 }
 
-// The uses at the start of `uses`: items rising and below `items`, none that neither takes nor gives.
+// The 16 bits at `at`, where both bytes are known to stand.
+fn known_word(bytes: &[u8], at: usize) -> u16
+    requires { ⌜ at + 2 ≤ length (now bytes) ⌝ }
+    ensures { λ r. ⌜ r ≡ word (now (bytes .entry)) at ⌝ }
+{
+    bytes[at] as u16 + 256 * (bytes[at + 1] as u16)
+}
+
+// The uses at the start of `uses`, all of which stand there: items rising and below `items`, none that neither takes nor gives.
 fn uses_fine(uses: &[u8], count: u16, items: u16) -> bool
+    requires { ⌜ 6 * count ≤ length (now uses) ⌝ }
     ensures { λ r. ⌜ r ≡ usesFine items 0 (usesAt count (now (uses .entry))) ⌝ }
 {
     let mut rest = uses;
     let mut left = count;
     let mut from: u32 = 0;
     while 0 < left {
-        let item = words::word(rest, 0);
-        if !use_fine(
-            items,
-            from,
-            item,
-            words::word(rest, 2),
-            words::word(rest, 4),
-        ) {
+        let item = known_word(rest, 0);
+        if !use_fine(items, from, item, known_word(rest, 2), known_word(rest, 4)) {
             return false;
         }
         from = item as u32 + 1;
@@ -74,7 +78,9 @@ fn turn_limit_fine(count: u16) -> bool
     2 <= count && count <= 255
 }
 
+// The fields of a FUNCTION that stands whole in the file.
 fn function_fine(bytes: &[u8], items: u16) -> bool
+    requires { ⌜ word (now bytes) 0 ≤ length (now bytes) ⌝ }
     ensures { λ r. ⌜ r ≡ functionFine items (now (bytes .entry)) ⌝ }
 {
     if words::word(bytes, 6) < words::word(bytes, 4) {
@@ -87,6 +93,19 @@ fn function_fine(bytes: &[u8], items: u16) -> bool
     )
 }
 
+// The fault of a FUNCTION; where it is cut short nothing is asked of its fields.
+fn function_fault(bytes: &[u8], items: u16) -> u16
+    ensures { λ r. ⌜ r ≡ functionFault items (now (bytes .entry)) ⌝ }
+{
+    let length = words::word(bytes, 0);
+    let right = function_right(length, items);
+    if bytes.len() < length as usize {
+        return words::record_fault(bytes, true, right, true, 5);
+    }
+    let fine = function_fine(bytes, items);
+    words::record_fault(bytes, true, right, fine, 5)
+}
+
 // One look at the kind finds all that is asked of a row.
 fn row_fault(bytes: &[u8], items: u16) -> u16
     ensures { λ r. ⌜ r ≡ rowFault items (now (bytes .entry)) ⌝ }
@@ -94,11 +113,7 @@ fn row_fault(bytes: &[u8], items: u16) -> u16
     let kind = words::word(bytes, 2);
     let length = words::word(bytes, 0);
     match kind {
-        kinds::FUNCTION => {
-            let right = function_right(length, items);
-            let fine = function_fine(bytes, items);
-            words::record_fault(bytes, true, right, fine, 5)
-        }
+        kinds::FUNCTION => function_fault(bytes, items),
         kinds::IT_OPEN => {
             let right = kinds::length_of(kinds::IT_OPEN);
             let fine = turn_limit_fine(words::word(bytes, 4));

@@ -1,4 +1,7 @@
 use Rattle.diagram_file.proofs.Fields.{function-bad, function-good}
+use mathlib.Core.Path.{ap, _∙_}
+use native.Mathlib.Omega.{arith}
+use lib.ListN.{length, length-drop}
 use borrow.Author.Needs.{needs}
 use Rattle.diagram_file.proofs.records.function_fine.Statement.{statement}
 use Rattle.diagram_file.proofs.records.function_fine.Tie as tie
@@ -22,7 +25,11 @@ use-count-requires : tie.Need-use-count-requires
 use-count-requires c κs = search needs
 
 uses-fine-requires : tie.Need-uses-fine-requires
-uses-fine-requires c κs = search needs
+uses-fine-requires c κs =
+    let b = c .before .before .before .before .before .before .before .args .bytes .now in
+    let t = ap length (c .before .before .tail .ensures) ∙ length-drop 8 b in
+    let h = c .before .before .before .before .before .before .before .pre in
+    omega (arith, t, h, c .before .word3 .ensures, c .use-count .ensures)
 
 returns-2 : tie.Need-returns-2
 returns-2 c = function-good (c .before .before .before .before .before .before .before .before .args .items) (c .before .before .before .before .before .before .before .before .args .bytes .now) (c .before .before .before .before .before .before .word .result) (c .before .before .before .before .before .word2 .result) (c .before .before .word3 .result) (c .before .use-count .result) (c .before .before .before .tail .result .now) (c .uses-fine .result) (c .before .before .before .before .before .before .word .ensures) (c .before .before .before .before .before .word2 .ensures) (c .before .before .before .before .if1 .left) (c .before .before .before .tail .ensures) (c .before .before .word3 .ensures) (c .before .use-count .ensures) (c .uses-fine .ensures)
