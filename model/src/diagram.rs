@@ -213,7 +213,8 @@ fn function_holds(function: &Function, item_count: usize) -> bool {
 /// Rows and constructs; "rows upward, at a row 7, 8, 9".
 fn nest<'a>(records: &[Record<'a>]) -> Result<(Vec<Row<'a>>, Vec<Construct>), Refusal> {
     let mut nesting = Nesting {
-        open: Vec::with_capacity(MOST_OPEN),
+        open: [0; MOST_OPEN],
+        depth: 0,
         constructs: Vec::new(),
     };
     let mut rows = Vec::with_capacity(records.len());
@@ -224,10 +225,11 @@ fn nest<'a>(records: &[Record<'a>]) -> Result<(Vec<Row<'a>>, Vec<Construct>), Re
     Ok((rows, nesting.constructs))
 }
 
-/// The constructs met so far; `open` has the indices of those still open, the
-/// innermost last.
+/// The constructs met so far; the first `depth` of `open` are the indices of
+/// those still open, the innermost last.
 struct Nesting {
-    open: Vec<usize>,
+    open: [usize; MOST_OPEN],
+    depth: usize,
     constructs: Vec<Construct>,
 }
 
@@ -267,13 +269,19 @@ impl Nesting {
                 Row::LoopExit(self.loop_exit(next_kind).ok_or(misplaced)?)
             }
             // END, the one kind left: "with nothing open".
-            _ if self.open.is_empty() => Row::End,
+            _ if self.depth == 0 => Row::End,
             _ => return Err(broken),
         })
     }
 
+    fn still_open(&self) -> &[usize] {
+        &self.open[..self.depth]
+    }
+
     fn innermost(&self) -> Option<&Construct> {
-        self.open.last().map(|index| &self.constructs[*index])
+        self.still_open()
+            .last()
+            .map(|index| &self.constructs[*index])
     }
 
     fn awaits_branch(&self) -> bool {
@@ -283,11 +291,12 @@ impl Nesting {
 
     /// Opens a construct, unless 12 are open.
     fn open(&mut self, row: usize, kind: u16) -> Result<usize, Refusal> {
-        if self.open.len() == MOST_OPEN {
+        if self.depth == MOST_OPEN {
             return Err(refusal(TOO_MANY_OPEN, row));
         }
         let index = self.constructs.len();
-        self.open.push(index);
+        self.open[self.depth] = index;
+        self.depth += 1;
         self.constructs.push(Construct {
             kind,
             open: row,
@@ -299,7 +308,7 @@ impl Nesting {
 
     /// "A BRANCH needs an innermost open AND or OR."
     fn branch<'a>(&mut self, row: usize) -> Option<Row<'a>> {
-        let index = *self.open.last()?;
+        let index = *self.still_open().last()?;
         let construct = &mut self.constructs[index];
         let branch = match construct.kind {
             AND_OPEN => Row::AndBranch(index),
@@ -313,7 +322,7 @@ impl Nesting {
     /// "A close needs its own kind innermost"; an AND or OR "has two BRANCH
     /// rows or more".
     fn close(&mut self, row: usize, kind: u16) -> Option<usize> {
-        let index = *self.open.last()?;
+        let index = *self.still_open().last()?;
         let construct = &mut self.constructs[index];
         if construct.close_kind() != kind {
             return None;
@@ -322,7 +331,7 @@ impl Nesting {
             return None;
         }
         construct.close = row;
-        self.open.pop();
+        self.depth -= 1;
         Some(index)
     }
 
@@ -335,7 +344,7 @@ impl Nesting {
             return None;
         }
         let is_loop = |index: &&usize| self.constructs[**index].kind == LP_OPEN;
-        self.open.iter().rev().find(is_loop).copied()
+        self.still_open().iter().rev().find(is_loop).copied()
     }
 }
 

@@ -1,8 +1,8 @@
 //! `benchmark`: the time of each proved function, of the model, and their ratio, at 5, 30 and 64 rows, and what one row more costs, in one run.
 //!
 //! Both are built for release and get the same inputs in the same order; states and areas are copied anew before each call, for both.
-//! At each size the calls go round plants of 960 rows in all: no single diagram's mix of rows decides the ratio, and the processor has as
-//! much to foresee at each size.
+//! At each size the calls go round plants of 960 rows in all, equally often: no single diagram's mix of rows decides the ratio, and the
+//! processor has as much to foresee at each size, and as many turns to learn it.
 
 use model::bus::Telegram;
 use model::generate::{diagram_up_to, Random};
@@ -15,9 +15,10 @@ const STATION: u16 = 9;
 const STATE_ROOM: usize = 336;
 const ROWS: usize = 960;
 const MOVES: usize = 24;
-const CALLS: usize = 6 * ROWS;
-const ROUNDS: usize = 20;
-const SWEEPS: usize = 5;
+/// Turns round the plants in one round: each move of each plant is made ten times.
+const TURNS: usize = 10 * MOVES;
+const ROUNDS: usize = 10;
+const SWEEPS: usize = 10;
 
 /// A diagram of just so many rows, its net, and accepted moves.
 struct Plant {
@@ -127,10 +128,11 @@ fn compare<P, M>(
     mut proved: impl FnMut(usize) -> P,
     mut model: impl FnMut(usize) -> M,
 ) {
+    let calls = TURNS * (ROWS / rows);
     let mut least = (f64::INFINITY, f64::INFINITY);
     for _ in 0..ROUNDS {
-        least.0 = least.0.min(nanoseconds(CALLS, &mut proved));
-        least.1 = least.1.min(nanoseconds(CALLS, &mut model));
+        least.0 = least.0.min(nanoseconds(calls, &mut proved));
+        least.1 = least.1.min(nanoseconds(calls, &mut model));
     }
     match table
         .iter_mut()
