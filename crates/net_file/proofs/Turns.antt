@@ -12,7 +12,7 @@ use Rattle.effbd.specs.Answers.{Outcome, accepted, refused, unless, andThen, re
 use Rattle.effbd.specs.Records.{word, lengthAt, kindAt, lengthOf, kindTable, entryIn, faultAt, adding, readMany}
 use Rattle.effbd.specs.Nets.{takeArc, arcDue, arcFine, transitionFine, above, arcAt, transitionAt, Arc, Transition, markAt, markFault, Tail, withArc, withTransition, arcFault, transitionFault, readTail}
 use Rattle.net_file.specs.declared.Due.{Due}
-use Rattle.net_file.specs.Due.{arcNext, arcRight, transitionRight, dueKind, fieldsFine, faultIn, behindArc, nextDue, ended, verdict}
+use Rattle.net_file.specs.Due.{arcNext, arcRight, transitionRight, dueKind, fieldsFine, faultIn, behindArc, behindTransition, nextDue, ended, verdict}
 use Rattle.agreement.specs.ByteLaws.{none-clean}
 use Rattle.ranges.specs.Outcomes.{unless-same, unless-then}
 use Rattle.net_file.proofs.Records.{adding-then}
@@ -63,13 +63,13 @@ no-fault count due rest l p n a e f =
       le-ltb (length rest) 8 l,
     )
 
--- an arc that is right: no fault, and where to go on
-pub record RightArc (count : ℕ) (due : Due) (rest : List ℕ) : Type 0 where
+-- a record of a kind is right: no fault, and where to go on
+pub record Right (count : ℕ) (due : Due) (rest : List ℕ) (kind : ℕ) (behind : Due) : Type 0 where
   pub none : faultIn count due rest ≡ 0
-  pub long : lengthOf takeArc ≡ lengthAt rest
-  pub next : behindArc due rest ≡ nextDue due rest
+  pub long : lengthOf kind ≡ lengthAt rest
+  pub next : behind ≡ nextDue due rest
 
-pub right-arc : (count : ℕ) (due : Due) (rest : List ℕ) → arcRight count due rest ≡ true → RightArc count due rest
+pub right-arc : (count : ℕ) (due : Due) (rest : List ℕ) → arcRight count due rest ≡ true → Right count due rest takeArc (behindArc due rest)
 unfolding arcRight arcNext arcDue nextDue
 right-arc count due rest h =
     let q = and-right (leb 8 (length rest)) _ h in
@@ -97,17 +97,22 @@ none-off : (count : ℕ) (due : Due) (rest : List ℕ) → 10 ≤ length rest �
 unfolding faultIn fieldsFine faultAt lengthOf entryIn kindTable
 none-off count due rest l d k e f = rw (d, k, e, f, le-ltb (length rest) 4 (omega arith), le-ltb (length rest) 10 l)
 
-pub right-transition : (count : ℕ) (due : Due) (rest : List ℕ) → transitionRight due rest ≡ true → faultIn count due rest ≡ 0
-unfolding transitionRight lengthOf entryIn kindTable
+pub right-transition : (count : ℕ) (due : Due) (rest : List ℕ) → transitionRight due rest ≡ true → Right count due rest 34 (behindTransition due rest)
+unfolding transitionRight lengthOf entryIn kindTable nextDue
 right-transition count due rest h =
     let p = and-right (leb 10 (length rest)) _ h in
     let t = and-right (eqb (due .places) 0) _ p in
     let k = and-right (not (eqb (due .transitions) 0)) _ t in
     let e = and-right (eqb (kindAt rest) 34) _ k in
     let is = eqb-true (kindAt rest) 34 (and-left (eqb (kindAt rest) 34) _ k) in
-    none-off count due rest (leb-true 10 (length rest) (and-left (leb 10 (length rest)) _ h))
-    (due-transition due rest (and-left (eqb (due .places) 0) _ p) (not-true (eqb (due .transitions) 0) (and-left (not (eqb (due .transitions) 0)) _ t)) is) is
-    (eqb-true (lengthAt rest) 10 (and-left (eqb (lengthAt rest) 10) _ e)) (and-right (eqb (lengthAt rest) 10) _ e)
+    let long = eqb-true (lengthAt rest) 10 (and-left (eqb (lengthAt rest) 10) _ e) in
+    record {
+      none = none-off count due rest (leb-true 10 (length rest) (and-left (leb 10 (length rest)) _ h))
+          (due-transition due rest (and-left (eqb (due .places) 0) _ p) (not-true (eqb (due .transitions) 0) (and-left (not (eqb (due .transitions) 0)) _ t)) is) is
+          long (and-right (eqb (lengthAt rest) 10) _ e);
+      long = sym long;
+      next = rw is;
+    }
 
 module _ (count total : ℕ) where
   -- the fault that each way gives
@@ -139,7 +144,7 @@ module _ (count total : ℕ) where
 
   pub next-transition : (due : Due) (rest : List ℕ) → kindAt rest ≡ 34
       → nextDue due rest ≡ record { places = due .places; transitions = due .transitions - 1; kind = takeArc; from = 0; label = word rest 4 }
-  unfolding nextDue
+  unfolding nextDue behindTransition
   next-transition due rest e = rw e
 
   pub next-arc : (due : Due) (rest : List ℕ) → 35 ≤ kindAt rest

@@ -50,16 +50,17 @@ unfoldable pub faultIn : ℕ → Due → List ℕ → ℕ
 faultIn count due rest = cond (eqb (dueKind due rest) 0) 6
     (faultAt rest (eqb (kindAt rest) (dueKind due rest)) (eqb (lengthAt rest) (lengthOf (dueKind due rest))) (fieldsFine count due (dueKind due rest) rest) 5)
 
--- what is due behind an arc, and behind any record
+-- what is due behind an arc, behind a transition, and behind any record
 unfoldable pub behindArc : Due → List ℕ → Due
 behindArc due rest = record { places = due .places; transitions = due .transitions; kind = kindAt rest; from = above (arcAt rest); label = due .label }
+
+unfoldable pub behindTransition : Due → List ℕ → Due
+behindTransition due rest = record { places = due .places; transitions = due .transitions - 1; kind = takeArc; from = 0; label = word rest 4 }
 
 unfoldable pub nextDue : Due → List ℕ → Due
 nextDue due rest = cond (eqb (kindAt rest) 33)
     (record { places = due .places - 1; transitions = due .transitions; kind = due .kind; from = due .from; label = due .label })
-    (cond (eqb (kindAt rest) 34)
-    (record { places = due .places; transitions = due .transitions - 1; kind = takeArc; from = 0; label = word rest 4 })
-    (behindArc due rest))
+    (cond (eqb (kindAt rest) 34) (behindTransition due rest) (behindArc due rest))
 
 unfoldable pub ended : Due → List ℕ → Bool
 ended due rest = eqb (due .places) 0 && (eqb (due .transitions) 0 && eqb (length rest) 0)

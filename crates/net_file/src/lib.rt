@@ -14,7 +14,7 @@ ghost use lib.Dec.{eqb};
 ghost use Rattle.effbd.specs.Answers.{said};
 ghost use Rattle.effbd.specs.Nets.{arcFine, above as aboveOf, transitionFine, netHeadFault, readNet};
 ghost use Rattle.net_file.specs.Contents.{headFine};
-ghost use Rattle.net_file.specs.Due.{start as startOf, arcOf, timed, arcNext, dueKind, arcRight, transitionRight, fieldsFine, faultIn, behindArc, nextDue, ended as endedBy, placeRight, RightPlaces, wordsOf};
+ghost use Rattle.net_file.specs.Due.{start as startOf, arcOf, timed, arcNext, dueKind, arcRight, transitionRight, fieldsFine, faultIn, behindArc, behindTransition, nextDue, ended as endedBy, placeRight, RightPlaces, wordsOf};
 
 // The limits that a net's head has to keep, and its labels.
 const MOST_PLACES: u16 = 208;
@@ -182,9 +182,6 @@ fn transition_right(due: Due, rest: &[u8]) -> bool
 fn fault(count: u16, due: Due, rest: &[u8]) -> u16
     ensures { λ r. ⌜ r ≡ faultIn count due (now (rest .entry)) ⌝ }
 {
-    if transition_right(due, rest) {
-        return 0;
-    }
     let kind = due_kind(due, rest);
     if kind == 0 {
         return 6;
@@ -225,6 +222,19 @@ fn behind_arc(due: Due, rest: &[u8]) -> Due
     }
 }
 
+// What is due behind the transition at the start of `rest`.
+fn behind_transition(due: Due, rest: &[u8]) -> Due
+    ensures { λ r. ⌜ r ≡ behindTransition due (now (rest .entry)) ⌝ }
+{
+    Due {
+        places: due.places,
+        transitions: less_one(due.transitions),
+        kind: TAKE,
+        from: 0,
+        label: words::word(rest, 4),
+    }
+}
+
 // What is due behind the record at the start of `rest`.
 fn next(due: Due, rest: &[u8]) -> Due
     ensures { λ r. ⌜ r ≡ nextDue due (now (rest .entry)) ⌝ }
@@ -238,13 +248,7 @@ fn next(due: Due, rest: &[u8]) -> Due
             from: due.from,
             label: due.label,
         },
-        TRANSITION => Due {
-            places: due.places,
-            transitions: less_one(due.transitions),
-            kind: TAKE,
-            from: 0,
-            label: words::word(rest, 4),
-        },
+        TRANSITION => behind_transition(due, rest),
         _ => behind_arc(due, rest),
     }
 }
@@ -299,6 +303,10 @@ pub fn read(net: &[u8]) -> Answer
         if arc_right(places, due, rest) {
             due = behind_arc(due, rest);
             let more = words::tail(rest, kinds::length_of(TAKE) as usize);
+            rest = more;
+        } else if transition_right(due, rest) {
+            due = behind_transition(due, rest);
+            let more = words::tail(rest, kinds::length_of(TRANSITION) as usize);
             rest = more;
         } else {
             let wrong = fault(places, due, rest);

@@ -11,11 +11,8 @@ word-requires c κs = search needs
 less-one-requires : tie.Need-less-one-requires
 less-one-requires c κs = search needs
 
-less-one-requires-2 : tie.Need-less-one-requires-2
-less-one-requires-2 c κs = search needs
-
-word-requires-2 : tie.Need-word-requires-2
-word-requires-2 c κs = search needs
+behind-transition-requires : tie.Need-behind-transition-requires
+behind-transition-requires c κs = search needs
 
 behind-arc-requires : tie.Need-behind-arc-requires
 behind-arc-requires c κs = search needs
@@ -26,7 +23,7 @@ returns c = let k = sym (c .before .before .word .ensures) ∙ c .before .match 
 
 returns-2 : tie.Need-returns-2
 unfolding nextDue
-returns-2 c = let k = sym (c .before .before .before .word .ensures) ∙ c .before .before .match .keys2 in simp (k, c .before .less-one2 .ensures, c .word2 .ensures)
+returns-2 c = let k = sym (c .before .before .word .ensures) ∙ c .before .match .keys2 in rw k (c .behind-transition .ensures)
 
 returns-3 : tie.Need-returns-3
 unfolding nextDue
@@ -38,8 +35,7 @@ next-spec =
     (tie.spec
     word-requires
     less-one-requires
-    less-one-requires-2
-    word-requires-2
+    behind-transition-requires
     behind-arc-requires
     returns
     returns-2
