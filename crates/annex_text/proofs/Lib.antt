@@ -1,2 +1,2 @@
-pub mod Laws
-pub mod Loops
+pub mod MarksAndRecords
+pub mod WrittenLines

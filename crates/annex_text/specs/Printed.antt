@@ -5,10 +5,10 @@ use mathlib.Core.Bool.{true}
 use mathlib.Core.List.{List}
 use native.Mathlib.Omega.{arith}
 use lib.ListN.{length}
-use Rattle.effbd.specs.Annex.{annexIn}
+use Rattle.effbd.specs.Annex.{annexIn, over}
 use Rattle.effbd.specs.Records.{areBytes}
 use Rattle.effbd.specs.Patterns.{translated}
-use Rattle.text.specs.Laid.{lay, reach, Laid, over}
+use Rattle.text.specs.Laid.{lay, reach, Laid}
 use Rattle.text.specs.LaidLaws.{reaches, lay-over}
 use Rattle.annex_text.specs.Lines.{answerText}
 use Rattle.annex_text.specs.NetTexts.{answer-text}

@@ -12,24 +12,15 @@ use Rattle.effbd.specs.Records.{areBytes}
 use Rattle.effbd.specs.Diagrams.{Diagram, rowCount}
 use Rattle.effbd.specs.Layout.{placeOf, places}
 use Rattle.effbd.specs.Nesting.{readDiagram}
-use Rattle.effbd.specs.Nets.{Arc, Transition, Net, arcBytes, transitionBytes, markBytes, netBytes}
+use Rattle.effbd.specs.Nets.{Arc, Transition, Net, arcBytes, transitionBytes, markBytes, netBytes, mostPlaces, mostTransitions}
 use Rattle.effbd.specs.Patterns.{Name, arcsOf, joinRange, rangesFrom, names, patternOf, transitionOf, netOf}
 use Rattle.effbd.specs.Annex.{digits, number, numbers, line, tLetter, labelLetters, fromLetters, toLetters, arcLetters, arcLines, transitionLines, netLines, printed, fitted, annexIn}
+use Rattle.text.specs.NumberLengths.{number-short}
 use Rattle.agreement.specs.AcceptedFiles.{AllOf, Held, held}
 use Rattle.ranges.specs.Tests.{decide, and-left, and-right}
 use Rattle.agreement.specs.ByteLaws.{bind-inv, never}
 use Rattle.agreement.specs.Formed.{marksFine, transitionsFine, wellFormed}
 use Rattle.agreement.specs.WellFormed.{well-made}
-
-digits-short : (most n : ℕ) → length (digits most n) ≤ most
-unfolding digits
-digits-short zero n = omega arith
-digits-short (suc most) n = decide (ltb n 10) (λ e. rw e (omega arith))
-    (λ e. rw e (let a = digits-short most (n / 10) in let b = length-append (digits most (n / 10)) ((48 + n % 10) ∷ []) in omega arith))
-
-number-short : (n : ℕ) → length (number n) ≤ 11
-unfolding number
-number-short n = let a = digits-short 10 n in omega arith
 
 pair-short : (letters : List ℕ) (first second : ℕ) → length (line letters (first ∷ second ∷ [])) ≤ length letters + 23
 unfolding numbers
@@ -179,12 +170,12 @@ module _ (d : Diagram) (h : Held d) where
   unfolding netBytes
   net-small =
       let n = netOf d in
-      let made : ((leb 1 (length (n .marks)) && (leb (length (n .marks)) 208 && leb (length (n .transitions)) 128)) && (marksFine (n .marks) && transitionsFine (length (n .marks)) 0 (n .transitions))) ≡ true =
+      let made : ((leb 1 (length (n .marks)) && (leb (length (n .marks)) mostPlaces && leb (length (n .transitions)) mostTransitions)) && (marksFine (n .marks) && transitionsFine (length (n .marks)) 0 (n .transitions))) ≡ true =
       unfold wellFormed in well-made d h in
-      let sizes = and-left (leb 1 (length (n .marks)) && (leb (length (n .marks)) 208 && leb (length (n .transitions)) 128)) _ made in
+      let sizes = and-left (leb 1 (length (n .marks)) && (leb (length (n .marks)) mostPlaces && leb (length (n .transitions)) mostTransitions)) _ made in
       let later = and-right (leb 1 (length (n .marks))) _ sizes in
-      let a = leb-true (length (n .marks)) 208 (and-left (leb (length (n .marks)) 208) _ later) in
-      let b = leb-true (length (n .transitions)) 128 (and-right (leb (length (n .marks)) 208) _ later) in
+      let a = leb-true (length (n .marks)) mostPlaces (and-left (leb (length (n .marks)) mostPlaces) _ later) in
+      let b = leb-true (length (n .transitions)) mostTransitions (and-right (leb (length (n .marks)) mostPlaces) _ later) in
       let c = transition-bytes (n .transitions) (unfold netOf in each-few (names d (rowCount d))) in
       let e = mark-bytes (n .marks) in
       let f = length-append (markBytes (n .marks)) (transitionBytes (n .transitions)) in

@@ -1,10 +1,11 @@
 // The text of the annex, written into lent bytes.
 ghost use mathlib.Core.Path.{_≡_};
+ghost use Prim.Native.Nat.{_≤_};
 ghost use lib.ListN.{length, take};
 ghost use Rattle.effbd.specs.Answers.{said};
-ghost use Rattle.effbd.specs.Annex.{annexIn};
+ghost use Rattle.effbd.specs.Annex.{annexIn, over};
 ghost use Rattle.effbd.specs.Patterns.{translated};
-ghost use Rattle.text.specs.Laid.{Laid, over};
+ghost use Rattle.text.specs.Laid.{Laid};
 ghost use Rattle.annex_text.specs.Lines.{transitionLine, arcLine, recordLine, recordSize, transitionsAt, recordLines, markNumbers, netText, answerText};
 use effbd::Answer;
 use words::kinds;
@@ -14,8 +15,8 @@ fn put_arc(text: &mut [u8], at: usize, bytes: &[u8]) -> usize
     ensures { λ r. ⌜ Laid (now (text .entry)) at (now (text .exit)) r (arcLine (now (bytes .entry))) ⌝ }
 {
     let kind = words::word(bytes, 2);
-    let first = words::word(bytes, 4) as usize;
-    let second = words::word(bytes, 6) as usize;
+    let first = words::word(bytes, 4) as u32;
+    let second = words::word(bytes, 6) as u32;
     if kind == kinds::TAKE {
         return text::put_line(text, at, b"take", first, second);
     }
@@ -26,18 +27,18 @@ fn put_arc(text: &mut [u8], at: usize, bytes: &[u8]) -> usize
 }
 
 // The line of transition number j.
-fn put_transition(text: &mut [u8], at: usize, j: usize, bytes: &[u8]) -> usize
+fn put_transition(text: &mut [u8], at: usize, j: u32, bytes: &[u8]) -> usize
     ensures { λ r. ⌜ Laid (now (text .entry)) at (now (text .exit)) r (transitionLine j (now (bytes .entry))) ⌝ }
 {
     let label = text::put_named(text, at, b"t", j);
-    let from = text::put_named(text, label, b" label", words::word(bytes, 4) as usize);
-    let to = text::put_named(text, from, b" from", words::word(bytes, 6) as usize);
-    let end = text::put_named(text, to, b" to", words::word(bytes, 8) as usize);
+    let from = text::put_named(text, label, b" label", words::word(bytes, 4) as u32);
+    let to = text::put_named(text, from, b" from", words::word(bytes, 6) as u32);
+    let end = text::put_named(text, to, b" to", words::word(bytes, 8) as u32);
     text::put(text, end, b'\n')
 }
 
 // The line of the transition or the arc at the start of `bytes`; the next transition is number j.
-fn put_record(text: &mut [u8], at: usize, j: usize, bytes: &[u8]) -> usize
+fn put_record(text: &mut [u8], at: usize, j: u32, bytes: &[u8]) -> usize
     ensures { λ r. ⌜ Laid (now (text .entry)) at (now (text .exit)) r (recordLine j (now (bytes .entry))) ⌝ }
 {
     if words::word(bytes, 2) == kinds::TRANSITION {
@@ -57,7 +58,7 @@ fn record_size(bytes: &[u8]) -> usize
 }
 
 // How many transitions stand at the start of `bytes`, 1 or 0.
-fn transitions_at(bytes: &[u8]) -> usize
+fn transitions_at(bytes: &[u8]) -> u32
     ensures { λ r. ⌜ r ≡ transitionsAt (now (bytes .entry)) ⌝ }
 {
     if words::word(bytes, 2) == kinds::TRANSITION {
@@ -66,13 +67,14 @@ fn transitions_at(bytes: &[u8]) -> usize
     0
 }
 
-// The lines of the transitions and arcs.
+// The lines of the transitions and arcs; of so many bytes that the transitions' numbers fit 32 bits.
 fn put_records(text: &mut [u8], at: usize, records: &[u8]) -> usize
+    requires { ⌜ length (now records) ≤ 4294967295 ⌝ }
     ensures { λ r. ⌜ Laid (now (text .entry)) at (now (text .exit)) r (recordLines (length (now (records .entry))) 0 (now (records .entry))) ⌝ }
 {
     let mut rest = records;
     let mut next = at;
-    let mut j: usize = 0;
+    let mut j: u32 = 0;
     while 4 <= rest.len() {
         next = put_record(text, next, j, rest);
         j += transitions_at(rest);
@@ -90,7 +92,7 @@ fn put_marks(text: &mut [u8], at: usize, places: usize, bytes: &[u8]) -> usize
     let mut next = at;
     let mut i: usize = 0;
     while i < places {
-        next = text::put_number(text, next, words::word(rest, 4) as usize);
+        next = text::put_number(text, next, words::word(rest, 4) as u32);
         let more = words::tail(rest, 6);
         rest = more;
         i += 1;
@@ -100,14 +102,15 @@ fn put_marks(text: &mut [u8], at: usize, places: usize, bytes: &[u8]) -> usize
 
 // The lines of a net file.
 fn put_net(text: &mut [u8], at: usize, net: &[u8]) -> usize
+    requires { ⌜ length (now net) ≤ 4294967295 ⌝ }
     ensures { λ r. ⌜ Laid (now (text .entry)) at (now (text .exit)) r (netText (now (net .entry))) ⌝ }
 {
-    let places = words::word(net, 4) as usize;
-    let line = text::put_line(text, at, b"net", places, words::word(net, 6) as usize);
+    let places = words::word(net, 4);
+    let line = text::put_line(text, at, b"net", places as u32, words::word(net, 6) as u32);
     let marks = text::put_letters(text, line, b"marks");
-    let end = put_marks(text, marks, places, words::tail(net, 8));
+    let end = put_marks(text, marks, places as usize, words::tail(net, 8));
     let records = text::put(text, end, b'\n');
-    put_records(text, records, words::tail(net, 8 + 6 * places))
+    put_records(text, records, words::tail(net, 8 + 6 * places as usize))
 }
 
 // What is printed of an answer: the lines of the net that it left in `net`, or the line of a refusal.
@@ -116,13 +119,7 @@ fn put_answer(text: &mut [u8], net: &[u8], answer: Answer) -> usize
 {
     match answer {
         Answer::Accepted(size) => put_net(text, 0, first(net, size as usize)),
-        Answer::Refused(number, value) => text::put_line(
-            text,
-            0,
-            b"refused",
-            number as usize,
-            value as usize,
-        ),
+        Answer::Refused(number, value) => text::put_line(text, 0, b"refused", number as u32, value),
     }
 }
 

@@ -1,4 +1,4 @@
--- An offer that cannot be accepted: the move's own refusal, or 27 or 10. The move is tried on a copy of the state; no state is longer than 208 words.
+-- An offer that cannot be accepted: the move's own refusal, or 27 or 10. The move is tried on a copy of the state; no diagram has a longer state than a net has places.
 use Prim.Native.Nat.{ℕ, _+_, _≤_, _<_}
 use mathlib.Core.Path.{_≡_, refl, sym, _∙_, ap}
 use mathlib.Core.Bool.{true}
@@ -12,6 +12,7 @@ use Rattle.effbd.specs.Records.{areBytes}
 use Rattle.effbd.specs.Diagrams.{Diagram}
 use Rattle.effbd.specs.Nesting.{readDiagram}
 use Rattle.effbd.specs.Layout.{places}
+use Rattle.effbd.specs.Nets.{mostPlaces}
 use Rattle.effbd.specs.Moves.{moveOf, checkedMove, stepDiagram}
 use Rattle.agreement.specs.AcceptedFiles.{held}
 use Rattle.words.specs.Stores.{copied}
@@ -19,8 +20,8 @@ use Rattle.effbd.specs.BusEnds.{telegram, Offered, turnedAway, offered}
 use Rattle.bus.specs.Telegrams.{withheld}
 use Rattle.bus.proofs.Ends.{RefusedBy, offer-refused, offer-accepted}
 
--- a state of more than 208 words is stepped by no file
-pub too-long : (file state : List ℕ) (code argument number value : ℕ) → areBytes file ≡ true → 208 < length state
+-- a state longer than any diagram's is stepped by no file
+pub too-long : (file state : List ℕ) (code argument number value : ℕ) → areBytes file ≡ true → mostPlaces < length state
     → (returningZero (stepDiagram file code argument state) ≡ withheld number value (stepDiagram file code argument state)) × (afterwards state (stepDiagram file code argument state) ≡ state)
 unfolding stepDiagram checkedMove
 too-long file state code argument number value b l = go (readDiagram file) refl

@@ -9,14 +9,17 @@ ghost use Rattle.effbd.specs.Moves.{stepDiagram};
 ghost use Rattle.effbd.specs.BusEnds.{telegram as telegramOf, offered, taken};
 ghost use Rattle.bus.specs.Telegrams.{judged, counted, withheld};
 use effbd::Answer;
+use effbd::limits;
+use effbd::refusals;
+use words::kinds;
 
 // Writes a telegram into the first 14 bytes of an area.
 fn write_telegram(area: &mut [u8], number: u32, station: u16, code: u16, argument: u16)
     requires { ⌜ 14 ≤ length (now area) ⌝ }
     ensures { λ _. ⌜ now (area .exit) ≡ telegramOf number station code argument ++ drop 14 (now (area .entry)) ⌝ }
 {
-    words::put_word(area, 0, 14);
-    words::put_word(area, 2, 48);
+    words::put_word(area, 0, limits::TELEGRAM_LENGTH);
+    words::put_word(area, 2, kinds::TELEGRAM);
     words::put_long(area, 4, number);
     words::put_word(area, 8, station);
     words::put_word(area, 10, code);
@@ -27,25 +30,25 @@ fn write_telegram(area: &mut [u8], number: u32, station: u16, code: u16, argumen
 fn judge(bytes: &[u8], count: u32, station: u16) -> Answer
     ensures { λ r. ⌜ said r ≡ judged count station (now (bytes .entry)) ⌝ }
 {
-    if bytes.len() != 14 {
-        return Answer::Refused(30, 0);
+    if bytes.len() != limits::TELEGRAM_LENGTH as usize {
+        return Answer::Refused(refusals::NO_TELEGRAM, 0);
     }
-    if words::word(bytes, 0) != 14 {
-        return Answer::Refused(30, 0);
+    if words::word(bytes, 0) != limits::TELEGRAM_LENGTH {
+        return Answer::Refused(refusals::NO_TELEGRAM, 0);
     }
-    if words::word(bytes, 2) != 48 {
-        return Answer::Refused(30, 0);
+    if words::word(bytes, 2) != kinds::TELEGRAM {
+        return Answer::Refused(refusals::NO_TELEGRAM, 0);
     }
     let from = words::word(bytes, 8);
     if from != station {
-        return Answer::Refused(31, from as u32);
+        return Answer::Refused(refusals::OTHER_STATION, from as u32);
     }
     let number = words::long(bytes, 4);
     if number <= count {
-        return Answer::Refused(32, count);
+        return Answer::Refused(refusals::NUMBER_PAST, count);
     }
     if number - count > 1 {
-        return Answer::Refused(33, count);
+        return Answer::Refused(refusals::NUMBER_AHEAD, count);
     }
     Answer::Accepted(number)
 }
@@ -64,11 +67,12 @@ pub fn offer(
     ensures { λ _. ⌜ now (state .exit) ≡ offered (now (file .entry)) (now (state .entry)) count station code argument (now (area .entry)) .state ⌝ }
     ensures { λ _. ⌜ now (area .exit) ≡ offered (now (file .entry)) (now (state .entry)) count station code argument (now (area .entry)) .area ⌝ }
 {
-    if count == 4294967295 {
-        return withhold(file, state, code, argument, 27, count);
+    if count == limits::MOST_COUNT {
+        return withhold(file, state, code, argument, refusals::COUNT_FULL, count);
     }
-    if area.len() < 14 {
-        return withhold(file, state, code, argument, 10, 14);
+    if area.len() < limits::TELEGRAM_LENGTH as usize {
+        let needed = limits::TELEGRAM_LENGTH as u32;
+        return withhold(file, state, code, argument, refusals::AREA_SHORT, needed);
     }
     let answer = diagram_step::step(file, state, code, argument);
     match answer {
@@ -81,7 +85,7 @@ pub fn offer(
 }
 
 // The refusal of an offer that 27 or 10 stands against: the move's own, or that one. The move is tried on a copy of the state;
-// a state of more than 208 words is no diagram's, so that its step is refused.
+// a longer state than any diagram has is refused by every file, so that it needs none.
 fn withhold(
     file: &[u8],
     state: &mut [u16],
@@ -93,12 +97,12 @@ fn withhold(
     ensures { λ r. ⌜ said r ≡ withheld number value (stepDiagram (now (file .entry)) code argument (now (state .entry))) ⌝ }
     ensures { λ _. ⌜ now (state .exit) ≡ now (state .entry) ⌝ }
 {
-    let length = state.len();
-    if 208 < length {
+    let size = state.len();
+    if (limits::MOST_PLACES as usize) < size {
         return diagram_step::step(file, state, code, argument);
     }
-    let mut copy = [0u16; 208];
-    let answer = step_copy(file, &mut copy[0..length], state, code, argument);
+    let mut copy = [0u16; limits::MOST_PLACES as usize];
+    let answer = step_copy(file, &mut copy[0..size], state, code, argument);
     refused_as(answer, number, value)
 }
 

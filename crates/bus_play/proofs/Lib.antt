@@ -1,1 +1,3 @@
-mod Shown
+pub mod LineLengths
+pub mod ListReading
+pub mod WrittenTexts

@@ -1,69 +1,246 @@
-// Plays a list of calls on example A, its first call, its first two and so on, and prints both ends after each: moves sent, moves taken,
-// the words of the leader's state and of the follower's. Standard input is the diagram's file and the list: offers that are accepted or
-// refused, telegrams handed over once, twice, too early, late, of another station, one that is lost, and bytes that are no telegram.
+// Plays a list of calls on a diagram and its net, call by call, and prints what each call was answered and both ends after it; at the end
+// which telegrams were lost. The first argument names the diagram's file, the second the list's: records as `play` has them.
 
+mod lines;
+
+ghost use Prim.Native.Nat.{_≤_};
+ghost use lib.ListN.{length};
+ghost use Rattle.effbd.specs.Answers.{said};
+ghost use Rattle.effbd.specs.Moves.{mostWord};
+ghost use Rattle.play.specs.ReadyEnds.{leaderRoom, followerRoom};
+ghost use Rattle.play.specs.CallList.{callOf};
+ghost use Rattle.play.specs.Played.{liveAnswer, liveAfter, Called};
 ghost use Rattle.text.specs.Laid.{Laid};
-ghost use Rattle.bus_play.specs.Shown.{wordsText, endsText};
+ghost use Rattle.bus_play.specs.Lines.{lineText};
+use effbd::Answer;
+use libc::STDOUT_FILENO;
+use play::CallResult;
+use play::Counts;
+use play::StateSizes;
 
-// Writes the words of a state.
-fn put_words(text: &mut [u8], at: usize, state: &[u16]) -> usize
-    ensures { λ r. ⌜ Laid (now (text .entry)) at (now (text .exit)) r (wordsText (now (state .entry))) ⌝ }
+// The station of both ends.
+const STATION: u16 = 7;
+
+// A call that was made, and how long its line is.
+struct Shown {
+    result: CallResult,
+    size: usize,
+}
+
+// A list that was played: the counts after it, and how many bytes at its end are no call.
+struct Ended {
+    counts: Counts,
+    left_over: usize,
+}
+
+// Makes one call and lays its line.
+fn play_call(
+    text: &mut [u8],
+    file: &[u8],
+    net: &[u8],
+    leader: &mut [u16],
+    follower: &mut [u16],
+    station: u16,
+    counts: Counts,
+    call: &mut [u8],
+) -> Shown
+    requires { ⌜ length (now call) ≤ mostWord ⌝ }
+    ensures { λ r. ⌜ Called (now (file .entry)) (now (net .entry)) station (record { leader = now (leader .entry); sent = counts .sent; follower = now (follower .entry); taken = counts .taken }) (now (call .entry)) (now (leader .exit)) (now (follower .exit)) (now (call .exit)) (said (r .result .answer)) (r .result .counts .sent) (r .result .counts .taken) ⌝ }
+    ensures { λ r. ⌜ Laid (now (text .entry)) 0 (now (text .exit)) (r .size) (lineText (callOf (now (call .entry))) (liveAnswer (now (file .entry)) (now (net .entry)) station (record { leader = now (leader .entry); sent = counts .sent; follower = now (follower .entry); taken = counts .taken }) (callOf (now (call .entry)))) (liveAfter (now (file .entry)) (now (net .entry)) station (record { leader = now (leader .entry); sent = counts .sent; follower = now (follower .entry); taken = counts .taken }) (callOf (now (call .entry))))) ⌝ }
 {
-    let mut next = at;
-    let mut i: usize = 0;
-    while i < state.len() {
-        next = text::put_number(text, next, state[i] as usize);
-        i += 1;
+    let behind_call = lines::put_call(text, 0, call);
+    let result = play::make_call(file, net, leader, follower, station, counts, call);
+    let answer = result.answer;
+    let behind_answer = lines::put_answer_column(text, behind_call, answer);
+    let after = result.counts;
+    let size = lines::put_ends_column(text, behind_answer, after, leader, follower);
+    Shown {
+        result: result,
+        size: size,
     }
-    next
 }
 
-// One line: both counts, both states.
-fn put_ends(text: &mut [u8], sent: u32, taken: u32, leader: &[u16], follower: &[u16]) -> usize
-    ensures { λ r. ⌜ Laid (now (text .entry)) 0 (now (text .exit)) r (endsText sent taken (now (leader .entry)) (now (follower .entry))) ⌝ }
+// Makes one call and prints its line.
+fn show_call(
+    file: &[u8],
+    net: &[u8],
+    leader: &mut [u16],
+    follower: &mut [u16],
+    station: u16,
+    counts: Counts,
+    call: &mut [u8],
+) -> Counts
+    requires { ⌜ length (now leader) ≤ leaderRoom ⌝ }
+    requires { ⌜ length (now follower) ≤ followerRoom ⌝ }
+    requires { ⌜ length (now call) ≤ mostWord ⌝ }
 {
-    let behind_sent = text::put_number(text, 0, sent as usize);
-    let behind_taken = text::put_number(text, behind_sent, taken as usize);
-    let leader_from = text::put_letters(text, behind_taken, b" |");
-    let leader_to = put_words(text, leader_from, leader);
-    let follower_from = text::put_letters(text, leader_to, b" |");
-    let follower_to = put_words(text, follower_from, follower);
-    text::put(text, follower_to, b'\n')
+    let mut text = [0u8; 8192];
+    let shown = play_call(
+        &mut text,
+        file,
+        net,
+        leader,
+        follower,
+        station,
+        counts,
+        call,
+    );
+    let size = shown.size;
+    io::write_all(STDOUT_FILENO, &text[..size]);
+    shown.result.counts
 }
 
-// Plays a list and prints both ends.
-fn show(file: &[u8], calls: &mut [u8]) {
-    let mut leader = [0u16; 7];
-    let mut follower = [0u16; 9];
-    let result = play::play(file, &mut leader, &mut follower, 7, calls);
-    let counts = result.counts;
-    let mut text = [0u8; 256];
-    let size = put_ends(&mut text, counts.sent, counts.taken, &leader, &follower);
-    if size <= 256 {
-        io::write_all(1, &text[..size]);
+// Reads the next record of a list, as far as the list goes; how many bytes were read.
+fn read_record(list: i32, call: &mut [u8]) -> usize
+    requires { ⌜ mostWord ≤ length (now call) ⌝ }
+    ensures { λ r. ⌜ r ≤ mostWord ⌝ }
+{
+    let head = io::read_full(list, &mut call[0..4]);
+    if head < 4 {
+        return head;
+    }
+    let size = words::word(call, 0) as usize;
+    if size < 4 {
+        return head;
+    }
+    let body = io::read_full(list, &mut call[4..size]);
+    4 + body
+}
+
+// Makes the calls of a list in turn, until no whole call is left.
+fn show_calls(
+    list: i32,
+    file: &[u8],
+    net: &[u8],
+    leader: &mut [u16],
+    follower: &mut [u16],
+    station: u16,
+    call: &mut [u8],
+) -> Ended
+    requires { ⌜ length (now leader) ≤ leaderRoom ⌝ }
+    requires { ⌜ length (now follower) ≤ followerRoom ⌝ }
+    requires { ⌜ mostWord ≤ length (now call) ⌝ }
+{
+    let mut counts = Counts { sent: 0, taken: 0 };
+    // A proved loop has to end, and nothing says that a file does: a number of calls that no list reaches.
+    let mut left = u64::MAX;
+    while left > 0 {
+        let read = read_record(list, call);
+        let size = play::call_length(&call[0..read]);
+        if size == 0 {
+            return Ended {
+                counts: counts,
+                left_over: read,
+            };
+        }
+        let after = show_call(
+            file,
+            net,
+            leader,
+            follower,
+            station,
+            counts,
+            &mut call[0..size],
+        );
+        counts = after;
+        left -= 1;
+    }
+    Ended {
+        counts: counts,
+        left_over: 0,
     }
 }
 
-// Shows each beginning of a list.
-fn show_each(file: &[u8], calls: &mut [u8]) {
-    let mut at: usize = 0;
-    while at < calls.len() {
-        let length = play::call_length(&calls[at..]);
-        if length == 0 {
-            return;
+// Prints what is played.
+fn show_head(bytes: usize, station: u16, states: StateSizes)
+    requires { ⌜ bytes ≤ 8192 ⌝ }
+{
+    let mut text = [0u8; 128];
+    let size = lines::put_head(
+        &mut text,
+        bytes as u32,
+        station,
+        states.leader,
+        states.follower,
+    );
+    io::write_all(STDOUT_FILENO, &text[..size]);
+}
+
+// Prints a file's refusal, in the way of the annex.
+fn show_refusal(number: u16, value: u32) {
+    let mut text = [0u8; 32];
+    let size = text::put_line(&mut text, 0, b"refused", number as u32, value);
+    io::write_all(STDOUT_FILENO, &text[..size]);
+}
+
+// Prints how the list ended.
+fn show_end(ended: Ended) {
+    if ended.left_over > 0 {
+        io::write_all(STDOUT_FILENO, b"here stands no whole call\n");
+    }
+    let mut text = [0u8; 128];
+    let counts = ended.counts;
+    let size = lines::put_closing(&mut text, counts);
+    io::write_all(STDOUT_FILENO, &text[..size]);
+}
+
+// Plays a list on a diagram's file, and prints it.
+fn show_list(list: i32, file: &[u8], station: u16)
+    requires { ⌜ length (now file) ≤ 8192 ⌝ }
+{
+    let mut net = [0u8; play::NET_BYTES];
+    let mut leader = [0u16; play::LEADER_WORDS];
+    let mut follower = [0u16; play::FOLLOWER_WORDS];
+    let ready = play::ready(file, &mut net, &mut leader, &mut follower);
+    let answer = ready.answer;
+    match answer {
+        Answer::Refused(number, value) => show_refusal(number, value),
+        Answer::Accepted(_) => {
+            let states = ready.states;
+            show_head(file.len(), station, states);
+            let mut call = [0u8; 65536];
+            let ended = show_calls(
+                list,
+                file,
+                &net[..ready.net as usize],
+                &mut leader[..states.leader as usize],
+                &mut follower[..states.follower as usize],
+                station,
+                &mut call,
+            );
+            show_end(ended);
         }
-        if calls.len() - at < length {
-            return;
-        }
-        at += length;
-        show(file, &mut calls[0..at]);
     }
 }
 
+// Opens the file that an argument names; where that fails, -1, and standard error says why.
+fn open_named(i: usize) -> i32 {
+    let mut path = io::buffer();
+    let size = os::arg(i, &mut path);
+    if os::errno() != 0 {
+        os::fail(b"bus_play DIAGRAM CALLS");
+        return -1;
+    }
+    let opened = os::open_read(&path[..size]);
+    if opened < 0 {
+        os::fail(&path[..size]);
+    }
+    opened
+}
+
+// The first 8,192 bytes of a file decide whether it is a diagram, which has at most 6,762.
 fn main() {
-    let mut file = [0u8; 34];
-    io::read_full(0, &mut file);
-    let mut calls = [0u8; 1024];
-    let size = io::read_full(0, &mut calls);
-    show_each(&file, &mut calls[..size]);
+    let diagram = open_named(1);
+    if diagram < 0 {
+        return;
+    }
+    let list = open_named(2);
+    if list < 0 {
+        return;
+    }
+    let mut file = [0u8; 8192];
+    let size = io::read_full(diagram, &mut file);
+    show_list(list, &file[..size], STATION);
+    libc::close(list);
+    libc::close(diagram);
 }

@@ -4,6 +4,8 @@ ghost use mathlib.Core.Path.{_≡_};
 ghost use Rattle.effbd.specs.Answers.{said};
 ghost use Rattle.diagram_moves.specs.Decisions.{codeVerdict, moveVerdict};
 use effbd::Answer;
+use effbd::moves;
+use effbd::refusals;
 
 pub mod cells;
 mod check;
@@ -23,17 +25,17 @@ fn decide_code(
 ) -> Answer
     ensures { λ r. ⌜ said r ≡ codeVerdict (now (table .entry)) rows items (now (file .entry)) (now (state .entry)) code argument ⌝ }
 {
-    if code == 1 {
+    if code == moves::STEP {
         let row = argument as u32;
         if row < rows {
             return steps::row_step(table, rows, items, file, state, row);
         }
-        return Answer::Refused(22, row);
+        return Answer::Refused(refusals::NOT_STANDING, row);
     }
-    if code == 2 {
+    if code == moves::WAIT {
         return waits::wait(table, rows, items, file, state, argument);
     }
-    Answer::Refused(21, 0)
+    Answer::Refused(refusals::CODE_OFF, 0)
 }
 
 // What a move of a state is told, with nothing written: 20 to 26, or accepted. Of the table that crate diagram_file makes of an accepted
@@ -52,5 +54,5 @@ pub fn decide(
     if check::state_allowed(table, rows, items, state) {
         return decide_code(table, rows, items, file, state, code, argument);
     }
-    Answer::Refused(20, 0)
+    Answer::Refused(refusals::STATE_OFF, 0)
 }

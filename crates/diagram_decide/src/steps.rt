@@ -7,6 +7,7 @@ use crate::uses;
 use diagram_table::FIRST;
 use diagram_table::OWNER;
 use effbd::Answer;
+use effbd::refusals;
 use words::kinds;
 
 fn done_at(table: &[u16], state: &[u16], owner: u32, row: u32) -> bool
@@ -37,7 +38,7 @@ fn ready(state: &[u16], at: u32, row: u32) -> Answer
     if cells::activity(state, at) == 1 {
         return Answer::Accepted(0);
     }
-    Answer::Refused(22, row)
+    Answer::Refused(refusals::NOT_STANDING, row)
 }
 
 // A FUNCTION that is ready: 23 with the lowest item that is short.
@@ -46,7 +47,7 @@ fn start(table: &[u16], rows: u32, items: u32, file: &[u8], state: &[u16], row: 
 {
     let item = uses::blocked_item(table, rows, items, file, state, row, false);
     if item < items {
-        return Answer::Refused(23, item);
+        return Answer::Refused(refusals::ITEM_SHORT, item);
     }
     Answer::Accepted(0)
 }
@@ -58,11 +59,11 @@ fn finish(table: &[u16], rows: u32, items: u32, file: &[u8], state: &[u16], row:
     let alpha = diagram_table::cell(table, FIRST, row);
     let clock = cells::clock(state, row);
     if clock < alpha {
-        return Answer::Refused(24, (alpha - clock) as u32);
+        return Answer::Refused(refusals::TICKS_LACKING, (alpha - clock) as u32);
     }
     let item = uses::blocked_item(table, rows, items, file, state, row, true);
     if item < items {
-        return Answer::Refused(25, item);
+        return Answer::Refused(refusals::SUM_TOO_LARGE, item);
     }
     Answer::Accepted(0)
 }
@@ -77,7 +78,7 @@ fn function(table: &[u16], rows: u32, items: u32, file: &[u8], state: &[u16], ro
     if activity == 2 {
         return finish(table, rows, items, file, state, row);
     }
-    Answer::Refused(22, row)
+    Answer::Refused(refusals::NOT_STANDING, row)
 }
 
 // A BRANCH of an OR steps if its open is ready; a BRANCH of an AND never steps.
@@ -88,7 +89,7 @@ fn branch(table: &[u16], state: &[u16], row: u32) -> Answer
     if diagram_table::kind(table, owner) == kinds::OR_OPEN {
         return ready(state, owner, row);
     }
-    Answer::Refused(22, row)
+    Answer::Refused(refusals::NOT_STANDING, row)
 }
 
 fn and_close(table: &[u16], state: &[u16], row: u32) -> Answer
@@ -98,7 +99,7 @@ fn and_close(table: &[u16], state: &[u16], row: u32) -> Answer
     if all_done(table, state, owner, row) {
         return Answer::Accepted(0);
     }
-    Answer::Refused(22, row)
+    Answer::Refused(refusals::NOT_STANDING, row)
 }
 
 // The step of a row, by its kind.
@@ -117,8 +118,8 @@ pub(crate) fn row_step(
         kinds::FUNCTION => function(table, rows, items, file, state, row),
         kinds::BRANCH => branch(table, state, row),
         kinds::AND_CLOSE => and_close(table, state, row),
-        kinds::OR_OPEN => Answer::Refused(22, row),
-        kinds::END => Answer::Refused(22, row),
+        kinds::OR_OPEN => Answer::Refused(refusals::NOT_STANDING, row),
+        kinds::END => Answer::Refused(refusals::NOT_STANDING, row),
         _ => ready(state, row, row),
     }
 }

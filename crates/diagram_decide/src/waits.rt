@@ -9,6 +9,7 @@ use crate::uses;
 use diagram_table::OWNER;
 use diagram_table::SECOND;
 use effbd::Answer;
+use effbd::refusals;
 use words::kinds;
 
 // A FUNCTION holds a wait if it is ready with all its takes, or if its clock would pass its β.
@@ -88,10 +89,10 @@ pub(crate) fn wait(
     ensures { λ r. ⌜ said r ≡ waitVerdict (now (table .entry)) rows items (now (file .entry)) (now (state .entry)) ticks ⌝ }
 {
     if ticks == 0 {
-        return Answer::Refused(21, 0);
+        return Answer::Refused(refusals::CODE_OFF, 0);
     }
     if unheld(table, rows, items, file, state, ticks) {
         return Answer::Accepted(0);
     }
-    Answer::Refused(26, 0)
+    Answer::Refused(refusals::WAIT_HELD, 0)
 }

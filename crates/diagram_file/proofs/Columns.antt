@@ -11,7 +11,7 @@ use lib.Seq.{getD-set-same, getD-set-other}
 use lib.Dec.{eqb}
 use borrow.Author.Tests.{eqb-true, eqb-false, eq-eqb, ne-eqb}
 use Rattle.effbd.specs.Answers.{accepted}
-use Rattle.effbd.specs.Diagrams.{lp-open, numberOf, Diagram, rowCount, kind}
+use Rattle.effbd.specs.Diagrams.{mostRows, lp-open, numberOf, Diagram, rowCount, kind}
 use Rattle.effbd.specs.Nesting.{Frame, turnTo, innermostOpen, latestBranch, stack, owner, branchEnded, innermost, loop, close, isClose, nested}
 use Rattle.ranges.specs.Tests.{decide, clash}
 use Rattle.ranges.specs.RangeLaws.{least-is, least-none}
@@ -19,6 +19,7 @@ use Rattle.diagram_file.specs.declared.structure.Around.{Around}
 use Rattle.nesting.specs.declared.Part.{Part}
 use Rattle.nesting.specs.declared.Part.the-variants.{Opens, Turns, Closes, Stays}
 use Rattle.nesting.specs.Runs.{partOf}
+use Rattle.diagram_table.specs.Cells.{cellOf, countCell, cellTotal}
 use Rattle.diagram_file.specs.Cells.{cell}
 use Rattle.diagram_file.specs.Structure.{structureCells, putStructure, AroundAt, loopingIn, followedAs, followed, structured}
 use Rattle.diagram_file.proofs.Cells.{put-long, put-away, put-at}
@@ -49,32 +50,32 @@ module _ (t : List ℕ) (rows q kind : ℕ) (a : Around) (part : Part) (ek : kin
       → u ≡ t → b ≡ record { owner = q; latest = q + 1; looping = inner } → Following rows q t u b
   follow-opens inner ei e eu eb = following t (record { owner = q; latest = q + 1; looping = inner }) eu eb refl (go inner (a .looping) ei (here .looping))
     where
-      go : (x y : ℕ) → x ≡ loopingIn kind q y → y ≡ getD t (512 + q) 0 → putStructure rows (q + 1) q (q + 1) x t ≡ followed rows q t
+      go : (x y : ℕ) → x ≡ loopingIn kind q y → y ≡ getD t (cellOf 8 q) 0 → putStructure rows (q + 1) q (q + 1) x t ≡ followed rows q t
       go x y ex ey = rw (ex, ek, ey) (by Opens e)
 
   pub follow-turns : {u : List ℕ} {b : Around} → part ≡ Turns → u ≡ t → b ≡ record { owner = a .owner; latest = q; looping = a .looping } → Following rows q t u b
   follow-turns e eu eb = following t (record { owner = a .owner; latest = q; looping = a .looping }) eu eb refl (go (a .owner) (a .looping) (here .owner) (here .looping))
     where
-      go : (o p : ℕ) → o ≡ getD t (320 + q) 0 → p ≡ getD t (512 + q) 0 → putStructure rows (q + 1) o q p t ≡ followed rows q t
+      go : (o p : ℕ) → o ≡ getD t (cellOf 5 q) 0 → p ≡ getD t (cellOf 8 q) 0 → putStructure rows (q + 1) o q p t ≡ followed rows q t
       go o p eo ep = rw (eo, ep) (by Turns e)
 
-  pub follow-closes : {u : List ℕ} {b : Around} (c : Around) → AroundAt t (a .owner) c → part ≡ Closes → u ≡ set t (448 + a .owner) q → b ≡ c → Following rows q t u b
-  follow-closes c there e eu eb = following (set t (448 + a .owner) q) c eu eb (length-set t (448 + a .owner) q)
+  pub follow-closes : {u : List ℕ} {b : Around} (c : Around) → AroundAt t (a .owner) c → part ≡ Closes → u ≡ set t (cellOf 7 (a .owner)) q → b ≡ c → Following rows q t u b
+  follow-closes c there e eu eb = following (set t (cellOf 7 (a .owner)) q) c eu eb (length-set t (cellOf 7 (a .owner)) q)
       (go (a .owner) (c .owner) (c .latest) (c .looping) (here .owner) (there .owner) (there .latest) (there .looping))
     where
-      go : (own o b p : ℕ) → own ≡ getD t (320 + q) 0 → o ≡ getD t (320 + own) 0 → b ≡ getD t (384 + own) 0 → p ≡ getD t (512 + own) 0
-          → putStructure rows (q + 1) o b p (set t (448 + own) q) ≡ followed rows q t
+      go : (own o b p : ℕ) → own ≡ getD t (cellOf 5 q) 0 → o ≡ getD t (cellOf 5 own) 0 → b ≡ getD t (cellOf 6 own) 0 → p ≡ getD t (cellOf 8 own) 0
+          → putStructure rows (q + 1) o b p (set t (cellOf 7 own) q) ≡ followed rows q t
       go own o b p ew eo eb ep = rw (eo, eb, ep, ew) (by Closes e)
 
   pub follow-stays : {u : List ℕ} {b : Around} → part ≡ Stays → u ≡ t → b ≡ a → Following rows q t u b
   follow-stays e eu eb = following t a eu eb refl (go (a .owner) (a .latest) (a .looping) (here .owner) (here .latest) (here .looping))
     where
-      go : (o b p : ℕ) → o ≡ getD t (320 + q) 0 → b ≡ getD t (384 + q) 0 → p ≡ getD t (512 + q) 0 → putStructure rows (q + 1) o b p t ≡ followed rows q t
+      go : (o b p : ℕ) → o ≡ getD t (cellOf 5 q) 0 → b ≡ getD t (cellOf 6 q) 0 → p ≡ getD t (cellOf 8 q) 0 → putStructure rows (q + 1) o b p t ≡ followed rows q t
       go o b p eo eb ep = rw (eo, eb, ep) (by Stays e)
 
 -- ---- the cells of the table
 module _ (rows r o b p : ℕ) (t : List ℕ) where
-  put-other : (j : ℕ) → j ≢ 320 + r → j ≢ 384 + r → j ≢ 448 + r → j ≢ 512 + r → getD (putStructure rows r o b p t) j 0 ≡ getD t j 0
+  put-other : (j : ℕ) → j ≢ cellOf 5 r → j ≢ cellOf 6 r → j ≢ cellOf 7 r → j ≢ cellOf 8 r → getD (putStructure rows r o b p t) j 0 ≡ getD t j 0
   unfolding putStructure
   put-other j x y z w = put-away (structureCells rows r o b p) t j (x, (y, (z, (w, tt))))
 
@@ -82,11 +83,11 @@ module _ (rows r o b p : ℕ) (t : List ℕ) where
   unfolding putStructure
   put-length = put-long (structureCells rows r o b p) t
 
-  put-cells : r < 64 → length t ≡ 592 → (getD (putStructure rows r o b p t) (320 + r) 0 ≡ o) × (getD (putStructure rows r o b p t) (384 + r) 0 ≡ b)
-      × (getD (putStructure rows r o b p t) (448 + r) 0 ≡ rows) × (getD (putStructure rows r o b p t) (512 + r) 0 ≡ p)
+  put-cells : r < mostRows → length t ≡ cellTotal → (getD (putStructure rows r o b p t) (cellOf 5 r) 0 ≡ o) × (getD (putStructure rows r o b p t) (cellOf 6 r) 0 ≡ b)
+      × (getD (putStructure rows r o b p t) (cellOf 7 r) 0 ≡ rows) × (getD (putStructure rows r o b p t) (cellOf 8 r) 0 ≡ p)
   unfolding putStructure
   put-cells h n =
-      let x = cell (320 + r) o in let y = cell (384 + r) b in let z = cell (448 + r) rows in let w = cell (512 + r) p in (
+      let x = cell (cellOf 5 r) o in let y = cell (cellOf 6 r) b in let z = cell (cellOf 7 r) rows in let w = cell (cellOf 8 r) p in (
         put-at [] x (y ∷ z ∷ w ∷ []) t (omega arith) (λ e. omega arith, (λ e. omega arith, (λ e. omega arith, tt))),
         put-at (x ∷ []) y (z ∷ w ∷ []) t (omega arith) (λ e. omega arith, (λ e. omega arith, tt)),
         put-at (x ∷ y ∷ []) z (w ∷ []) t (omega arith) (λ e. omega arith, tt),
@@ -96,27 +97,27 @@ module _ (rows r o b p : ℕ) (t : List ℕ) where
 -- the columns below 5 and the counts stay
 pub record Same (t u : List ℕ) : Type 0 where
   pub long : length u ≡ length t
-  pub below : (j : ℕ) → j < 320 → getD u j 0 ≡ getD t j 0
-  pub above : (j : ℕ) → 576 ≤ j → getD u j 0 ≡ getD t j 0
+  pub below : (j : ℕ) → j < cellOf 5 0 → getD u j 0 ≡ getD t j 0
+  pub above : (j : ℕ) → countCell 0 ≤ j → getD u j 0 ≡ getD t j 0
 
 same-self : (t : List ℕ) → Same t t
 same-self t = record { long = refl; below = λ j l. refl; above = λ j l. refl }
 
-same-put : (t u : List ℕ) (rows r o b p : ℕ) → r < 64 → Same t u → Same t (putStructure rows r o b p u)
+same-put : (t u : List ℕ) (rows r o b p : ℕ) → r < mostRows → Same t u → Same t (putStructure rows r o b p u)
 same-put t u rows r o b p h s = record {
   long = put-length rows r o b p u ∙ s .long;
   below = λ j l. put-other rows r o b p u j (λ z. omega arith) (λ z. omega arith) (λ z. omega arith) (λ z. omega arith) ∙ s .below j l;
   above = λ j l. put-other rows r o b p u j (λ z. omega arith) (λ z. omega arith) (λ z. omega arith) (λ z. omega arith) ∙ s .above j l;
 }
 
-same-set : (t u : List ℕ) (o v : ℕ) → o < 64 → Same t u → Same t (set u (448 + o) v)
+same-set : (t u : List ℕ) (o v : ℕ) → o < mostRows → Same t u → Same t (set u (cellOf 7 o) v)
 same-set t u o v h s = record {
-  long = length-set u (448 + o) v ∙ s .long;
-  below = λ j l. getD-set-other u (448 + o) j v 0 (λ z. omega arith) ∙ s .below j l;
-  above = λ j l. getD-set-other u (448 + o) j v 0 (λ z. omega arith) ∙ s .above j l;
+  long = length-set u (cellOf 7 o) v ∙ s .long;
+  below = λ j l. getD-set-other u (cellOf 7 o) j v 0 (λ z. omega arith) ∙ s .below j l;
+  above = λ j l. getD-set-other u (cellOf 7 o) j v 0 (λ z. omega arith) ∙ s .above j l;
 }
 
-module _ (d : Diagram) (rows : ℕ) (er : rows ≡ rowCount d) (acc : nested d ≡ accepted d) (few : rows ≤ 64) where
+module _ (d : Diagram) (rows : ℕ) (er : rows ≡ rowCount d) (acc : nested d ≡ accepted d) (few : rows ≤ mostRows) where
   -- v is the close of row o as far as the rows below m tell: none so far, or the first
   pub record CloseBelow (m o v : ℕ) : Type 0 where
     pub none : v ≡ rows → (c : ℕ) → c < m → closesOf d o c ≡ false
@@ -134,12 +135,12 @@ module _ (d : Diagram) (rows : ℕ) (er : rows ≡ rowCount d) (acc : nested d �
   -- what the pass has found: the structure of the rows up to n, their closes among the rows below m
   pub record Sound (start : List ℕ) (n m : ℕ) (t : List ℕ) : Type 0 where
     pub same : Same start t
-    pub owners : (q : ℕ) → q ≤ n → getD t (320 + q) 0 ≡ owner d q
-    pub branches : (q : ℕ) → q ≤ n → getD t (384 + q) 0 ≡ branchEnded d q
-    pub loops : (q : ℕ) → q ≤ n → getD t (512 + q) 0 ≡ loop d q
-    pub closes : (q : ℕ) → q ≤ n → CloseBelow m q (getD t (448 + q) 0)
+    pub owners : (q : ℕ) → q ≤ n → getD t (cellOf 5 q) 0 ≡ owner d q
+    pub branches : (q : ℕ) → q ≤ n → getD t (cellOf 6 q) 0 ≡ branchEnded d q
+    pub loops : (q : ℕ) → q ≤ n → getD t (cellOf 8 q) 0 ≡ loop d q
+    pub closes : (q : ℕ) → q ≤ n → CloseBelow m q (getD t (cellOf 7 q) 0)
 
-  module _ (start : List ℕ) (long : length start ≡ 592) (kinds : (q : ℕ) → q < rows → getD start q 0 ≡ numberOf (kind d q)) where
+  module _ (start : List ℕ) (long : length start ≡ cellTotal) (kinds : (q : ℕ) → q < rows → getD start q 0 ≡ numberOf (kind d q)) where
     -- the next row's cells
     hung : (n o b p : ℕ) (t : List ℕ) → n + 1 < rows → Sound start n (n + 1) t → o ≡ owner d (n + 1) → b ≡ branchEnded d (n + 1) → p ≡ loop d (n + 1)
         → Sound start (n + 1) (n + 1) (putStructure rows (n + 1) o b p t)
@@ -148,15 +149,15 @@ module _ (d : Diagram) (rows : ℕ) (er : rows ≡ rowCount d) (acc : nested d �
         record {
           same = same-put start t rows (n + 1) o b p (omega arith) (s .same);
           owners = λ q h. decide (eqb q (n + 1)) (λ e. let z = eqb-true q (n + 1) e in rw z (put .0 ∙ eo))
-              (λ e. let z : q ≢ n + 1 = eqb-false q (n + 1) e in put-other rows (n + 1) o b p t (320 + q) (λ w. z (omega arith)) (λ w. omega arith) (λ w. omega arith) (λ w. omega arith) ∙ s .owners q (omega arith));
+              (λ e. let z : q ≢ n + 1 = eqb-false q (n + 1) e in put-other rows (n + 1) o b p t (cellOf 5 q) (λ w. z (omega arith)) (λ w. omega arith) (λ w. omega arith) (λ w. omega arith) ∙ s .owners q (omega arith));
           branches = λ q h. decide (eqb q (n + 1)) (λ e. let z = eqb-true q (n + 1) e in rw z (put .1 ∙ eb))
-              (λ e. let z : q ≢ n + 1 = eqb-false q (n + 1) e in put-other rows (n + 1) o b p t (384 + q) (λ w. omega arith) (λ w. z (omega arith)) (λ w. omega arith) (λ w. omega arith) ∙ s .branches q (omega arith));
+              (λ e. let z : q ≢ n + 1 = eqb-false q (n + 1) e in put-other rows (n + 1) o b p t (cellOf 6 q) (λ w. omega arith) (λ w. z (omega arith)) (λ w. omega arith) (λ w. omega arith) ∙ s .branches q (omega arith));
           loops = λ q h. decide (eqb q (n + 1)) (λ e. let z = eqb-true q (n + 1) e in rw z (put .3 ∙ ep))
-              (λ e. let z : q ≢ n + 1 = eqb-false q (n + 1) e in put-other rows (n + 1) o b p t (512 + q) (λ w. omega arith) (λ w. omega arith) (λ w. omega arith) (λ w. z (omega arith)) ∙ s .loops q (omega arith));
+              (λ e. let z : q ≢ n + 1 = eqb-false q (n + 1) e in put-other rows (n + 1) o b p t (cellOf 8 q) (λ w. omega arith) (λ w. omega arith) (λ w. omega arith) (λ w. z (omega arith)) ∙ s .loops q (omega arith));
           closes = λ q h. decide (eqb q (n + 1))
               (λ e. let z = eqb-true q (n + 1) e in rw z (subst (CloseBelow (n + 1) (n + 1)) (sym (put .2)) (fresh (n + 1))))
               (λ e. let z : q ≢ n + 1 = eqb-false q (n + 1) e in
-              subst (CloseBelow (n + 1) q) (sym (put-other rows (n + 1) o b p t (448 + q) (λ w. omega arith) (λ w. omega arith) (λ w. z (omega arith)) (λ w. omega arith))) (s .closes q (omega arith)));
+              subst (CloseBelow (n + 1) q) (sym (put-other rows (n + 1) o b p t (cellOf 7 q) (λ w. omega arith) (λ w. omega arith) (λ w. z (omega arith)) (λ w. omega arith))) (s .closes q (omega arith)));
         }
       where
         -- no row before a row closes it
@@ -177,21 +178,21 @@ module _ (d : Diagram) (rows : ℕ) (er : rows ≡ rowCount d) (acc : nested d �
       owners = s .owners;
       branches = s .branches;
       loops = s .loops;
-      closes = λ q l. close-on n q (getD t (448 + q) 0) (s .closes q l) (not-closing d q n h);
+      closes = λ q l. close-on n q (getD t (cellOf 7 q) 0) (s .closes q l) (not-closing d q n h);
     }
 
-    met-close : (n : ℕ) (t : List ℕ) → n < rows → does d n ≡ Closes → Sound start n n t → Sound start n (n + 1) (set t (448 + owner d n) n)
+    met-close : (n : ℕ) (t : List ℕ) → n < rows → does d n ≡ Closes → Sound start n n t → Sound start n (n + 1) (set t (cellOf 7 (owner d n)) n)
     met-close n t l e s = let low = owner-low d n in record {
       same = same-set start t (owner d n) n (omega arith) (s .same);
-      owners = λ q h. getD-set-other t (448 + owner d n) (320 + q) n 0 (λ z. omega arith) ∙ s .owners q h;
-      branches = λ q h. getD-set-other t (448 + owner d n) (384 + q) n 0 (λ z. omega arith) ∙ s .branches q h;
-      loops = λ q h. getD-set-other t (448 + owner d n) (512 + q) n 0 (λ z. omega arith) ∙ s .loops q h;
+      owners = λ q h. getD-set-other t (cellOf 7 (owner d n)) (cellOf 5 q) n 0 (λ z. omega arith) ∙ s .owners q h;
+      branches = λ q h. getD-set-other t (cellOf 7 (owner d n)) (cellOf 6 q) n 0 (λ z. omega arith) ∙ s .branches q h;
+      loops = λ q h. getD-set-other t (cellOf 7 (owner d n)) (cellOf 8 q) n 0 (λ z. omega arith) ∙ s .loops q h;
       closes = λ q h. decide (eqb q (owner d n))
           (λ x. let z = eqb-true q (owner d n) x in
-          rw z (subst (CloseBelow (n + 1) (owner d n)) (sym (getD-set-same t (448 + owner d n) n 0 (omega (arith, s .same .long)))) here))
+          rw z (subst (CloseBelow (n + 1) (owner d n)) (sym (getD-set-same t (cellOf 7 (owner d n)) n 0 (omega (arith, s .same .long)))) here))
           (λ x. let z : q ≢ owner d n = eqb-false q (owner d n) x in
-          subst (CloseBelow (n + 1) q) (sym (getD-set-other t (448 + owner d n) (448 + q) n 0 (λ w. z (omega arith))))
-          (close-on n q (getD t (448 + q) 0) (s .closes q h) (rw (ne-eqb (owner d n) q (λ w. z (sym w)), close-part d n, e))));
+          subst (CloseBelow (n + 1) q) (sym (getD-set-other t (cellOf 7 (owner d n)) (cellOf 7 q) n 0 (λ w. z (omega arith))))
+          (close-on n q (getD t (cellOf 7 q) 0) (s .closes q h) (rw (ne-eqb (owner d n) q (λ w. z (sym w)), close-part d n, e))));
     }
       where
         shut : isClose d n ≡ true
@@ -226,23 +227,23 @@ module _ (d : Diagram) (rows : ℕ) (er : rows ≡ rowCount d) (acc : nested d �
       unfolding owner loop
       nextAs Opens e =
           let k = stack-next d n Opens e in
-          hung n n (n + 1) (loopingIn (getD t n 0) n (getD t (512 + n) 0)) t l (met-other n t (ap closing e) s)
+          hung n n (n + 1) (loopingIn (getD t n 0) n (getD t (cellOf 8 n) 0)) t l (met-other n t (ap closing e) s)
           (sym (ap innermostOpen k)) (add-one n ∙ sym (ap latestBranch k))
           (rw (kind-here, s .loops n (omega arith)) (sym (ap (innermost d lp-open) k)))
       nextAs Turns e =
           let k = stack-next d n Turns e in
           let w = turned (stack d n) (held d acc n (omega arith) (ap ending e)) in
-          hung n (getD t (320 + n) 0) n (getD t (512 + n) 0) t l (met-other n t (ap closing e) s)
+          hung n (getD t (cellOf 5 n) 0) n (getD t (cellOf 8 n) 0) t l (met-other n t (ap closing e) s)
           (s .owners n (omega arith) ∙ sym (ap innermostOpen k ∙ w .0)) (sym (ap latestBranch k ∙ w .1)) (s .loops n (omega arith) ∙ sym (ap (innermost d lp-open) k ∙ w .2))
       nextAs Closes e =
           let k = stack-next d n Closes e ∙ popped-is d n in
           let o = s .owners n (omega arith) in
           let low = owner-low d n in
-          rw o (hung n (getD t (320 + owner d n) 0) (getD t (384 + owner d n) 0) (getD t (512 + owner d n) 0) (set t (448 + owner d n) n) l (met-close n t (omega arith) e s)
+          rw o (hung n (getD t (cellOf 5 (owner d n)) 0) (getD t (cellOf 6 (owner d n)) 0) (getD t (cellOf 8 (owner d n)) 0) (set t (cellOf 7 (owner d n)) n) l (met-close n t (omega arith) e s)
           (s .owners (owner d n) low ∙ sym (ap innermostOpen k)) (s .branches (owner d n) low ∙ sym (ap latestBranch k)) (s .loops (owner d n) low ∙ sym (ap (innermost d lp-open) k)))
       nextAs Stays e =
           let k = stack-next d n Stays e in
-          hung n (getD t (320 + n) 0) (getD t (384 + n) 0) (getD t (512 + n) 0) t l (met-other n t (ap closing e) s)
+          hung n (getD t (cellOf 5 n) 0) (getD t (cellOf 6 n) 0) (getD t (cellOf 8 n) 0) t l (met-other n t (ap closing e) s)
           (s .owners n (omega arith) ∙ sym (ap innermostOpen k)) (s .branches n (omega arith) ∙ sym (ap latestBranch k)) (s .loops n (omega arith) ∙ sym (ap (innermost d lp-open) k))
 
       next : Sound start (n + 1) (n + 1) (followed rows n t)
@@ -266,14 +267,14 @@ module _ (d : Diagram) (rows : ℕ) (er : rows ≡ rowCount d) (acc : nested d �
         (next n (structured rows n (putStructure rows 0 0 0 0 start)) (omega arith) (sound n (omega arith)))
 
     -- THEOREM: behind the last row the closes are the definition's
-    pub close-is : (n : ℕ) → suc n ≡ rows → (t : List ℕ) → Sound start n n t → (q : ℕ) → q < rows → getD t (448 + q) 0 ≡ close d q
+    pub close-is : (n : ℕ) → suc n ≡ rows → (t : List ℕ) → Sound start n n t → (q : ℕ) → q < rows → getD t (cellOf 7 q) 0 ≡ close d q
     unfolding close
     close-is n e t s q l =
-        let k = close-on n q (getD t (448 + q) 0) (s .closes q (omega arith)) (not-closing d q n ended) in
-        decide (eqb (getD t (448 + q) 0) rows)
-        (λ x. let z = eqb-true (getD t (448 + q) 0) rows x in z ∙ (er ∙ sym (least-none (rowCount d) (closesOf d q) (λ c h. k .none z c (omega arith)))))
-        (λ x. let z = eqb-false (getD t (448 + q) 0) rows x in let w = k .first z in let h = w .0 in
-        sym (least-is (rowCount d) (closesOf d q) (getD t (448 + q) 0) (omega arith) (w .1) (w .2)))
+        let k = close-on n q (getD t (cellOf 7 q) 0) (s .closes q (omega arith)) (not-closing d q n ended) in
+        decide (eqb (getD t (cellOf 7 q) 0) rows)
+        (λ x. let z = eqb-true (getD t (cellOf 7 q) 0) rows x in z ∙ (er ∙ sym (least-none (rowCount d) (closesOf d q) (λ c h. k .none z c (omega arith)))))
+        (λ x. let z = eqb-false (getD t (cellOf 7 q) 0) rows x in let w = k .first z in let h = w .0 in
+        sym (least-is (rowCount d) (closesOf d q) (getD t (cellOf 7 q) 0) (omega arith) (w .1) (w .2)))
       where
         ended : closing (does d n) ≡ false
         ended = ap closing (last-stays d acc n (e ∙ er))

@@ -2,25 +2,28 @@
 use Prim.Native.Nat.{ℕ, zero, suc, _+_, _-_, _*_, _/_, _%_, _≤_, _<_}
 use mathlib.Core.Path.{_≡_, refl, sym, _∙_, ap, ap₂, subst}
 use mathlib.Core.Logic.{_≢_}
-use mathlib.Core.Bool.{Bool, true, false, cond, _&&_}
+use mathlib.Core.Bool.{Bool, true, false, cond, _&&_, _||_}
 use mathlib.Core.List.{List, [], _∷_}
 use native.Mathlib.Omega.{arith}
 use lib.ListN.{length, getD, drop, length-drop, drop-of-length-le}
 use lib.Seq.{drop-drop, drop-length}
 use lib.Dec.{leb, eqb}
-use borrow.Author.Tests.{leb-true, leb-false, eqb-true, eq-eqb, ne-eqb}
+use borrow.Author.Tests.{leb-true, leb-false, eqb-true, eqb-false}
 use Rattle.effbd.specs.Ranges.{allBelow}
 use Rattle.effbd.specs.Answers.{Outcome, accepted, refused, unless, andThen}
-use Rattle.effbd.specs.Records.{word, lengthAt, kindAt, kindTable, entryIn, lengthOf, Got, adding, readMany}
-use Rattle.effbd.specs.Diagrams.{function, end, numberOf, sameKind, kindOf, Row, plain, Diagram, rowCount, row, isKind, headFault, itemFault, itemAt, usesAt, rowAt, rowRight, rowFine, rowFault}
+use Rattle.effbd.specs.Records.{word, lengthAt, kindAt, kindTable, entryIn, lengthOf, fieldsOf, Got, adding, readMany}
+use Rattle.effbd.specs.Diagrams.{mostRows, mostItems, function, end, numberOf, sameKind, kindOf, Row, plain, Diagram, rowCount, row, isKind, headFault, itemFault, itemAt, usesAt, rowAt, rowRight, rowFine, rowFault}
 use Rattle.effbd.specs.Nesting.{nested, afterRows, afterItems, readDiagram, skip, fromRow}
 use Rattle.ranges.specs.Tests.{decide, and-left, and-right}
 use Rattle.ranges.specs.RangeLaws.{all-elim}
 use Rattle.agreement.specs.ByteLaws.{Clean, none-clean}
 use Rattle.diagram_file.specs.declared.records.Reached.{Reached}
-use Rattle.diagram_file.specs.Reading.{Stopped, ItemsRead, RowsRead, column, recordRows, recordItems, readRecords, Tabulated, Recorded}
-use Rattle.ranges.specs.Outcomes.{unless-refused}
-use Rattle.diagram_file.proofs.Basics.{andThen-twice, unless-then}
+use Rattle.diagram_table.specs.Cells.{cellOf, countCell}
+use Rattle.diagram_table.specs.Held.{Tabulated}
+use Rattle.diagram_file.specs.Fields.{fieldOf}
+use Rattle.diagram_file.specs.Reading.{Stopped, ItemsRead, RowsRead, endReached, usesFrom, column, recordRows, recordItems, readRecords, TabledUses, Recorded}
+use Rattle.ranges.specs.Outcomes.{unless-refused, unless-then, andThen-twice}
+use Rattle.diagram_file.proofs.Fields.{function-base, function-behind}
 
 -- n records that were read: their values, their faults, the rest
 pub record Many (A : Type 0) (fault : List ℕ → ℕ) (value : List ℕ → A) (n : ℕ) (start : List ℕ) (g : Got (List A)) : Type 0 where
@@ -59,38 +62,39 @@ module _ {A : Type 0} (fault : List ℕ → ℕ) (value : List ℕ → A) (total
       each g m (suc i) h z = m .each i (omega arith) z
 
   -- the code's report of a loop, against the definition
-  stopped-many : (file start : List ℕ) (n : ℕ) (r : Reached) → length file ≡ total → Stopped fault file start n r → r .fault ≢ 0
+  stopped-many : (from : ℕ) (start : List ℕ) (n : ℕ) (r : Reached) → from + length start ≡ total → Stopped fault from start n r → r .fault ≢ 0
       → readMany fault value total n start ≡ refused (r .fault) (r .at)
-  stopped-many file start n r t s ne =
+  stopped-many from start n r t s ne =
       many-stop n (s .count) start (r .fault) (s .stopped ne .0) (s .reached .clean) (s .stopped ne .1) ne
       ∙ ap (refused (r .fault)) (let a = s .reached .sum in let z : total - length (skip (s .count) start) ≡ r .at = omega arith in z)
 
-  pub record All (file start : List ℕ) (n at : ℕ) : Type 0 where
+  pub record All (from : ℕ) (start : List ℕ) (n at : ℕ) : Type 0 where
     pub got : Got (List A)
     pub read : readMany fault value total n start ≡ accepted got
     pub held : Many A fault value n start got
-    pub tail : got .rest ≡ drop at file
-    pub sum : at + length (got .rest) ≡ length file
+    pub tail : (file : List ℕ) → start ≡ drop from file → skip n start ≡ drop at file
+    pub sum : at + length (skip n start) ≡ from + length start
 
-  all-many : (file start : List ℕ) (n : ℕ) (r : Reached) → Stopped fault file start n r → r .fault ≡ 0 → All file start n (r .at)
-  all-many file start n r s e =
+  all-many : (from : ℕ) (start : List ℕ) (n : ℕ) (r : Reached) → Stopped fault from start n r → r .fault ≡ 0 → All from start n (r .at)
+  all-many from start n r s e =
       let c = s .ended e in
       let w = many-all n start (λ j z. s .reached .clean j (omega arith)) in
-      let x : skip (s .count) start ≡ w .0 .rest = ap (λ k. skip k start) c ∙ sym (w .2 .rest) in
+      let x : skip (s .count) start ≡ skip n start = ap (λ k. skip k start) c in
       record {
         got = w .0;
         read = w .1;
         held = w .2;
-        tail = sym x ∙ s .reached .tail;
+        tail = λ file h. sym x ∙ s .reached .tail file h;
         sum = ap (λ y. r .at + length y) (sym x) ∙ s .reached .sum;
       }
 
 -- a head without fault
 pub record Head (file : List ℕ) : Type 0 where
+  pub ten : lengthAt file ≡ 10
   pub long : 10 ≤ length file
   pub some : 1 ≤ word file 6
-  pub rows : word file 6 ≤ 64
-  pub items : word file 8 ≤ 16
+  pub rows : word file 6 ≤ mostRows
+  pub items : word file 8 ≤ mostItems
 
 pub head-good : (file : List ℕ) → headFault file ≡ 0 → Head file
 unfolding headFault lengthOf entryIn kindTable
@@ -102,6 +106,7 @@ head-good file e =
     let a = and-right (eqb (word file 4) 1) _ (c .isFine) in
     let b = and-right (leb 1 (word file 6)) _ a in
     record {
+      ten = s;
       long = omega arith;
       some = leb-true 1 (word file 6) (and-left (leb 1 (word file 6)) _ a);
       rows = leb-true (word file 6) 64 (and-left (leb (word file 6) 64) _ b);
@@ -132,51 +137,88 @@ unfolding usesAt
 uses-length zero l = refl
 uses-length (suc u) l = ap suc (uses-length u (drop 6 l))
 
--- one row's record without fault, at the file's tail
-module _ (items : ℕ) (file l : List ℕ) (clean : rowFault items l ≡ 0) where
+-- the fields of each kind of row: one computed test
+abbrev fieldsDue : ℕ → ℕ
+fieldsDue k = cond (eqb k 16) 2 (cond (eqb k 22) 1 0)
+
+fields-right : allBelow 12 (λ j. eqb (fieldsOf (16 + j)) (fieldsDue (16 + j))) ≡ true
+unfolding fieldsOf entryIn kindTable
+fields-right = refl
+
+fields-of : (k : ℕ) → 16 ≤ k → k ≤ 27 → fieldsOf k ≡ fieldsDue k
+fields-of k a b =
+    let z : 16 + (k - 16) ≡ k = omega arith in
+    let w = eqb-true (fieldsOf (16 + (k - 16))) (fieldsDue (16 + (k - 16))) (all-elim 12 (λ j. eqb (fieldsOf (16 + j)) (fieldsDue (16 + j))) fields-right (k - 16) (omega arith)) in
+    rw z at w
+
+-- one row's record without fault, which begins at byte `at` of the file
+module _ (items at : ℕ) (file l : List ℕ) (clean : rowFault items l ≡ 0) where
   whole : Clean l (leb 16 (kindAt l) && leb (kindAt l) 27) (rowRight items l) (rowFine items (rowAt l))
   unfolding rowFault
   whole = none-clean l (leb 16 (kindAt l) && leb (kindAt l) 27) (rowRight items l) (rowFine items (rowAt l)) 4 clean
 
+  row-low : 16 ≤ kindAt l
+  row-low = leb-true 16 (kindAt l) (and-left (leb 16 (kindAt l)) _ (whole .isDue))
+
+  row-high : kindAt l ≤ 27
+  row-high = leb-true (kindAt l) 27 (and-right (leb 16 (kindAt l)) _ (whole .isDue))
+
   row-kind : kindAt l ≡ numberOf (rowAt l .kind)
   unfolding rowAt
-  row-kind = number-of (kindAt l) (leb-true 16 (kindAt l) (and-left (leb 16 (kindAt l)) _ (whole .isDue))) (leb-true (kindAt l) 27 (and-right (leb 16 (kindAt l)) _ (whole .isDue)))
+  row-kind = number-of (kindAt l) row-low row-high
 
   row-function : eqb (kindAt l) 16 ≡ sameKind (rowAt l .kind) function
   row-function = ap (λ x. eqb x 16) row-kind
 
-  row-first : column (length file) 1 l ≡ rowAt l .first
-  unfolding column rowAt
-  row-first = refl
-
-  row-second : column (length file) 2 l ≡ rowAt l .second
-  unfolding column rowAt
-  row-second = refl
-
-  row-number : column (length file) 4 l ≡ length (rowAt l .uses)
-  unfolding column rowAt
-  row-number = go (eqb (kindAt l) 16)
+  -- the fields that its kind has are those that the row is made of
+  row-first : column at 1 l ≡ rowAt l .first
+  unfolding column fieldOf rowAt
+  row-first = rw (fields-of (kindAt l) row-low row-high) (go (eqb (kindAt l) 16) (eqb (kindAt l) 22))
     where
-      go : (b : Bool) → cond b ((lengthAt l - 8) / 6) 0 ≡ length (cond b (usesAt ((lengthAt l - 8) / 6) (drop 8 l)) [])
-      go true = sym (uses-length ((lengthAt l - 8) / 6) (drop 8 l))
-      go false = refl
+      go : (a b : Bool) → cond (leb 1 (cond a 2 (cond b 1 0))) (word l 4) 0 ≡ cond (a || b) (word l 4) 0
+      go true b = refl
+      go false true = refl
+      go false false = refl
 
-  row-uses : drop (length file - length l) file ≡ l → usesAt (column (length file) 4 l) (drop (column (length file) 3 l) file) ≡ rowAt l .uses
-  unfolding column rowAt
-  row-uses e = go (eqb (kindAt l) 16)
+  row-second : column at 2 l ≡ rowAt l .second
+  unfolding column fieldOf rowAt
+  row-second = rw (fields-of (kindAt l) row-low row-high) (go (eqb (kindAt l) 16) (eqb (kindAt l) 22))
     where
-      go : (b : Bool) → usesAt (cond b ((lengthAt l - 8) / 6) 0) (drop (cond b (length file - length l + 8) 0) file) ≡ cond b (usesAt ((lengthAt l - 8) / 6) (drop 8 l)) []
-      go true = ap (usesAt ((lengthAt l - 8) / 6)) (sym (drop-drop 8 (length file - length l) file) ∙ ap (drop 8) e)
+      go : (a b : Bool) → cond (leb 2 (cond a 2 (cond b 1 0))) (word l 6) 0 ≡ cond a (word l 6) 0
+      go true b = refl
+      go false true = refl
+      go false false = refl
+
+  row-number : column at 4 l ≡ length (rowAt l .uses)
+  unfolding column rowAt
+  row-number = decide (eqb (kindAt l) 16)
+      (λ e. rw (eqb-true (kindAt l) 16 e, function-base) (sym (uses-length ((lengthAt l - 8) / 6) (drop 8 l))))
+      (λ e. rw e)
+
+  -- where its uses begin, and how many bytes they are
+  row-offset : usesFrom at l ≡ cond (eqb (kindAt l) 16) (at + 8) 0
+  unfolding usesFrom
+  row-offset = decide (eqb (kindAt l) 16) (λ e. rw (eqb-true (kindAt l) 16 e, function-behind)) (λ e. rw e)
+
+  row-count : column at 4 l ≡ cond (eqb (kindAt l) 16) ((lengthAt l - 8) / 6) 0
+  unfolding column
+  row-count = decide (eqb (kindAt l) 16) (λ e. rw (eqb-true (kindAt l) 16 e, function-base)) (λ e. rw e)
+
+  row-uses : drop at file ≡ l → usesAt (column at 4 l) (drop (column at 3 l) file) ≡ rowAt l .uses
+  unfolding column rowAt
+  row-uses e = ap₂ (λ (u o : ℕ). usesAt u (drop o file)) row-count row-offset ∙ go (eqb (kindAt l) 16)
+    where
+      go : (b : Bool) → usesAt (cond b ((lengthAt l - 8) / 6) 0) (drop (cond b (at + 8) 0) file) ≡ cond b (usesAt ((lengthAt l - 8) / 6) (drop 8 l)) []
+      go true = ap (usesAt ((lengthAt l - 8) / 6)) (sym (drop-drop 8 at file) ∙ ap (drop 8) e)
       go false = unfold usesAt in refl
 
-  row-size : (6 * column (length file) 4 l ≡ cond (eqb (kindAt l) 16) (lengthAt l - 8) 0)
-      × (length l ≤ length file → column (length file) 3 l + 6 * column (length file) 4 l ≤ length file)
+  row-size : (6 * column at 4 l ≡ cond (eqb (kindAt l) 16) (lengthAt l - 8) 0) × (at + length l ≤ length file → column at 3 l + 6 * column at 4 l ≤ length file)
   unfolding column rowRight
-  row-size = go (eqb (kindAt l) 16) (whole .isRight) (whole .whole)
+  row-size = rw (row-offset, row-count) (go (eqb (kindAt l) 16) (whole .isRight) (whole .whole))
     where
       go : (b : Bool) → cond b (leb 8 (lengthAt l) && (eqb ((lengthAt l - 8) % 6) 0 && leb ((lengthAt l - 8) / 6) items)) (eqb (lengthAt l) (lengthOf (kindAt l))) ≡ true
           → lengthAt l ≤ length l → (6 * cond b ((lengthAt l - 8) / 6) 0 ≡ cond b (lengthAt l - 8) 0)
-          × (length l ≤ length file → cond b (length file - length l + 8) 0 + 6 * cond b ((lengthAt l - 8) / 6) 0 ≤ length file)
+          × (at + length l ≤ length file → cond b (at + 8) 0 + 6 * cond b ((lengthAt l - 8) / 6) 0 ≤ length file)
       go true h w =
           let y = leb-true 8 (lengthAt l) (and-left (leb 8 (lengthAt l)) _ h) in
           let x = eqb-true ((lengthAt l - 8) % 6) 0 (and-left (eqb ((lengthAt l - 8) % 6) 0) _ (and-right (leb 8 (lengthAt l)) _ h)) in (omega arith, λ z. omega arith)
@@ -200,103 +242,190 @@ skip-tail n k file = let w = skip-drop n k file in ap (λ (x : List ℕ). drop (
 skip-short : (n k : ℕ) (file : List ℕ) → length (skip n (drop k file)) ≤ length file
 skip-short n k file = let w = skip-drop n k file in rw (w .1, length-drop (w .0) file) (omega arith)
 
--- the code's way through a file: the head's fault and words, the items, the rows
-module _ (file : List ℕ) (fault n m : ℕ) (ef : fault ≡ headFault file) (en : n ≡ word file 6) (em : m ≡ word file 8) (fine : fault ≡ 0)
-    (t₁ : List ℕ) (s : Reached) (itemsRead : ItemsRead file 10 m t₁ s) where
-  k : headFault file ≡ 0
-  k = sym ef ∙ fine
+-- a file whose head has no fault: the items that were read, then the rows
+module _ (file t : List ℕ) (r : Reached) (k : headFault file ≡ 0) (i : ItemsRead 10 (drop 10 file) (word file 8) (word file 6) t r) where
+  s : Reached
+  s = i .line
 
-  i : ItemsRead file 10 (word file 8) t₁ s
-  i = subst (λ (x : ℕ). ItemsRead file 10 x t₁ s) em itemsRead
+  total : 10 + length (drop 10 file) ≡ length file
+  total = let h = head-good file k in let l = h .long in omega (arith, length-drop 10 file)
 
-  pub items-bad : (t : List ℕ) → s .fault ≢ 0 → Recorded file t s
-  unfolding readRecords
-  items-bad t ne = let h = head-good file k in refused-is file t (s .fault) (s .at) ne (omega (arith, i .near, h .items))
-      (ap₂ (λ f x. unless f 0 (andThen x (recordItems file))) k (stopped-many itemFault itemAt (length file) file (drop 10 file) (word file 8) s refl (i .stopped) ne))
+  items-bad : s .fault ≢ 0 → Recorded file t s
+  unfolding readRecords s
+  items-bad ne = let h = head-good file k in refused-is file t (s .fault) (s .at) ne (omega (arith, i .near, h .items))
+      (ap₂ (λ f x. unless f 0 (andThen x (recordItems file))) k (stopped-many itemFault itemAt (length file) 10 (drop 10 file) (word file 8) s total (i .stopped) ne))
 
-  module _ (z : s .fault ≡ 0) (t : List ℕ) (r : Reached) (rowsRead : RowsRead file m (s .at) n t₁ t r) where
-    q : RowsRead file (word file 8) (s .at) (word file 6) t₁ t r
-    q = subst (λ (x : ℕ). RowsRead file x (s .at) (word file 6) t₁ t r) em (subst (λ (x : ℕ). RowsRead file m (s .at) x t₁ t r) en rowsRead)
+  module _ (z : s .fault ≡ 0) where
+    start : List ℕ
+    start = skip (word file 8) (drop 10 file)
 
-    its : All itemFault itemAt (length file) file (drop 10 file) (word file 8) (s .at)
-    its = all-many itemFault itemAt (length file) file (drop 10 file) (word file 8) s (i .stopped) z
+    q : RowsRead (s .at) start (word file 8) (word file 6) (i .counted) t r
+    unfolding s start
+    q = i .rowsRead z
 
-    near : r .at ≤ 6762
+    l : Reached
+    l = q .line
+
+    its : All itemFault itemAt (length file) 10 (drop 10 file) (word file 8) (s .at)
+    unfolding s
+    its = all-many itemFault itemAt (length file) 10 (drop 10 file) (word file 8) s (i .stopped) z
+
+    begins : start ≡ drop (s .at) file
+    unfolding start
+    begins = its .tail file refl
+
+    whole-file : s .at + length start ≡ length file
+    unfolding start
+    whole-file = its .sum ∙ total
+
+    near : l .at ≤ 6762
+    unfolding s l
     near = let h = head-good file k in omega (arith, i .near, q .near, h .items, h .rows)
 
-    so-far : readRecords file ≡ andThen (readMany (rowFault (word file 8)) rowAt (length file) (word file 6) (drop (s .at) file)) (recordRows file (its .got .value))
-    unfolding readRecords recordItems
+    so-far : readRecords file ≡ andThen (readMany (rowFault (word file 8)) rowAt (length file) (word file 6) start) (recordRows file (its .got .value))
+    unfolding readRecords recordItems start
     so-far = ap₂ (λ f x. unless f 0 (andThen x (recordItems file))) k (its .read)
-        ∙ ap (λ l. andThen (readMany (rowFault (word file 8)) rowAt (length file) (word file 6) l) (recordRows file (its .got .value))) (its .tail)
+        ∙ ap (λ l. andThen (readMany (rowFault (word file 8)) rowAt (length file) (word file 6) l) (recordRows file (its .got .value))) (its .held .rest)
 
-    pub rows-bad : r .fault ≢ 0 → Recorded file t r
-    rows-bad ne = refused-is file t (r .fault) (r .at) ne near (so-far ∙ ap (λ x. andThen x (recordRows file (its .got .value)))
-        (stopped-many (rowFault (word file 8)) rowAt (length file) file (drop (s .at) file) (word file 6) r refl (q .stopped) ne))
+    rows-bad : l .fault ≢ 0 → Recorded file t l
+    unfolding l
+    rows-bad ne = refused-is file t (l .fault) (l .at) ne near (so-far ∙ ap (λ x. andThen x (recordRows file (its .got .value)))
+        (stopped-many (rowFault (word file 8)) rowAt (length file) (s .at) start (word file 6) l whole-file (q .stopped) ne))
 
-    module _ (y : r .fault ≡ 0) where
-      rws : All (rowFault (word file 8)) rowAt (length file) file (drop (s .at) file) (word file 6) (r .at)
-      rws = all-many (rowFault (word file 8)) rowAt (length file) file (drop (s .at) file) (word file 6) r (q .stopped) y
+    module _ (y : l .fault ≡ 0) where
+      rws : All (rowFault (word file 8)) rowAt (length file) (s .at) start (word file 6) (l .at)
+      unfolding l
+      rws = all-many (rowFault (word file 8)) rowAt (length file) (s .at) start (word file 6) l (q .stopped) y
+
+      left : ℕ
+      left = length (skip (word file 6) start)
 
       dia : Diagram
       dia = record { rows = rws .got .value; items = its .got .value }
 
-      answer : readRecords file ≡ unless (cond (eqb (length (rws .got .rest)) 0) 0 6) (length file - length (rws .got .rest)) (accepted dia)
-      unfolding recordRows dia
-      answer = so-far ∙ ap (λ x. andThen x (recordRows file (its .got .value))) (rws .read)
+      answer : readRecords file ≡ unless (cond (eqb left 0) 0 6) (length file - left) (accepted dia)
+      unfolding recordRows dia left
+      answer = so-far ∙ (ap (λ x. andThen x (recordRows file (its .got .value))) (rws .read)
+          ∙ ap (λ (x : List ℕ). unless (cond (eqb (length x) 0) 0 6) (length file - length x) (accepted dia)) (rws .held .rest))
 
-      pub bytes-left : r .at ≢ length file → Recorded file t (record { fault = 6; at = r .at })
-      bytes-left ne =
-          let a = rws .sum in
-          let e : length (rws .got .rest) ≢ 0 = λ w. ne (omega arith) in
-          let v : length file - length (rws .got .rest) ≡ r .at = omega arith in
-          refused-is file t 6 (r .at) (λ w. absurd (omega arith)) near
-          (answer ∙ (ap (λ b. unless (cond b 0 6) (length file - length (rws .got .rest)) (accepted dia)) (ne-eqb _ 0 e) ∙ ap (refused 6) v))
+      reached : l .at ≡ length file - left
+      unfolding left
+      reached = let a = rws .sum in let b = whole-file in omega arith
 
-      tabulated : Tabulated file dia t
-      unfolding dia column fromRow
+      from : ℕ → List ℕ
+      from p = skip p start
+
+      each : (p : ℕ) → p < rowCount dia → row dia p ≡ rowAt (from p)
+      unfolding dia from
+      each p g = rws .held .each p (let n = rws .held .many in omega arith) (plain end)
+
+      fine : (p : ℕ) → p < rowCount dia → rowFault (word file 8) (from p) ≡ 0
+      unfolding dia from
+      fine p g = rws .held .clean p (let n = rws .held .many in omega arith)
+
+      isFunction : (p : ℕ) → p < rowCount dia → eqb (kindAt (from p)) 16 ≡ isKind dia function p
+      isFunction p g = row-function (word file 8) 0 file (from p) (fine p g) ∙ ap (λ (x : Row). sameKind (x .kind) function) (sym (each p g))
+
+      at : ℕ → ℕ
+      at p = length file - length (from p)
+
+      cell : (c p : ℕ) → c < 5 → p < rowCount dia → getD t (cellOf c p) 0 ≡ column (at p) c (from p)
+      unfolding dia from at l q
+      cell c p b g = q .filled y .cell c b p (let n = rws .held .many in omega arith) ∙ ap (λ (x : ℕ). column (x - length (skip p start)) c (skip p start)) whole-file
+
+      skip-in : (p : ℕ) → drop (at p) file ≡ from p
+      unfolding from at
+      skip-in p = ap (λ (x : List ℕ). drop (length file - length (skip p x)) file) begins ∙ (skip-tail p (s .at) file ∙ ap (skip p) (sym begins))
+
+      short-in : (p : ℕ) → at p + length (from p) ≤ length file
+      unfolding from at
+      short-in p = let h : length (skip p start) ≤ length file = rw begins (skip-short p (s .at) file) in omega arith
+
+      tabulated : Tabulated dia (word file 6) (word file 8) t
+      unfolding dia column s q
       tabulated =
-          let hr = rws .held in let hi = its .held in
           let hd = head-good file k in
-          let f = q .filled y in
-          let n = hr .many in let m = hi .many in
-          let from : ℕ → List ℕ = λ p. skip p (drop (s .at) file) in
-          let start : drop (s .at) file ≡ skip (word file 8) (drop 10 file) = sym (its .tail) ∙ hi .rest in
-          let each : (p : ℕ) → p < rowCount dia → row dia p ≡ rowAt (from p) = λ p g. hr .each p (omega arith) (plain end) in
-          let fine : (p : ℕ) → p < rowCount dia → rowFault (word file 8) (from p) ≡ 0 = λ p g. hr .clean p (omega arith) in
-          let isFunction : (p : ℕ) → p < rowCount dia → eqb (kindAt (from p)) 16 ≡ isKind dia function p =
-          λ p g. row-function (word file 8) file (from p) (fine p g) ∙ ap (λ (x : Row). sameKind (x .kind) function) (sym (each p g)) in
-          let cell : (c p : ℕ) → c < 5 → p < rowCount dia → getD t (64 * c + p) 0 ≡ column (length file) c (from p) = λ c p b g. f .cell c b p (omega arith) in
+          let n : word file 6 ≡ rowCount dia = sym (rws .held .many) in
+          let m : word file 8 ≡ length (its .got .value) = sym (its .held .many) in
+          let in-rows : (p : ℕ) → p < word file 6 → p < rowCount dia = λ p g. rw (← n) g in
           record {
-            rows = n;
-            items = m;
-            someRow = rw n (hd .some);
-            fewRows = rw n (hd .rows);
-            fewItems = rw m (hd .items);
-            kinds = λ p g. ap (λ j. getD t j 0) (let x : p ≡ 64 * 0 + p = omega arith in x)
-                ∙ (cell 0 p (omega arith) g ∙ (row-kind (word file 8) file (from p) (fine p g) ∙ ap (λ (x : Row). numberOf (x .kind)) (sym (each p g))));
-            firsts = λ p g. cell 1 p (omega arith) g ∙ (row-first (word file 8) file (from p) (fine p g) ∙ ap (λ (x : Row). x .first) (sym (each p g)));
-            seconds = λ p g. cell 2 p (omega arith) g ∙ (row-second (word file 8) file (from p) (fine p g) ∙ ap (λ (x : Row). x .second) (sym (each p g)));
-            offsets = λ p g. cell 3 p (omega arith) g ∙ (ap (λ b. cond b (length file - length (from p) + 8) 0) (isFunction p g)
-                ∙ ap (λ (x : List ℕ). cond (isKind dia function p) (length file - length (skip p x) + 8) 0) start);
-            numbers = λ p g. cell 4 p (omega arith) g ∙ (row-number (word file 8) file (from p) (fine p g) ∙ ap (λ (x : Row). length (x .uses)) (sym (each p g)));
-            sizes = λ p g. ap (λ x. 6 * x) (cell 4 p (omega arith) g) ∙ (row-size (word file 8) file (from p) (fine p g) .0
-                ∙ (ap (λ b. cond b (lengthAt (from p) - 8) 0) (isFunction p g) ∙ ap (λ (x : List ℕ). cond (isKind dia function p) (lengthAt (skip p x) - 8) 0) start));
-            inside = λ p g. rw (cell 3 p (omega arith) g, cell 4 p (omega arith) g) (row-size (word file 8) file (from p) (fine p g) .1 (skip-short p (s .at) file));
-            uses = λ p g. ap₂ (λ a b. usesAt a (drop b file)) (cell 4 p (omega arith) g) (cell 3 p (omega arith) g)
-                ∙ (row-uses (word file 8) file (from p) (fine p g) (skip-tail p (s .at) file) ∙ ap (λ (x : Row). x .uses) (sym (each p g)));
-            counts = λ p g. q .kept .cell (576 + p) (omega arith) ∙ (i .filled z .cell p (omega arith) ∙ sym (hi .each p (omega arith) 0));
+            rowsAre = n;
+            itemsAre = m;
+            someRow = hd .some;
+            fewRows = hd .rows;
+            fewItems = hd .items;
+            kinds = λ p g. ap (λ j. getD t j 0) (let x : p ≡ cellOf 0 p = omega arith in x)
+                ∙ (cell 0 p (omega arith) (in-rows p g) ∙ (row-kind (word file 8) (at p) file (from p) (fine p (in-rows p g)) ∙ ap (λ (x : Row). numberOf (x .kind)) (sym (each p (in-rows p g)))));
+            firsts = λ p g. cell 1 p (omega arith) (in-rows p g) ∙ (row-first (word file 8) (at p) file (from p) (fine p (in-rows p g)) ∙ ap (λ (x : Row). x .first) (sym (each p (in-rows p g))));
+            seconds = λ p g. cell 2 p (omega arith) (in-rows p g) ∙ (row-second (word file 8) (at p) file (from p) (fine p (in-rows p g)) ∙ ap (λ (x : Row). x .second) (sym (each p (in-rows p g))));
+            numbers = λ p g. cell 4 p (omega arith) (in-rows p g) ∙ (row-number (word file 8) (at p) file (from p) (fine p (in-rows p g)) ∙ ap (λ (x : Row). length (x .uses)) (sym (each p (in-rows p g))));
+            counts = λ p g. q .kept .cell (countCell p) (omega arith) ∙ (i .filled z .cell p g ∙ sym (its .held .each p g 0));
           }
 
-      pub all-read : r .at ≡ length file → Recorded file t r
-      all-read e =
-          let a = rws .sum in
-          let n : length (rws .got .rest) ≡ 0 = omega arith in
-          let w : readRecords file ≡ accepted dia = answer ∙ ap (λ b. unless (cond b 0 6) (length file - length (rws .got .rest)) (accepted dia)) (eq-eqb _ 0 n) in
-          record { refusal = λ x. absurd (x y); tabled = λ x. record { diagram = dia; read = w; tabulated = tabulated }; near = near }
+      tabled-uses : TabledUses file dia t
+      unfolding column fromRow from at start
+      tabled-uses = record {
+        offsets = λ p g. cell 3 p (omega arith) g ∙ (row-offset (word file 8) (at p) file (from p) (fine p g) ∙ offset-is p g);
+        sizes = λ p g. ap (λ x. 6 * x) (cell 4 p (omega arith) g) ∙ (row-size (word file 8) (at p) file (from p) (fine p g) .0 ∙ size-is p g);
+        inside = λ p g. rw (cell 3 p (omega arith) g, cell 4 p (omega arith) g) (row-size (word file 8) (at p) file (from p) (fine p g) .1 (short-in p));
+        uses = λ p g. ap₂ (λ a b. usesAt a (drop b file)) (cell 4 p (omega arith) g) (cell 3 p (omega arith) g)
+            ∙ (row-uses (word file 8) (at p) file (from p) (fine p g) (skip-in p) ∙ ap (λ (x : Row). x .uses) (sym (each p g)));
+      }
+        where
+          offset-is : (p : ℕ) → p < rowCount dia → cond (eqb (kindAt (from p)) 16) (at p + 8) 0 ≡ cond (isKind dia function p) (length file - length (skip p (skip (word file 8) (drop 10 file))) + 8) 0
+          offset-is p g = ap (λ b. cond b (length file - length (skip p start) + 8) 0) (isFunction p g)
+
+          size-is : (p : ℕ) → p < rowCount dia → cond (eqb (kindAt (from p)) 16) (lengthAt (from p) - 8) 0 ≡ cond (isKind dia function p) (lengthAt (skip p (skip (word file 8) (drop 10 file))) - 8) 0
+          size-is p g = ap (λ b. cond b (lengthAt (skip p start) - 8) 0) (isFunction p g)
+
+      end-read : Recorded file t (endReached left (l .at))
+      end-read = decide (eqb left 0)
+          (λ e. rw e (record {
+            refusal = λ x. absurd (x refl);
+            tabled = λ x. record { diagram = dia; read = answer ∙ ap (λ b. unless (cond b 0 6) (length file - left) (accepted dia)) e; tabulated = tabulated; uses = tabled-uses };
+            near = near;
+          }))
+          (λ e. rw e (refused-is file t 6 (l .at) (λ w. absurd (omega arith)) near
+          (answer ∙ (ap (λ b. unless (cond b 0 6) (length file - left) (accepted dia)) e ∙ ap (refused 6) (sym reached)))))
+
+    rows-then : Recorded file t r
+    unfolding l left
+    rows-then = decide (eqb (l .fault) 0)
+        (λ e. let y = eqb-true (l .fault) 0 e in subst (Recorded file t) (sym (q .end y)) (end-of y))
+        (λ e. let ne = eqb-false (l .fault) 0 e in subst (Recorded file t) (sym (q .off ne)) (rows-bad ne))
+      where
+        end-of : (y : l .fault ≡ 0) → Recorded file t (endReached (length (skip (word file 6) start)) (l .at))
+        end-of y = end-read y
+
+  -- THEOREM: the code's way through a file reads its records
+  pub records-read : Recorded file t r
+  unfolding s
+  records-read = decide (eqb (s .fault) 0)
+      (λ e. rows-then (eqb-true (s .fault) 0 e))
+      (λ e. let ne = eqb-false (s .fault) 0 e in subst (Recorded file t) (sym (i .off ne)) (items-bad ne))
+
+-- the code's way: the head, and from its rest the items and rows
+module _ (file : List ℕ) {fault size n m : ℕ} (ef : fault ≡ headFault file) (z : fault ≡ 0) (es : size ≡ word file 0) (en : n ≡ word file 6) (em : m ≡ word file 8) where
+  no-fault : headFault file ≡ 0
+  no-fault = sym ef ∙ z
+
+  ten : size ≡ 10
+  ten = es ∙ head-good file no-fault .ten
+
+  pub head-near : ((size ≤ 10) × (n ≤ mostRows)) × (m ≤ mostItems)
+  head-near = let h = head-good file no-fault in ((omega (arith, ten), rw en (h .rows)), rw em (h .items))
+
+  pub read-through : {rest t : List ℕ} {r : Reached} → rest ≡ drop size file → ItemsRead size rest m n t r → Recorded file t r
+  read-through {rest} {t} {r} el w = records-read file t r no-fault
+      (subst (λ (x : ℕ). ItemsRead 10 (drop 10 file) x (word file 6) t r) em (subst (λ (x : ℕ). ItemsRead 10 (drop 10 file) m x t r) en
+      (subst (λ (l : List ℕ). ItemsRead 10 l m n t r) (el ∙ ap (λ (x : ℕ). drop x file) ten) (subst (λ (x : ℕ). ItemsRead x rest m n t r) ten w))))
 
 -- THEOREM: reading a file is reading its records, then the nesting
 pub two-parts : (file : List ℕ) → readDiagram file ≡ andThen (readRecords file) nested
 unfolding readDiagram readRecords afterItems recordItems afterRows recordRows
-two-parts file = unless-then (headFault file) 0 _ nested _ (andThen-twice (readMany itemFault itemAt (length file) (word file 8) (drop 10 file)) (recordItems file) nested (afterItems file)
+two-parts file = unless-after (headFault file) 0 _ nested _ (andThen-twice (readMany itemFault itemAt (length file) (word file 8) (drop 10 file)) (recordItems file) nested (afterItems file)
     (λ got. andThen-twice (readMany (rowFault (word file 8)) rowAt (length file) (word file 6) (got .rest)) (recordRows file (got .value)) nested (afterRows file (got .value))
-    (λ rs. unless-then (cond (eqb (length (rs .rest)) 0) 0 6) (length file - length (rs .rest)) _ nested _ refl)))
+    (λ rs. unless-after (cond (eqb (length (rs .rest)) 0) 0 6) (length file - length (rs .rest)) _ nested _ refl)))
+  where
+    unless-after : {A B : Type 0} (n v : ℕ) (a : Outcome A) (g : A → Outcome B) (b : Outcome B) → b ≡ andThen a g → unless n v b ≡ andThen (unless n v a) g
+    unless-after n v a g b e = ap (unless n v) e ∙ sym (unless-then n v a g)

@@ -9,17 +9,17 @@ use Rattle.effbd.specs.Diagrams.{Kind, function, and-open, branch, and-close, o
 use Rattle.effbd.specs.Nesting.{owner, branchEnded, close, branchOf}
 use Rattle.effbd.specs.States.{enteredAs, enteredRow}
 use Rattle.diagram_table.specs.Cells.{kindIn, ownerIn, closeIn, isBranch, enteredIn}
-use Rattle.diagram_file.specs.Tables.{Holds}
+use Rattle.diagram_table.specs.Held.{Holds}
 
 module _ (d : Diagram) (rows items : ℕ) (table : List ℕ) (h : Holds d rows items table) where
   pub in-rows : (r : ℕ) → r < rowCount d → r < rows
-  in-rows r l = let e = h .rowsAre in omega arith
+  in-rows r l = let e = h .records .rowsAre in omega arith
 
   pub owner-in : (r : ℕ) → r < rowCount d → owner d r < rowCount d
   owner-in r l = let o = h .ownerLow r in omega arith
 
   pub kind-cell : (r : ℕ) → r < rowCount d → kindIn table r ≡ numberOf (kind d r)
-  kind-cell r l = h .kinds r (in-rows r l)
+  kind-cell r l = h .records .kinds r (in-rows r l)
 
   pub owner-cell : (r : ℕ) → r < rowCount d → ownerIn table r ≡ owner d r
   owner-cell r l = h .owners r (in-rows r l)

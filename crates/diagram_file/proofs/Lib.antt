@@ -1,7 +1,6 @@
-pub mod Basics
 pub mod Cells
 pub mod Fields
-pub mod Loops
+pub mod RecordsRead
 pub mod Files
 pub mod Columns
 pub mod Promises

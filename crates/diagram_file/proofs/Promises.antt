@@ -1,16 +1,19 @@
 -- From what the readers leave to what the crate promises, and what later code takes from the promise.
-use Prim.Native.Nat.{ℕ, _+_, _-_, _*_, _≤_, _<_}
-use mathlib.Core.Path.{_≡_, sym, _∙_, ap, ap₂, subst}
+use Prim.Native.Nat.{ℕ, zero, suc, _+_, _-_, _*_, _/_, _≤_, _<_, zero-le}
+use mathlib.Core.Path.{_≡_, refl, sym, _∙_, ap, ap₂, subst}
 use mathlib.Core.Logic.{_≢_}
 use mathlib.Core.Bool.{Bool, true, false, cond}
-use mathlib.Core.List.{List, [], _++_, append-nil}
+use mathlib.Core.List.{List, [], _∷_, _++_, append-nil}
 use native.Mathlib.Omega.{arith}
-use lib.ListN.{length, getD, take, drop, List·getD-eq-default}
+use lib.ListN.{length, getD, take, drop, length-take, length-drop, List·getD-eq-default}
+use lib.Seq.{getD-take, take-nil}
+use borrow.Author.Tests.{le-leb}
 use Rattle.effbd.specs.Answers.{Outcome, accepted, refused, unless, andThen}
 use Rattle.effbd.specs.Records.{word, lengthAt}
-use Rattle.effbd.specs.Diagrams.{function, end, sameKind, Row, plain, Diagram, rowCount, kind, isKind}
-use Rattle.effbd.specs.Nesting.{nested, readDiagram, fromRow, Part, usesPartOf, usesPart}
+use Rattle.effbd.specs.Diagrams.{mostRows, function, end, sameKind, Use, Row, plain, Diagram, rowCount, kind, isKind, usesAt}
+use Rattle.effbd.specs.Nesting.{nested, readDiagram, fromRow, Part, partIn, usesPartOf, usesPart}
 use Rattle.effbd.specs.Layout.{places}
+use Rattle.effbd.specs.States.{stateLength}
 use Rattle.diagram_file.specs.declared.records.Reached.{Reached}
 use Rattle.nesting.specs.declared.Judgement.{Judgement}
 use Rattle.diagram_file.specs.declared.Diagram.{Diagram as Parse}
@@ -18,7 +21,10 @@ use Rattle.diagram_file.specs.declared.Refusal.{Refusal}
 use Rattle.diagram_file.specs.Reading.{Tabled, Recorded}
 use Rattle.nesting.specs.Runs.{Kinds, NestingRead}
 use Rattle.diagram_file.specs.Structure.{putStructure, structured}
-use Rattle.diagram_file.specs.Tables.{stateLength, refusalNumber, refusalValue, Holds, HoldsUses, HoldsFile, Judged, Filled, Parsed, partIn}
+use Rattle.diagram_file.specs.Tables.{refusalNumber, refusalValue, Judged, Filled, Parsed, PartIs}
+use Rattle.diagram_table.specs.declared.Part.{Part as Lies}
+use Rattle.diagram_table.specs.Cells.{cellOf, countCell, cellTotal, usesStartIn, usesNumberIn, usesPartIn, usesBytes, usesOf, usesIn}
+use Rattle.diagram_table.specs.Held.{Tabulated, Holds, HoldsUses, HoldsFile}
 use Rattle.ranges.specs.Outcomes.{unless-refused}
 use Rattle.diagram_file.proofs.Files.{two-parts}
 use Rattle.nesting.proofs.Stacks.{owner-low, loop-low, close-low}
@@ -27,6 +33,34 @@ use Rattle.diagram_file.proofs.Columns.{Sound, sound, close-is}
 refused-back : {A : Type 0} (x : Outcome A) (n v : ℕ) → n ≡ refusalNumber x → v ≡ refusalValue x → n ≢ 0 → x ≡ refused n v
 refused-back (accepted a) n v en ev ne = absurd (ne en)
 refused-back (refused m w) n v en ev ne = ap₂ refused (sym en) (sym ev)
+
+drop-take : (k n m : ℕ) (l : List ℕ) → n ≡ k + m → drop k (take n l) ≡ take m (drop k l)
+drop-take zero n m l e = ap (λ (x : ℕ). take x l) (let z : n ≡ m = omega arith in z)
+drop-take (suc k) zero m l e = absurd (omega arith)
+drop-take (suc k) (suc n) m [] e = sym (take-nil m)
+drop-take (suc k) (suc n) m (x ∷ l) e = drop-take k n m l (omega arith)
+
+-- the uses of a row in a part of the file are those in the file from the part's start on
+uses-within : (n : ℕ) (l : List ℕ) → usesAt n (take (6 * n) l) ≡ usesAt n l
+unfolding usesAt
+uses-within zero l = refl
+uses-within (suc n) l =
+    let six : 6 * suc n ≡ 6 + 6 * n = omega arith in
+    ap₂ (λ (u : Use) (us : List Use). u ∷ us) (first six) (ap (usesAt n) (drop-take 6 (6 * suc n) (6 * n) l six) ∙ uses-within n (drop 6 l))
+  where
+    at : (i : ℕ) → i < 6 → getD (take (6 * suc n) l) i 0 ≡ getD l i 0
+    at i h = getD-take (6 * suc n) l i 0 (omega arith)
+
+    first : 6 * suc n ≡ 6 + 6 * n → _≡_ {A = Use} (record { item = word (take (6 * suc n) l) 0; take = word (take (6 * suc n) l) 2; give = word (take (6 * suc n) l) 4 }) (record { item = word l 0; take = word l 2; give = word l 4 })
+    first six = rw (at 0 (omega arith), at 1 (omega arith), at 2 (omega arith), at 3 (omega arith), at 4 (omega arith), at 5 (omega arith))
+
+uses-in : (t file : List ℕ) (r : ℕ) → usesStartIn t r + 6 * usesNumberIn t r ≤ length file → usesIn t file r ≡ usesAt (usesNumberIn t r) (drop (usesStartIn t r) file)
+unfolding usesBytes usesOf
+uses-in t file r h =
+    let n = usesNumberIn t r in
+    let l : length (take (6 * n) (drop (usesStartIn t r) file)) ≡ 6 * n = simp (length-take, length-drop) (omega arith) in
+    let d : 6 * n / 6 ≡ n = omega arith in
+    rw (le-leb (usesStartIn t r + 6 * usesNumberIn t r) (length file) h, l, d) (uses-within n (drop (usesStartIn t r) file))
 
 -- ---- a file is refused
 refused-is : {file t : List ℕ} (n v : ℕ) → n ≢ 0 → readDiagram file ≡ refused n v → Judged file t (record { number = n; value = v })
@@ -39,14 +73,14 @@ module _ {file t : List ℕ} (w : Tabled file t) where
   abbrev dia : Diagram
   dia = w .diagram
 
-  pub few-rows : word file 6 ≤ 64
-  few-rows = let a = w .tabulated .rows in let b = w .tabulated .fewRows in omega arith
+  pub few-rows : word file 6 ≤ mostRows
+  few-rows = w .tabulated .fewRows
 
   pub some-row : 1 ≤ word file 6
-  some-row = let a = w .tabulated .rows in let b = w .tabulated .someRow in omega arith
+  some-row = w .tabulated .someRow
 
   kinds-in : Kinds dia (word file 6) t
-  kinds-in = record { count = sym (w .tabulated .rows); cell = λ q l. w .tabulated .kinds q (rw (w .tabulated .rows) l) }
+  kinds-in = record { count = w .tabulated .rowsAre; cell = w .tabulated .kinds }
 
   read-nested : readDiagram file ≡ nested dia
   read-nested = two-parts file ∙ ap (λ x. andThen x nested) (w .read)
@@ -64,46 +98,52 @@ module _ {file t : List ℕ} (w : Tabled file t) where
         record { number = ap refusalNumber (sym r); value = ap refusalValue (sym r); tabled = λ _. w; read = λ _. r }
 
   -- ---- the structure of an accepted file
-  module _ (got : readDiagram file ≡ accepted dia) (long : length t ≡ 592) where
+  module _ (got : readDiagram file ≡ accepted dia) (long : length t ≡ cellTotal) where
     acc : nested dia ≡ accepted dia
     acc = sym read-nested ∙ got
 
     abbrev pass : List ℕ
     pass = structured (word file 6) (word file 6 - 1) (putStructure (word file 6) 0 0 0 0 t)
 
-    found : Sound dia (word file 6) (sym (w .tabulated .rows)) acc few-rows t (word file 6 - 1) (word file 6 - 1) pass
-    found = sound dia (word file 6) (sym (w .tabulated .rows)) acc few-rows t long (kinds-in .cell) (word file 6 - 1) (let a = some-row in omega arith)
+    found : Sound dia (word file 6) (w .tabulated .rowsAre) acc few-rows t (word file 6 - 1) (word file 6 - 1) pass
+    found = sound dia (word file 6) (w .tabulated .rowsAre) acc few-rows t long (kinds-in .cell) (word file 6 - 1) (let a = some-row in omega arith)
+
+    tabulated : Tabulated dia (word file 6) (word file 8) pass
+    tabulated =
+        let b = w .tabulated in let s = found in let few = few-rows in
+        record {
+          rowsAre = b .rowsAre;
+          itemsAre = b .itemsAre;
+          someRow = b .someRow;
+          fewRows = b .fewRows;
+          fewItems = b .fewItems;
+          kinds = λ r l. s .same .below r (omega arith) ∙ b .kinds r l;
+          firsts = λ r l. s .same .below (cellOf 1 r) (omega arith) ∙ b .firsts r l;
+          seconds = λ r l. s .same .below (cellOf 2 r) (omega arith) ∙ b .seconds r l;
+          numbers = λ r l. s .same .below (cellOf 4 r) (omega arith) ∙ b .numbers r l;
+          counts = λ k l. s .same .above (countCell k) (omega arith) ∙ b .counts k l;
+        }
 
     holds : Holds dia (word file 6) (word file 8) pass
     holds =
         let b = w .tabulated in let s = found in
         let few = few-rows in let some = some-row in
-        let in-rows : (r : ℕ) → r < word file 6 → r < rowCount dia = λ r l. rw (b .rows) l in
         record {
           nests = acc;
-          rowsAre = sym (b .rows);
-          itemsAre = sym (b .items);
-          someRow = some;
-          fewRows = few;
-          fewItems = rw (← b .items) (b .fewItems);
           long = s .same .long ∙ long;
-          kinds = λ r l. s .same .below r (omega arith) ∙ b .kinds r (in-rows r l);
-          firsts = λ r l. s .same .below (64 + r) (omega arith) ∙ b .firsts r (in-rows r l);
-          seconds = λ r l. s .same .below (128 + r) (omega arith) ∙ b .seconds r (in-rows r l);
-          numbers = λ r l. s .same .below (256 + r) (omega arith) ∙ b .numbers r (in-rows r l);
+          records = tabulated;
           owners = λ r l. s .owners r (omega arith);
           branches = λ r l. s .branches r (omega arith);
-          closes = λ r l. close-is dia (word file 6) (sym (b .rows)) acc few t long (kinds-in .cell) (word file 6 - 1) (omega arith) pass s r l;
+          closes = λ r l. close-is dia (word file 6) (b .rowsAre) acc few t long (kinds-in .cell) (word file 6 - 1) (omega arith) pass s r l;
           loops = λ r l. s .loops r (omega arith);
-          counts = λ k l. s .same .above (576 + k) (omega arith) ∙ b .counts k (rw (b .items) l);
           ownerLow = owner-low dia;
           loopLow = loop-low dia;
-          closeLow = λ r. rw (← b .rows) (close-low dia r);
+          closeLow = λ r. rw (b .rowsAre) (close-low dia r);
         }
 
-    part-is : (r : ℕ) → r < rowCount dia → usesPart file r ≡ record { start = getD t (192 + r) 0; size = 6 * getD t (256 + r) 0 }
+    part-is : (r : ℕ) → r < rowCount dia → usesPart file r ≡ usesPartIn t r
     unfolding usesPart
-    part-is r l = ap (usesPartOf file r) got ∙ go (isKind dia function r) (getD t (192 + r) 0) (6 * getD t (256 + r) 0) (w .tabulated .offsets r l) (w .tabulated .sizes r l)
+    part-is r l = ap (usesPartOf file r) got ∙ go (isKind dia function r) (usesStartIn t r) (6 * usesNumberIn t r) (w .uses .offsets r l) (w .uses .sizes r l)
       where
         go : (c : Bool) (x y : ℕ) → x ≡ cond c (length file - length (fromRow file r) + 8) 0 → y ≡ cond c (lengthAt (fromRow file r) - 8) 0
             → _≡_ {A = Part} (cond c (record { start = length file - length (fromRow file r) + 8; size = lengthAt (fromRow file r) - 8 }) (record { start = 0; size = 0 })) (record { start = x; size = y })
@@ -112,13 +152,15 @@ module _ {file t : List ℕ} (w : Tabled file t) where
 
     holds-uses : HoldsUses file dia pass
     holds-uses =
-        let b = w .tabulated in let s = found in
-        let offset : (r : ℕ) → r < rowCount dia → getD pass (192 + r) 0 ≡ getD t (192 + r) 0 = λ r l. s .same .below (192 + r) (let f = b .fewRows in omega arith) in
-        let number : (r : ℕ) → r < rowCount dia → getD pass (256 + r) 0 ≡ getD t (256 + r) 0 = λ r l. s .same .below (256 + r) (let f = b .fewRows in omega arith) in
+        let b = w .uses in let s = found in
+        let few : rowCount dia ≤ mostRows = rw (← w .tabulated .rowsAre) few-rows in
+        let offset : (r : ℕ) → r < rowCount dia → usesStartIn pass r ≡ usesStartIn t r = λ r l. s .same .below (cellOf 3 r) (omega arith) in
+        let number : (r : ℕ) → r < rowCount dia → usesNumberIn pass r ≡ usesNumberIn t r = λ r l. s .same .below (cellOf 4 r) (omega arith) in
+        let inside : (r : ℕ) → r < rowCount dia → usesStartIn pass r + 6 * usesNumberIn pass r ≤ length file = λ r l. rw (offset r l, number r l) (b .inside r l) in
         record {
-          uses = λ r l. rw (offset r l, number r l) (b .uses r l);
-          inside = λ r l. rw (offset r l, number r l) (b .inside r l);
+          uses = λ r l. uses-in pass file r (inside r l) ∙ rw (offset r l, number r l) (b .uses r l);
           part = λ r l. rw (offset r l, number r l) (part-is r l);
+          inside = inside;
         }
 
     structured-holds : HoldsFile file (word file 6) (word file 8) pass
@@ -128,7 +170,7 @@ module _ {file t : List ℕ} {r : Refusal} (w : Judged file t r) where
   pub filled-refused : r .number ≢ 0 → Filled file t r
   filled-refused ne = record { number = w .number; value = w .value; holds = λ z. absurd (ne z) }
 
-  pub filled-accepted : {n : ℕ} {u : List ℕ} → r .number ≡ 0 → length t ≡ 592 → n ≡ word file 6 → u ≡ structured n (n - 1) (putStructure n 0 0 0 0 t) → Filled file u r
+  pub filled-accepted : {n : ℕ} {u : List ℕ} → r .number ≡ 0 → length t ≡ cellTotal → n ≡ word file 6 → u ≡ structured n (n - 1) (putStructure n 0 0 0 0 t) → Filled file u r
   filled-accepted z long en eu = record {
     number = w .number;
     value = w .value;
@@ -144,7 +186,7 @@ module _ {file t : List ℕ} {r : Refusal} (w : Judged file t r) where
   unfolding stateLength
   length-accepted z en em =
       let b = w .tabled z .tabulated in
-      sym (ap (λ x. andThen x (λ d. accepted (places d))) (w .read z) ∙ ap₂ (λ (x y : ℕ). accepted (3 * x + y)) (b .rows ∙ sym en) (b .items ∙ sym em))
+      sym (ap (λ x. andThen x (λ d. accepted (places d))) (w .read z) ∙ ap₂ (λ (x y : ℕ). accepted (3 * x + y)) (sym (en ∙ b .rowsAre)) (sym (em ∙ b .itemsAre)))
 
 -- ---- the struct
 pub parsed-is : (file t : List ℕ) (r : Refusal) (n m : ℕ) → Filled file t r → n ≡ word file 6 → m ≡ word file 8
@@ -164,28 +206,30 @@ module _ (file : List ℕ) (p : Parse) (w : Parsed file p) where
   parsed-refused ne = refused-back (readDiagram file) (p .number) (p .value) (w .number) (w .value) ne
 
   -- the parts of the file
-  pub part-refused : (r : ℕ) → p .number ≢ 0 → [] ≡ partIn file (usesPart file r)
+  pub part-refused : (r : ℕ) → p .number ≢ 0 → PartIs file (usesPart file r) (record { start = 0; size = 0 })
   unfolding usesPart
-  part-refused r ne = sym (ap (λ x. partIn file (usesPartOf file r x)) (parsed-refused ne))
+  part-refused r ne =
+      let e : usesPart file r ≡ record { start = 0; size = 0 } = ap (usesPartOf file r) (parsed-refused ne) in
+      rw e (record { start = refl; size = refl; inside = zero-le; near = (omega arith, omega arith) })
 
-  pub part-none : (r : ℕ) → p .number ≡ 0 → p .rows ≤ r → [] ≡ partIn file (usesPart file r)
+  pub part-none : (r : ℕ) → p .number ≡ 0 → p .rows ≤ r → PartIs file (usesPart file r) (record { start = 0; size = 0 })
   unfolding usesPart
   part-none r z l =
       let h = w .holds z in
-      let past : rowCount (h .diagram) ≤ r = omega (arith, h .holds .rowsAre) in
+      let past : rowCount (h .diagram) ≤ r = omega (arith, h .holds .records .rowsAre) in
       let k : isKind (h .diagram) function r ≡ false = ap (λ (x : Row). sameKind (x .kind) function) (List·getD-eq-default (h .diagram .rows) (plain end) past) in
-      sym (ap (λ x. partIn file (usesPartOf file r x)) (h .read) ∙ ap (λ b. partIn file (cond b (record { start = length file - length (fromRow file r) + 8; size = lengthAt (fromRow file r) - 8 }) (record { start = 0; size = 0 }))) k)
+      let e : usesPart file r ≡ record { start = 0; size = 0 } = ap (usesPartOf file r) (h .read)
+      ∙ ap (λ b. cond b (record { start = length file - length (fromRow file r) + 8; size = lengthAt (fromRow file r) - 8 }) (record { start = 0; size = 0 })) k in
+      rw e (record { start = refl; size = refl; inside = zero-le; near = (omega arith, omega arith) })
 
-  module _ (r start number : ℕ) (z : p .number ≡ 0) (l : r < p .rows) (es : start ≡ getD (p .table) (192 + r) 0) (en : number ≡ getD (p .table) (256 + r) 0) where
-    pub part-there : take (start + 6 * number - start) (drop start file) ≡ partIn file (usesPart file r)
-    part-there =
-        let h = w .holds z in
-        let i : r < rowCount (h .diagram) = omega (arith, h .holds .rowsAre) in
-        let y : start + 6 * number - start ≡ 6 * number = omega arith in
-        rw (y, h .uses .part r i, es, en)
+  pub part-there : (r : ℕ) (q : Lies) → p .number ≡ 0 → r < p .rows → (q .start ≡ usesStartIn (p .table) r) × (q .size ≡ 6 * usesNumberIn (p .table) r) → (q .start < 65536) × (q .size < 393216)
+      → PartIs file (usesPart file r) q
+  part-there r q z l e near =
+      let h = w .holds z in
+      let i : r < rowCount (h .diagram) = omega (arith, h .holds .records .rowsAre) in
+      let u = h .uses .part r i in
+      record { start = e .0 ∙ sym (ap (λ (x : Part). x .start) u); size = e .1 ∙ sym (ap (λ (x : Part). x .size) u); inside = rw (e .0, e .1) (h .uses .inside r i); near = near }
 
-    pub part-fits : start + 6 * number ≤ length file
-    part-fits =
-        let h = w .holds z in
-        let i : r < rowCount (h .diagram) = omega (arith, h .holds .rowsAre) in
-        rw (es, en) (h .uses .inside r i)
+-- the part that was cut
+pub part-cut : (file : List ℕ) (part : Part) (q : Lies) → PartIs file part q → take (q .start + q .size - q .start) (drop (q .start) file) ≡ partIn file part
+part-cut file part q w = let z : q .start + q .size - q .start ≡ q .size = omega arith in rw (z, w .start, w .size)

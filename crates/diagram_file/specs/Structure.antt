@@ -3,8 +3,9 @@ use Prim.Native.Nat.{ℕ, zero, suc, _+_}
 use mathlib.Core.Path.{_≡_}
 use mathlib.Core.Bool.{cond}
 use mathlib.Core.List.{List, [], _∷_}
-use lib.ListN.{getD, set}
+use lib.ListN.{set}
 use lib.Dec.{eqb}
+use Rattle.diagram_table.specs.Cells.{cellOf, kindIn, ownerIn, branchIn, loopIn}
 use Rattle.diagram_file.specs.Cells.{Cell, cell, putAll}
 use Rattle.diagram_file.specs.declared.structure.Around.{Around}
 use Rattle.nesting.specs.declared.Part.{Part}
@@ -12,31 +13,31 @@ use Rattle.nesting.specs.declared.Part.the-variants.{Opens, Turns, Closes, Stay
 use Rattle.nesting.specs.Runs.{partOf}
 
 abbrev pub structureCells : (rows row owner latest looping : ℕ) → List Cell
-structureCells rows row owner latest looping = cell (320 + row) owner ∷ cell (384 + row) latest ∷ cell (448 + row) rows ∷ cell (512 + row) looping ∷ []
+structureCells rows row owner latest looping = cell (cellOf 5 row) owner ∷ cell (cellOf 6 row) latest ∷ cell (cellOf 7 row) rows ∷ cell (cellOf 8 row) looping ∷ []
 
 unfoldable pub putStructure : (rows row owner latest looping : ℕ) → List ℕ → List ℕ
 putStructure rows row owner latest looping table = putAll (structureCells rows row owner latest looping) table
 
 -- the table says what a row stands in
 pub record AroundAt (t : List ℕ) (row : ℕ) (a : Around) : Type 0 where
-  pub owner : a .owner ≡ getD t (320 + row) 0
-  pub latest : a .latest ≡ getD t (384 + row) 0
-  pub looping : a .looping ≡ getD t (512 + row) 0
+  pub owner : a .owner ≡ ownerIn t row
+  pub latest : a .latest ≡ branchIn t row
+  pub looping : a .looping ≡ loopIn t row
 
 abbrev pub loopingIn : (kind row looping : ℕ) → ℕ
 loopingIn kind row looping = cond (eqb kind 24) row looping
 
 -- the structure of row q + 1, by what row q does: an open has itself, a BRANCH turns, a close has what its owner had
 abbrev pub followedAs : Part → (rows q : ℕ) → List ℕ → List ℕ
-followedAs Opens rows q t = putStructure rows (q + 1) q (q + 1) (loopingIn (getD t q 0) q (getD t (512 + q) 0)) t
-followedAs Turns rows q t = putStructure rows (q + 1) (getD t (320 + q) 0) q (getD t (512 + q) 0) t
+followedAs Opens rows q t = putStructure rows (q + 1) q (q + 1) (loopingIn (kindIn t q) q (loopIn t q)) t
+followedAs Turns rows q t = putStructure rows (q + 1) (ownerIn t q) q (loopIn t q) t
 followedAs Closes rows q t =
-    putStructure rows (q + 1) (getD t (320 + getD t (320 + q) 0) 0) (getD t (384 + getD t (320 + q) 0) 0) (getD t (512 + getD t (320 + q) 0) 0)
-    (set t (448 + getD t (320 + q) 0) q)
-followedAs Stays rows q t = putStructure rows (q + 1) (getD t (320 + q) 0) (getD t (384 + q) 0) (getD t (512 + q) 0) t
+    putStructure rows (q + 1) (ownerIn t (ownerIn t q)) (branchIn t (ownerIn t q)) (loopIn t (ownerIn t q))
+    (set t (cellOf 7 (ownerIn t q)) q)
+followedAs Stays rows q t = putStructure rows (q + 1) (ownerIn t q) (branchIn t q) (loopIn t q) t
 
 unfoldable pub followed : (rows q : ℕ) → List ℕ → List ℕ
-followed rows q t = followedAs (partOf (getD t q 0)) rows q t
+followed rows q t = followedAs (partOf (kindIn t q)) rows q t
 
 -- the structure of the rows up to and with row n, where that of row 0 stands
 unfoldable pub structured : (rows n : ℕ) → List ℕ → List ℕ

@@ -2,22 +2,29 @@
 ghost use mathlib.Core.Path.{_≡_};
 ghost use lib.ListN.{length};
 ghost use Rattle.effbd.specs.Answers.{said};
-ghost use Rattle.effbd.specs.Nesting.{usesPart};
-ghost use Rattle.diagram_file.specs.Tables.{stateLength, freshPut, Judged, Filled, Parsed, Freshened, partIn};
+ghost use Rattle.effbd.specs.Nesting.{usesPart, partIn};
+ghost use Rattle.effbd.specs.States.{stateLength};
+ghost use Rattle.diagram_file.specs.Tables.{freshPut, Judged, Filled, Parsed, Freshened, PartIs};
+ghost use Rattle.diagram_table.specs.Cells.{cellTotal};
+use diagram_table::CELLS;
+use diagram_table::COUNT;
+use diagram_table::Part;
 use effbd::Answer;
+use effbd::limits::MOST_ITEMS;
+use effbd::limits::MOST_PLACES;
+use effbd::limits::MOST_ROWS;
 
 mod records;
 mod structure;
 
 // A diagram file: number 0 and the diagram, or the refusal's number and value.
-// The table holds column c of row r at 64 * c + r. The columns: 0 kind, 1 first field (α or count), 2 second field (β),
-// 3 byte offset of its uses, 4 number of its uses, 5 owner, 6 latest BRANCH, 7 close, 8 innermost LP. From 576 on the items' initial counts.
+// Crate diagram_table has the table's layout.
 pub struct Diagram {
     pub number: u16,
     pub value: u32,
     pub rows: u16,
     pub items: u16,
-    pub table: [u16; 592],
+    pub table: [u16; CELLS],
 }
 
 // A refusal's number and value, 0 and 0 for none.
@@ -29,16 +36,21 @@ pub(crate) struct Refusal {
 impl Diagram {
     pub const EDITION: u16 = 1;
 
-    pub const ROWS: u16 = 64;
+    pub const ROWS: u16 = MOST_ROWS;
 
-    pub const ITEMS: u16 = 16;
+    pub const ITEMS: u16 = MOST_ITEMS;
 
     // The words of the fresh state, and 0 behind them.
-    pub fn fresh(self) -> [u16; 208]
+    pub fn fresh(self) -> [u16; MOST_PLACES as usize]
         ensures { λ r. ⌜ Freshened (self .rows) (self .items) (self .table) r ⌝ }
     {
-        let mut state = [0u16; 208];
-        put_fresh(&mut state[0..208], self.rows, self.items, &self.table);
+        let mut state = [0u16; MOST_PLACES as usize];
+        put_fresh(
+            &mut state[0..MOST_PLACES as usize],
+            self.rows,
+            self.items,
+            &self.table,
+        );
         state
     }
 }
@@ -51,14 +63,18 @@ fn put_fresh(state: &mut [u16], rows: u16, items: u16, table: &[u16])
     let first = 3 * rows as usize;
     let mut item: usize = 0;
     while item < items as usize {
-        words::put(state, first + item, words::get(table, 576 + item));
+        words::put(
+            state,
+            first + item,
+            words::get(table, COUNT as usize + item),
+        );
         item += 1;
     }
 }
 
 // Judges a file, its records and then their nesting; a zeroed table is left with the records' columns.
 fn judge(file: &[u8], table: &mut [u16]) -> Refusal
-    requires { ⌜ length (now table) ≡ 592 ⌝ }
+    requires { ⌜ length (now table) ≡ cellTotal ⌝ }
     ensures { λ r. ⌜ Judged (now (file .entry)) (now (table .exit)) r ⌝ }
 {
     let reached = records::read_records(file, table);
@@ -84,7 +100,7 @@ fn judge(file: &[u8], table: &mut [u16]) -> Refusal
 
 // Fills a zeroed table from a file: the columns of its records, and where nothing is refused the structure of its rows.
 fn fill(file: &[u8], table: &mut [u16]) -> Refusal
-    requires { ⌜ length (now table) ≡ 592 ⌝ }
+    requires { ⌜ length (now table) ≡ cellTotal ⌝ }
     ensures { λ r. ⌜ Filled (now (file .entry)) (now (table .exit)) r ⌝ }
 {
     let refusal = judge(file, table);
@@ -99,8 +115,8 @@ fn fill(file: &[u8], table: &mut [u16]) -> Refusal
 pub fn parse(file: &[u8]) -> Diagram
     ensures { λ r. ⌜ Parsed (now (file .entry)) r ⌝ }
 {
-    let mut table = [0u16; 592];
-    let refusal = fill(file, &mut table[0..592]);
+    let mut table = [0u16; CELLS];
+    let refusal = fill(file, &mut table[0..CELLS]);
     Diagram {
         number: refusal.number,
         value: refusal.value,
@@ -114,29 +130,34 @@ pub fn parse(file: &[u8]) -> Diagram
 pub fn read(file: &[u8]) -> Answer
     ensures { λ r. ⌜ said r ≡ stateLength (now (file .entry)) ⌝ }
 {
-    let mut table = [0u16; 592];
-    let refusal = judge(file, &mut table[0..592]);
+    let mut table = [0u16; CELLS];
+    let refusal = judge(file, &mut table[0..CELLS]);
     if refusal.number != 0 {
         return Answer::Refused(refusal.number, refusal.value);
     }
     Answer::Accepted(3 * words::word(file, 6) as u32 + words::word(file, 8) as u32)
 }
 
-// The uses of a FUNCTION row, as the very bytes of the file; for a refused file or another row an empty part at the file's start.
-pub fn uses<'a>(file: &'a [u8], row: u16) -> &'a [u8]
-    ensures { λ r. ⌜ now r ≡ partIn (now (file .entry)) (usesPart (now (file .entry)) row) ⌝ }
+// Where the uses of a FUNCTION row lie in the file; for a refused file or another row an empty part at the file's start.
+pub fn uses_part(file: &[u8], row: u16) -> Part
+    ensures { λ r. ⌜ PartIs (now (file .entry)) (usesPart (now (file .entry)) row) r ⌝ }
 {
     let diagram = parse(file);
     if diagram.number != 0 {
-        return &file[0..0];
+        return Part { start: 0, size: 0 };
     }
     if diagram.rows <= row {
-        return &file[0..0];
+        return Part { start: 0, size: 0 };
     }
-    let start = words::get(&diagram.table, 192 + row as usize) as usize;
-    let end = start + 6 * words::get(&diagram.table, 256 + row as usize) as usize;
-    if end <= file.len() {
-        return &file[start..end];
-    }
-    &file[0..0]
+    diagram_table::uses_part(&diagram.table, row as u32)
+}
+
+// The uses of a FUNCTION row, as the very bytes of the file: the part that `uses_part` says.
+pub fn uses<'a>(file: &'a [u8], row: u16) -> &'a [u8]
+    ensures { λ r. ⌜ now r ≡ partIn (now (file .entry)) (usesPart (now (file .entry)) row) ⌝ }
+{
+    let part = uses_part(file, row);
+    let start = part.start;
+    let end = start + part.size;
+    &file[start..end]
 }

@@ -1,12 +1,23 @@
-// Reads a diagram file's records by its tails, into one flat table: refusals 1 to 6.
+// Reads a diagram file's records by its tails, into one flat table: refusals 1 to 6. `entries` is the constant table of kinds (crate words),
+// laid out once and lent on: each record's length and fields are looked up in it by the record's own kind.
 ghost use mathlib.Core.Path.{_≡_};
 ghost use Prim.Native.Nat.{_+_, _-_, _*_, _/_, _≤_, _<_};
 ghost use lib.ListN.{length};
-ghost use Rattle.effbd.specs.Records.{word};
-ghost use Rattle.effbd.specs.Diagrams.{usesAt, usesFine, headFault, itemFault, rowFault};
-ghost use Rattle.diagram_file.specs.Fields.{useFine, functionRight, functionFine, functionFault, turnLimitFine, headFine, isRow};
-ghost use Rattle.diagram_file.specs.Reading.{putRow, rowLength, fillRow, ItemsRead, RowsRead, Recorded};
+ghost use Rattle.effbd.specs.Records.{word, KindBytes};
+ghost use Rattle.effbd.specs.Diagrams.{mostRows, mostItems, usesAt, usesFine, headFault, itemFault, rowFault};
+ghost use Rattle.diagram_table.specs.Cells.{cellTotal};
+ghost use Rattle.diagram_file.specs.Fields.{fieldOf, useFine, functionRight, functionFine, functionFault, turnLimitFine, headFine, isRow};
+ghost use Rattle.diagram_file.specs.Reading.{putRow, fillRow, endReached, ItemsRead, RowsRead, Recorded};
 use crate::Diagram;
+use diagram_table::COUNT;
+use diagram_table::FIRST;
+use diagram_table::SECOND;
+use diagram_table::USE_SIZE;
+use diagram_table::USES_NUMBER;
+use diagram_table::USES_START;
+use effbd::refusals::BYTES_AFTER_LAST;
+use effbd::refusals::FIELD_OFF;
+use effbd::refusals::HEAD_VALUE_OFF;
 use words::kinds;
 
 // Where reading stopped, and the fault of the record there, 0 for none.
@@ -44,20 +55,20 @@ fn uses_fine(uses: &[u8], count: u16, items: u16) -> bool
         }
         from = item as u32 + 1;
         left -= 1;
-        let more = words::tail(rest, 6);
+        let more = words::tail(rest, USE_SIZE);
         rest = more;
     }
     true
 }
 
-// The number of uses that a FUNCTION's length leaves room for.
-fn use_count(length: u16) -> u16
-    ensures { λ r. ⌜ r ≡ (length - 8) / 6 ⌝ }
+// The number of uses that the length of a FUNCTION's record leaves room for, behind the length that its kind gives.
+fn use_count(size: u16, base: u16) -> u16
+    ensures { λ r. ⌜ r ≡ (size - base) / 6 ⌝ }
 {
-    if length < 8 {
+    if size < base {
         return 0;
     }
-    (length - 8) / 6
+    (size - base) / USE_SIZE as u16
 }
 
 fn is_row(kind: u16) -> bool
@@ -66,10 +77,11 @@ fn is_row(kind: u16) -> bool
     kinds::FUNCTION <= kind && kind <= kinds::END
 }
 
-fn function_right(length: u16, items: u16) -> bool
-    ensures { λ r. ⌜ r ≡ functionRight length items ⌝ }
+fn function_right(size: u16, base: u16, items: u16) -> bool
+    ensures { λ r. ⌜ r ≡ functionRight size base items ⌝ }
 {
-    8 <= length && ((length - 8) % 6 == 0 && (length - 8) / 6 <= items)
+    base <= size
+        && ((size - base) % USE_SIZE as u16 == 0 && (size - base) / USE_SIZE as u16 <= items)
 }
 
 fn turn_limit_fine(count: u16) -> bool
@@ -78,63 +90,66 @@ fn turn_limit_fine(count: u16) -> bool
     2 <= count && count <= 255
 }
 
-// The fields of a FUNCTION that stands whole in the file.
-fn function_fine(bytes: &[u8], items: u16) -> bool
-    requires { ⌜ word (now bytes) 0 ≤ length (now bytes) ⌝ }
-    ensures { λ r. ⌜ r ≡ functionFine items (now (bytes .entry)) ⌝ }
+// The fields of a FUNCTION that stands whole in the file; its uses begin behind its fields, at byte `behind`.
+fn function_fine(bytes: &[u8], base: u16, behind: u16, items: u16) -> bool
+    requires { ⌜ (word (now bytes) 0 ≤ length (now bytes)) × (behind ≤ base) ⌝ }
+    ensures { λ r. ⌜ r ≡ functionFine base behind items (now (bytes .entry)) ⌝ }
 {
     if words::word(bytes, 6) < words::word(bytes, 4) {
         return false;
     }
     uses_fine(
-        words::tail(bytes, 8),
-        use_count(words::word(bytes, 0)),
+        words::tail(bytes, behind as usize),
+        use_count(words::word(bytes, 0), base),
         items,
     )
 }
 
 // The fault of a FUNCTION; where it is cut short nothing is asked of its fields.
-fn function_fault(bytes: &[u8], items: u16) -> u16
-    ensures { λ r. ⌜ r ≡ functionFault items (now (bytes .entry)) ⌝ }
+fn function_fault(bytes: &[u8], base: u16, behind: u16, items: u16) -> u16
+    requires { ⌜ behind ≤ base ⌝ }
+    ensures { λ r. ⌜ r ≡ functionFault base behind items (now (bytes .entry)) ⌝ }
 {
-    let length = words::word(bytes, 0);
-    let right = function_right(length, items);
-    if bytes.len() < length as usize {
-        return words::record_fault(bytes, true, right, true, 5);
+    let size = words::word(bytes, 0);
+    let right = function_right(size, base, items);
+    if bytes.len() < size as usize {
+        return words::record_fault(bytes, true, right, true, FIELD_OFF);
     }
-    let fine = function_fine(bytes, items);
-    words::record_fault(bytes, true, right, fine, 5)
+    let fine = function_fine(bytes, base, behind, items);
+    words::record_fault(bytes, true, right, fine, FIELD_OFF)
 }
 
 // One look at the kind finds all that is asked of a row.
-fn row_fault(bytes: &[u8], items: u16) -> u16
+fn row_fault(bytes: &[u8], entries: &[u8], items: u16) -> u16
+    requires { ⌜ KindBytes (now entries) ⌝ }
     ensures { λ r. ⌜ r ≡ rowFault items (now (bytes .entry)) ⌝ }
 {
     let kind = words::word(bytes, 2);
-    let length = words::word(bytes, 0);
+    let size = words::word(bytes, 0);
+    let base = kinds::base_length(entries, kind);
     match kind {
-        kinds::FUNCTION => function_fault(bytes, items),
+        kinds::FUNCTION => {
+            let behind = kinds::behind_fields(entries, kind);
+            function_fault(bytes, base, behind, items)
+        }
         kinds::IT_OPEN => {
-            let right = kinds::length_of(kinds::IT_OPEN);
             let fine = turn_limit_fine(words::word(bytes, 4));
-            words::record_fault(bytes, true, length == right, fine, 5)
+            words::record_fault(bytes, true, size == base, fine, FIELD_OFF)
         }
         _ => {
-            // Every other row is as long as an END.
             let due = is_row(kind);
-            let right = kinds::length_of(kinds::END);
-            words::record_fault(bytes, due, length == right, true, 5)
+            words::record_fault(bytes, due, size == base, true, FIELD_OFF)
         }
     }
 }
 
-fn item_fault(bytes: &[u8]) -> u16
+fn item_fault(bytes: &[u8], entries: &[u8]) -> u16
+    requires { ⌜ KindBytes (now entries) ⌝ }
     ensures { λ r. ⌜ r ≡ itemFault (now (bytes .entry)) ⌝ }
 {
     let kind = words::word(bytes, 2);
-    let length = words::word(bytes, 0);
-    let right = kinds::length_of(kinds::ITEM);
-    words::record_fault(bytes, kind == kinds::ITEM, length == right, true, 5)
+    let right = words::word(bytes, 0) == kinds::base_length(entries, kind);
+    words::record_fault(bytes, kind == kinds::ITEM, right, true, FIELD_OFF)
 }
 
 fn head_fine(edition: u16, rows: u16, items: u16) -> bool
@@ -143,18 +158,18 @@ fn head_fine(edition: u16, rows: u16, items: u16) -> bool
     edition == Diagram::EDITION && (1 <= rows && (rows <= Diagram::ROWS && items <= Diagram::ITEMS))
 }
 
-fn head_fault(bytes: &[u8]) -> u16
+fn head_fault(bytes: &[u8], entries: &[u8]) -> u16
+    requires { ⌜ KindBytes (now entries) ⌝ }
     ensures { λ r. ⌜ r ≡ headFault (now (bytes .entry)) ⌝ }
 {
     let kind = words::word(bytes, 2);
-    let length = words::word(bytes, 0);
+    let right = words::word(bytes, 0) == kinds::base_length(entries, kind);
     let fine = head_fine(
         words::word(bytes, 4),
         words::word(bytes, 6),
         words::word(bytes, 8),
     );
-    let right = kinds::length_of(kinds::HEAD);
-    words::record_fault(bytes, kind == kinds::HEAD, length == right, fine, 4)
+    words::record_fault(bytes, kind == kinds::HEAD, right, fine, HEAD_VALUE_OFF)
 }
 
 fn put_row(
@@ -166,106 +181,138 @@ fn put_row(
     offset: u16,
     number: u16,
 )
-    requires { ⌜ (row < 64) × (length (now table) ≡ 592) ⌝ }
+    requires { ⌜ (row < mostRows) × (length (now table) ≡ cellTotal) ⌝ }
     ensures { λ _. ⌜ now (table .exit) ≡ putRow row kind first second offset number (now (table .entry)) ⌝ }
 {
     table[row] = kind;
-    table[64 + row] = first;
-    table[128 + row] = second;
-    table[192 + row] = offset;
-    table[256 + row] = number;
+    table[FIRST as usize + row] = first;
+    table[SECOND as usize + row] = second;
+    table[USES_START as usize + row] = offset;
+    table[USES_NUMBER as usize + row] = number;
 }
 
-// The columns of a row whose record begins `bytes`, at byte `at` of the file: α and β of a FUNCTION, where its uses begin and how many
-// they are; the count of an IT open. Answers how long a record without fault is: a FUNCTION's length alone has to be looked up.
-fn fill_row(table: &mut [u16], row: usize, bytes: &[u8], at: usize) -> u16
-    requires { ⌜ (row < 64) × (at < 60000) ⌝ }
-    requires { ⌜ length (now table) ≡ 592 ⌝ }
-    ensures { λ r. ⌜ r ≡ rowLength (now (bytes .entry)) ⌝ }
+// Field `number` of a record whose kind has `fields`, counted from 1; 0 where it has no such field.
+fn field(bytes: &[u8], fields: u16, number: u16) -> u16
+    ensures { λ r. ⌜ r ≡ fieldOf fields number (now (bytes .entry)) ⌝ }
+{
+    if number <= fields {
+        return words::word(bytes, 2 + 2 * number as usize);
+    }
+    0
+}
+
+// The columns of a row whose record begins `bytes`, at byte `at` of the file: its fields (α and β of a FUNCTION, the count of an IT open), and of
+// a FUNCTION where its uses begin and how many they are.
+fn fill_row(table: &mut [u16], row: usize, bytes: &[u8], entries: &[u8], at: usize)
+    requires { ⌜ (row < mostRows) × (at < 60000) ⌝ }
+    requires { ⌜ length (now table) ≡ cellTotal ⌝ }
+    requires { ⌜ KindBytes (now entries) ⌝ }
     ensures { λ _. ⌜ now (table .exit) ≡ fillRow row at (now (bytes .entry)) (now (table .entry)) ⌝ }
 {
     let kind = words::word(bytes, 2);
-    match kind {
-        kinds::FUNCTION => {
-            let first = words::word(bytes, 4);
-            let second = words::word(bytes, 6);
-            let length = words::word(bytes, 0);
-            let number = use_count(length);
-            put_row(table, row, kind, first, second, (at + 8) as u16, number);
-            length
-        }
-        kinds::IT_OPEN => {
-            put_row(table, row, kind, words::word(bytes, 4), 0, 0, 0);
-            kinds::length_of(kinds::IT_OPEN)
-        }
-        _ => {
-            put_row(table, row, kind, 0, 0, 0, 0);
-            kinds::length_of(kinds::END)
-        }
+    let fields = kinds::field_count(entries, kind);
+    let first = field(bytes, fields, 1);
+    let second = field(bytes, fields, 2);
+    if kind == kinds::FUNCTION {
+        let number = use_count(words::word(bytes, 0), kinds::base_length(entries, kind));
+        let offset = at + kinds::behind_fields(entries, kind) as usize;
+        put_row(table, row, kind, first, second, offset as u16, number);
+    } else {
+        put_row(table, row, kind, first, second, 0, 0);
     }
 }
 
-// Reads `count` item records from byte `from` on, their initial counts into the table.
-fn read_items(file: &[u8], from: usize, count: usize, table: &mut [u16]) -> Reached
-    requires { ⌜ (from ≤ length (now file)) × (from ≤ 106) ⌝ }
-    requires { ⌜ count ≤ 16 ⌝ }
-    requires { ⌜ length (now table) ≡ 592 ⌝ }
-    ensures { λ r. ⌜ ItemsRead (now (file .entry)) from count (now (table .exit)) r ⌝ }
+// Behind the last record no byte is left, or 6.
+fn behind_last(rest: &[u8], at: usize) -> Reached
+    ensures { λ r. ⌜ r ≡ endReached (length (now (rest .entry))) at ⌝ }
 {
-    let mut rest = words::tail(file, from);
-    let mut at = from;
-    let mut item: usize = 0;
-    while item < count {
-        let fault = item_fault(rest);
-        if fault != 0 {
-            return Reached {
-                fault: fault,
-                at: at,
-            };
-        }
-        words::put(table, 576 + item, words::word(rest, 4));
-        let length = words::word(rest, 0) as usize;
-        let more = words::tail(rest, length);
-        rest = more;
-        at += length;
-        item += 1;
+    if rest.len() == 0 {
+        return Reached { fault: 0, at: at };
     }
-    Reached { fault: 0, at: at }
+    Reached {
+        fault: BYTES_AFTER_LAST,
+        at: at,
+    }
 }
 
-// Reads `count` row records from byte `from` on, their columns into the table.
-fn read_rows(file: &[u8], from: usize, count: usize, items: u16, table: &mut [u16]) -> Reached
-    requires { ⌜ (from ≤ length (now file)) × (from ≤ 106) ⌝ }
-    requires { ⌜ (count ≤ 64) × (items ≤ 16) ⌝ }
-    requires { ⌜ length (now table) ≡ 592 ⌝ }
-    ensures { λ r. ⌜ RowsRead (now (file .entry)) items from count (now (table .entry)) (now (table .exit)) r ⌝ }
+// Reads `count` row records, their columns into the table; `lines`, the rest of the file, begins at byte `from`.
+fn read_rows(
+    lines: &[u8],
+    from: usize,
+    entries: &[u8],
+    count: usize,
+    items: u16,
+    table: &mut [u16],
+) -> Reached
+    requires { ⌜ ((from ≤ 106) × (count ≤ mostRows)) × (items ≤ mostItems) ⌝ }
+    requires { ⌜ length (now table) ≡ cellTotal ⌝ }
+    requires { ⌜ KindBytes (now entries) ⌝ }
+    ensures { λ r. ⌜ RowsRead from (now (lines .entry)) items count (now (table .entry)) (now (table .exit)) r ⌝ }
 {
-    let mut rest = words::tail(file, from);
+    let mut rest = lines;
     let mut at = from;
     let mut row: usize = 0;
     while row < count {
-        let fault = row_fault(rest, items);
+        let fault = row_fault(rest, entries, items);
         if fault != 0 {
             return Reached {
                 fault: fault,
                 at: at,
             };
         }
-        let length = fill_row(table, row, rest, at) as usize;
-        let more = words::tail(rest, length);
+        fill_row(table, row, rest, entries, at);
+        let size = words::word(rest, 0) as usize;
+        let more = words::tail(rest, size);
         rest = more;
-        at += length;
+        at += size;
         row += 1;
     }
-    Reached { fault: 0, at: at }
+    behind_last(rest, at)
 }
 
-// Reads a diagram file's head, items and rows.
+// Reads `items` item records, their initial counts into the table, and then the rows from the rest; `lines`, the rest of the file behind the
+// head, begins at byte `from`.
+fn read_items(
+    lines: &[u8],
+    from: usize,
+    entries: &[u8],
+    rows: usize,
+    items: u16,
+    table: &mut [u16],
+) -> Reached
+    requires { ⌜ ((from ≤ 10) × (rows ≤ mostRows)) × (items ≤ mostItems) ⌝ }
+    requires { ⌜ length (now table) ≡ cellTotal ⌝ }
+    requires { ⌜ KindBytes (now entries) ⌝ }
+    ensures { λ r. ⌜ ItemsRead from (now (lines .entry)) items rows (now (table .exit)) r ⌝ }
+{
+    let mut rest = lines;
+    let mut at = from;
+    let mut item: usize = 0;
+    while item < items as usize {
+        let fault = item_fault(rest, entries);
+        if fault != 0 {
+            return Reached {
+                fault: fault,
+                at: at,
+            };
+        }
+        words::put(table, COUNT as usize + item, words::word(rest, 4));
+        let size = words::word(rest, 0) as usize;
+        let more = words::tail(rest, size);
+        rest = more;
+        at += size;
+        item += 1;
+    }
+    read_rows(rest, at, entries, rows, items, table)
+}
+
+// Reads a diagram file's head, and from the rest its items and rows.
 pub(crate) fn read_records(file: &[u8], table: &mut [u16]) -> Reached
-    requires { ⌜ length (now table) ≡ 592 ⌝ }
+    requires { ⌜ length (now table) ≡ cellTotal ⌝ }
     ensures { λ r. ⌜ Recorded (now (file .entry)) (now (table .exit)) r ⌝ }
 {
-    let fault = head_fault(file);
+    let entries = kinds::table();
+    let fault = head_fault(file, &entries);
     if fault != 0 {
         return Reached {
             fault: fault,
@@ -274,19 +321,6 @@ pub(crate) fn read_records(file: &[u8], table: &mut [u16]) -> Reached
     }
     let rows = words::word(file, 6) as usize;
     let items = words::word(file, 8);
-    let counts = read_items(file, 10, items as usize, table);
-    if counts.fault != 0 {
-        return counts;
-    }
-    let line = read_rows(file, counts.at, rows, items, table);
-    if line.fault != 0 {
-        return line;
-    }
-    if line.at != file.len() {
-        return Reached {
-            fault: 6,
-            at: line.at,
-        };
-    }
-    line
+    let size = words::word(file, 0) as usize;
+    read_items(words::tail(file, size), size, &entries, rows, items, table)
 }

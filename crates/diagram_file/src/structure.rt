@@ -1,8 +1,15 @@
 // The structure of an accepted diagram's rows, in one pass over the table: each row's from the row before it.
 ghost use mathlib.Core.Path.{_≡_};
-ghost use Prim.Native.Nat.{_-_, _≤_, _<_};
+ghost use Prim.Native.Nat.{_+_, _-_, _≤_, _<_};
 ghost use lib.ListN.{length};
+ghost use Rattle.effbd.specs.Diagrams.{mostRows};
+ghost use Rattle.effbd.specs.Moves.{mostWord};
+ghost use Rattle.diagram_table.specs.Cells.{cellTotal};
 ghost use Rattle.diagram_file.specs.Structure.{putStructure, AroundAt, loopingIn, followed, structured};
+use diagram_table::BRANCH_ENDED;
+use diagram_table::CLOSE;
+use diagram_table::LOOP;
+use diagram_table::OWNER;
 use nesting::Part;
 use words::kinds;
 
@@ -15,25 +22,25 @@ pub(crate) struct Around {
 
 // What a row stands in, as the table says it; `row` may be any number, as an owner in the table may.
 fn around_of(table: &[u16], row: usize) -> Around
-    requires { ⌜ row ≤ 65535 ⌝ }
+    requires { ⌜ row ≤ mostWord ⌝ }
     ensures { λ r. ⌜ AroundAt (now (table .entry)) row r ⌝ }
 {
     Around {
-        owner: words::get(table, 320 + row),
-        latest: words::get(table, 384 + row),
-        looping: words::get(table, 512 + row),
+        owner: words::get(table, OWNER as usize + row),
+        latest: words::get(table, BRANCH_ENDED as usize + row),
+        looping: words::get(table, LOOP as usize + row),
     }
 }
 
 // What a row stands in, and that it has no close: the number of rows stands for none.
 fn put_structure(table: &mut [u16], rows: u16, row: usize, around: Around)
-    requires { ⌜ (row < 64) × (length (now table) ≡ 592) ⌝ }
+    requires { ⌜ (row < mostRows) × (length (now table) ≡ cellTotal) ⌝ }
     ensures { λ _. ⌜ now (table .exit) ≡ putStructure rows row (around .owner) (around .latest) (around .looping) (now (table .entry)) ⌝ }
 {
-    table[320 + row] = around.owner;
-    table[384 + row] = around.latest;
-    table[448 + row] = rows;
-    table[512 + row] = around.looping;
+    table[OWNER as usize + row] = around.owner;
+    table[BRANCH_ENDED as usize + row] = around.latest;
+    table[CLOSE as usize + row] = rows;
+    table[LOOP as usize + row] = around.looping;
 }
 
 // The innermost LP in a construct that a row of this kind opens, `looping` being the one around it.
@@ -48,7 +55,7 @@ fn looping_in(kind: u16, row: u16, looping: u16) -> u16
 
 // The structure of the row after `row`; where `row` is a close, it is that of its owner.
 fn follow(table: &mut [u16], rows: u16, row: u16)
-    requires { ⌜ (row < 63) × (length (now table) ≡ 592) ⌝ }
+    requires { ⌜ (row + 1 < mostRows) × (length (now table) ≡ cellTotal) ⌝ }
     ensures { λ _. ⌜ now (table .exit) ≡ followed rows row (now (table .entry)) ⌝ }
 {
     let at = row as usize;
@@ -69,7 +76,7 @@ fn follow(table: &mut [u16], rows: u16, row: u16)
         Part::Closes => {
             let own = around.owner as usize;
             around = around_of(table, own);
-            words::put(table, 448 + own, row);
+            words::put(table, CLOSE as usize + own, row);
         }
         Part::Stays => {}
     }
@@ -78,7 +85,7 @@ fn follow(table: &mut [u16], rows: u16, row: u16)
 
 // The structure of all rows.
 pub(crate) fn fill_structure(table: &mut [u16], rows: u16)
-    requires { ⌜ ((1 ≤ rows) × (rows ≤ 64)) × (length (now table) ≡ 592) ⌝ }
+    requires { ⌜ ((1 ≤ rows) × (rows ≤ mostRows)) × (length (now table) ≡ cellTotal) ⌝ }
     ensures { λ _. ⌜ now (table .exit) ≡ structured rows (rows - 1) (putStructure rows 0 0 0 0 (now (table .entry))) ⌝ }
 {
     let nothing = Around {

@@ -13,8 +13,8 @@ use Rattle.effbd.specs.Ranges.{least, only}
 use Rattle.effbd.specs.Answers.{accepted}
 use Rattle.effbd.specs.Diagrams.{Diagram, Kind, Use, function, row, rowCount, countTotal, kind, giveOf, takes, gives, usesFine, rowFine, rowFineAs}
 use Rattle.effbd.specs.States.{State, enter, makeIdle, setCounts, setRunning}
-use Rattle.effbd.specs.Moves.{enough, sumsFit, startFunction, endFunction, stepAs, wordsOutcome}
-use Rattle.diagram_file.specs.Tables.{Holds, HoldsUses}
+use Rattle.effbd.specs.Moves.{mostWord, enough, sumsFit, startFunction, endFunction, stepAs, wordsOutcome}
+use Rattle.diagram_table.specs.Held.{Holds, HoldsUses}
 use Rattle.ranges.specs.Tests.{decide, and-right, not-not}
 use Rattle.ranges.specs.RangeLaws.{all-elim, least-ext}
 use Rattle.agreement.specs.AcceptedFiles.{AllOf, Held}
@@ -22,28 +22,28 @@ use Rattle.diagram_table.specs.Cells.{usesIn}
 use Rattle.diagram_moves.specs.Decisions.{exceeds, added, changed, blockedItem, startVerdict, endVerdict, functionVerdict}
 use Rattle.diagram_moves.specs.Changes.{rowSet, countsChanged, tokenPassed, functionChange, outcomeOf}
 use Rattle.diagram_moves.specs.Stores.{Reads, like, reads-words, set-row}
-use Rattle.diagram_moves.specs.UseLaws.{least-all, amount-take, amount-give, named, unnamed, first-stop, counts-read}
+use Rattle.diagram_moves.specs.RisingUses.{least-all, amount-take, amount-give, named, unnamed, first-stop, counts-read}
 use Rattle.diagram_moves.specs.TokenMoves.{pass-reads}
 
 pub flip : (x w : ℕ) → leb w x ≡ not (ltb x w)
 flip x w = decide (ltb x w) (λ e. let z = ltb-true x w e in rw e (lt-leb w x z)) (λ e. let z = ltb-false x w e in rw e (le-leb w x z))
 
-above : (x w : ℕ) → w ≤ 65535 → ltb (65535 - w) x ≡ not (leb (x + w) 65535)
-above x w b = decide (ltb (65535 - w) x) (λ e. let z = ltb-true (65535 - w) x e in e ∙ ap not (sym (lt-leb (x + w) 65535 (omega arith))))
-    (λ e. let z = ltb-false (65535 - w) x e in e ∙ ap not (sym (le-leb (x + w) 65535 (omega arith))))
+above : (x w : ℕ) → w ≤ mostWord → ltb (mostWord - w) x ≡ not (leb (x + w) mostWord)
+above x w b = decide (ltb (mostWord - w) x) (λ e. let z = ltb-true (mostWord - w) x e in e ∙ ap not (sym (lt-leb (x + w) mostWord (omega arith))))
+    (λ e. let z = ltb-false (mostWord - w) x e in e ∙ ap not (sym (le-leb (x + w) mostWord (omega arith))))
 
 -- a sum that fits is the plain sum
-pub whole-sum : (x w : ℕ) → x + w ≤ 65535 → added x w ≡ x + w
+pub whole-sum : (x w : ℕ) → x + w ≤ mostWord → added x w ≡ x + w
 unfolding added
-whole-sum x w b = rw (le-ltb (65535 - w) x (omega arith))
+whole-sum x w b = rw (le-ltb (mostWord - w) x (omega arith))
 
-give-fits : (us : List Use) (k : ℕ) → AllOf (λ (u : Use). (u .take ≤ 65535) × (u .give ≤ 65535)) us → giveOf us k ≤ 65535
+give-fits : (us : List Use) (k : ℕ) → AllOf (λ (u : Use). (u .take ≤ mostWord) × (u .give ≤ mostWord)) us → giveOf us k ≤ mostWord
 give-fits [] k h = zero-le
 give-fits (u ∷ us) k h = decide (eqb (u .item) k) (λ e. rw e (h .0 .1)) (λ e. rw e (give-fits us k (h .1)))
 
 -- words of 16 bits
 pub record Small (l : List ℕ) : Type 0 where
-  pub small : (i : ℕ) → getD l i 0 ≤ 65535
+  pub small : (i : ℕ) → getD l i 0 ≤ mostWord
 
 module _ (d : Diagram) (held : Held d) (table : List ℕ) (h : Holds d (rowCount d) (countTotal d) table) (file : List ℕ) (u : HoldsUses file d table)
     (l : List ℕ) (s : State) (e : Reads d l s) (r : ℕ) (r-in : r < rowCount d) (f : kind d r ≡ function) where
@@ -58,7 +58,6 @@ module _ (d : Diagram) (held : Held d) (table : List ℕ) (h : Holds d (rowCount
   fine = and-right (leb (row d r .first) (row d r .second)) _ (subst (λ (k : Kind). rowFineAs k (countTotal d) (row d r) ≡ true) f (held .each r .fine))
 
   uses-are : usesIn table file r ≡ row d r .uses
-  unfolding usesIn
   uses-are = u .uses r r-in
 
   blocked-take : blockedItem false N M l (usesIn table file r) ≡ least M (λ k. ltb (s .count k) (takes d r k))
@@ -93,15 +92,15 @@ module _ (d : Diagram) (held : Held d) (table : List ℕ) (h : Holds d (rowCount
       (λ y. rw y))
 
   module _ (small : Small l) where
-    blocked-give : blockedItem true N M l (usesIn table file r) ≡ least M (λ k. not (leb (s .count k + gives d r k) 65535))
+    blocked-give : blockedItem true N M l (usesIn table file r) ≡ least M (λ k. not (leb (s .count k + gives d r k) mostWord))
     unfolding exceeds N M
-    blocked-give = rw uses-are (first-stop true M (s .count) (λ k b. le-ltb 65535 (s .count k) (rw (← e .count k b) (small .small _))) N l (e .count) (row d r .uses) 0 fine
-        ∙ least-ext M _ _ (λ k b. ap (λ (x : ℕ). ltb (65535 - x) (s .count k)) (amount-give (row d r .uses) k)
+    blocked-give = rw uses-are (first-stop true M (s .count) (λ k b. le-ltb mostWord (s .count k) (rw (← e .count k b) (small .small _))) N l (e .count) (row d r .uses) 0 fine
+        ∙ least-ext M _ _ (λ k b. ap (λ (x : ℕ). ltb (mostWord - x) (s .count k)) (amount-give (row d r .uses) k)
         ∙ above (s .count k) (gives d r k) (give-fits (row d r .uses) k (held .each r .uses))))
 
-    gives-all : ltb (least M (λ k. not (leb (s .count k + gives d r k) 65535))) M ≡ not (sumsFit d r s)
+    gives-all : ltb (least M (λ k. not (leb (s .count k + gives d r k) mostWord))) M ≡ not (sumsFit d r s)
     unfolding M
-    gives-all = least-all M (λ k. not (leb (s .count k + gives d r k) 65535)) (λ k. leb (s .count k + gives d r k) 65535) (λ k c. sym (not-not (leb (s .count k + gives d r k) 65535)))
+    gives-all = least-all M (λ k. not (leb (s .count k + gives d r k) mostWord)) (λ k. leb (s .count k + gives d r k) mostWord) (λ k c. sym (not-not (leb (s .count k + gives d r k) mostWord)))
 
     given : sumsFit d r s ≡ true → Reads d (countsChanged true N (usesIn table file r) l) (setCounts (λ k. s .count k + gives d r k) s)
     unfolding changed N M
@@ -111,13 +110,13 @@ module _ (d : Diagram) (held : Held d) (table : List ℕ) (h : Holds d (rowCount
           turns = λ q c. refl;
           clock = λ q c. refl;
           count = λ k c. decide (named (row d r .uses) k)
-              (λ y. rw y (ap (added (s .count k)) (amount-give (row d r .uses) k) ∙ whole-sum (s .count k) (gives d r k) (leb-true (s .count k + gives d r k) 65535 (all-elim M (λ k. leb (s .count k + gives d r k) 65535) fit k c))))
+              (λ y. rw y (ap (added (s .count k)) (amount-give (row d r .uses) k) ∙ whole-sum (s .count k) (gives d r k) (leb-true (s .count k + gives d r k) mostWord (all-elim M (λ k. leb (s .count k + gives d r k) mostWord) fit k c))))
               (λ y. rw (y, ← amount-give (row d r .uses) k, unnamed true (row d r .uses) k y) (sym (add-zero (s .count k))));
         }))
 
     end-is : suc r < rowCount d → outcomeOf (endVerdict table N M file l r) (tokenPassed table r (suc r) (countsChanged true N (usesIn table file r) l)) ≡ wordsOutcome d (endFunction d r s)
     unfolding endVerdict wordsOutcome M N
-    end-is c = rw (e .clock r r-in, h .firsts r r-in, blocked-give, gives-all) (decide (ltb (s .clock r) (row d r .first))
+    end-is c = rw (e .clock r r-in, h .records .firsts r r-in, blocked-give, gives-all) (decide (ltb (s .clock r) (row d r .first))
         (λ y. rw y)
         (λ y. rw y (decide (sumsFit d r s)
         (λ z. rw z (ap accepted (reads-words d _ (enter d (suc r) (makeIdle (only r) (setCounts (λ k. s .count k + gives d r k) s)))

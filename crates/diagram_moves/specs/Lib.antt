@@ -1,9 +1,9 @@
 pub mod Decisions
 pub mod Changes
 pub mod Stores
-pub mod Loops
-pub mod UseLaws
+pub mod RowStores
+pub mod RisingUses
 pub mod TokenMoves
 pub mod FunctionMoves
-pub mod WholeMoves
-pub mod Files
+pub mod MovesAre
+pub mod FileMoves

@@ -14,7 +14,7 @@ use Rattle.effbd.specs.Diagrams.{Diagram, Kind, branch, end, numberOf, rowCount
 use Rattle.effbd.specs.Nesting.{owner, isClose, branchOf}
 use Rattle.effbd.specs.States.{State, enteredRow, activate, enter, branchEntries, makeIdle, clearRows}
 use Rattle.effbd.specs.Moves.{allDone, ifReady, wordsOutcome}
-use Rattle.diagram_file.specs.Tables.{Holds}
+use Rattle.diagram_table.specs.Held.{Holds}
 use Rattle.diagram_file.proofs.HeldCells.{entered-cell, branch-cell}
 use Rattle.ranges.specs.Tests.{decide, and-left}
 use Rattle.ranges.specs.RangeLaws.{all-intro, all-elim, all-fail, all-find, all-ext}
@@ -24,7 +24,7 @@ use Rattle.diagram_table.specs.Cells.{kindIn}
 use Rattle.diagram_moves.specs.Decisions.{doneAt, doneFrom, allDoneTo, readyVerdict}
 use Rattle.diagram_moves.specs.Changes.{fold, startingAt, rowSet, clearTurn, rowsCleared, entered, tokenPassed, branchTurn, branchesTurned, outcomeOf}
 use Rattle.diagram_moves.specs.Stores.{Reads, like, reads-words, set-row}
-use Rattle.diagram_moves.specs.Loops.{idle-fold, clear-fold, and-false}
+use Rattle.diagram_moves.specs.RowStores.{idle-fold, clear-fold, and-false}
 use Rattle.agreement.specs.Reach.{next-in, entered-in, branch-behind, branch-before}
 
 -- what all numbers from n on pass, all below n decide
@@ -35,13 +35,13 @@ all-cut n N f b h = decide (allBelow n f)
 
 module _ (d : Diagram) (acc : wellNested d ≡ true) (table : List ℕ) (h : Holds d (rowCount d) (countTotal d) table) where
   pub number-is : (q : ℕ) (k : Kind) → q < rowCount d → kind d q ≡ k → kindIn table q ≡ numberOf k
-  number-is q k b e = h .kinds q b ∙ ap numberOf e
+  number-is q k b e = h .records .kinds q b ∙ ap numberOf e
 
   pub idle-reads : (l : List ℕ) (s : State) (r : ℕ) → r < rowCount d → Reads d l s → Reads d (rowSet r 0 l) (makeIdle (only r) s)
   idle-reads l s r b e = set-row d (λ q. 0) l s r b e
 
   activate-reads : (l : List ℕ) (s : State) (r : ℕ) → r < rowCount d → Reads d l s → Reads d (rowSet r (cond (eqb (kindIn table r) 18) 3 1) l) (activate d (only r) s)
-  activate-reads l s r b e = rw (h .kinds r b) (set-row d (λ q. cond (isKind d branch q) 3 1) l s r b e)
+  activate-reads l s r b e = rw (h .records .kinds r b) (set-row d (λ q. cond (isKind d branch q) 3 1) l s r b e)
 
   pub enter-reads : (l : List ℕ) (s : State) (q : ℕ) → q < rowCount d → Reads d l s → Reads d (entered table q l) (enter d q s)
   unfolding entered

@@ -1,21 +1,20 @@
 // Counts and clocks: takes, gives and ticks.
 ghost use mathlib.Core.Path.{_≡_};
-ghost use Rattle.effbd.specs.Diagrams.{usesAt};
-ghost use Rattle.diagram_table.specs.Cells.{usesIn};
+ghost use Rattle.diagram_table.specs.Cells.{usesOf, usesIn};
 ghost use Rattle.diagram_moves.specs.Decisions.{added as adding};
 ghost use Rattle.diagram_moves.specs.Decisions.{changed as changing};
 ghost use Rattle.diagram_moves.specs.Changes.{countsChanged, tickTurn, fold};
 use diagram_decide::cells;
 use diagram_decide::uses;
-use diagram_table::USES_NUMBER;
-use diagram_table::USES_START;
+use diagram_table::USE_SIZE;
+use effbd::limits::MOST_WORD;
 
 // A sum, which stops at 65,535.
 fn added(number: u16, more: u16) -> u16
     ensures { λ r. ⌜ r ≡ adding number more ⌝ }
 {
-    if 65535 - more < number {
-        return 65535;
+    if MOST_WORD - more < number {
+        return MOST_WORD;
     }
     number + more
 }
@@ -33,11 +32,12 @@ fn changed(giving: bool, count: u16, amount: u16) -> u16
     0
 }
 
-fn change_uses(uses: &[u8], number: u16, rows: u32, state: &mut [u16], giving: bool)
-    ensures { λ _. ⌜ now (state .exit) ≡ countsChanged giving rows (usesAt number (now (uses .entry))) (now (state .entry)) ⌝ }
+// The takes or the gives of some uses.
+fn change_uses(uses: &[u8], rows: u32, state: &mut [u16], giving: bool)
+    ensures { λ _. ⌜ now (state .exit) ≡ countsChanged giving rows (usesOf (now (uses .entry))) (now (state .entry)) ⌝ }
 {
     let mut rest = uses;
-    for use_number in 0..number {
+    while USE_SIZE <= rest.len() {
         let item = words::word(rest, 0) as u32;
         let amount = uses::amount(rest, giving);
         let count = cells::count(state, rows, item);
@@ -46,12 +46,12 @@ fn change_uses(uses: &[u8], number: u16, rows: u32, state: &mut [u16], giving: b
             3 * rows as usize + item as usize,
             changed(giving, count, amount),
         );
-        let more = words::tail(rest, 6);
+        let more = words::tail(rest, USE_SIZE);
         rest = more;
     }
 }
 
-// The takes or the gives of a row's uses.
+// The takes or the gives of a row's uses, which are the very bytes of the file.
 pub(crate) fn change_counts(
     table: &[u16],
     rows: u32,
@@ -62,10 +62,8 @@ pub(crate) fn change_counts(
 )
     ensures { λ _. ⌜ now (state .exit) ≡ countsChanged giving rows (usesIn (now (table .entry)) (now (file .entry)) row) (now (state .entry)) ⌝ }
 {
-    let start = diagram_table::cell(table, USES_START, row);
-    let number = diagram_table::cell(table, USES_NUMBER, row);
-    let uses = words::tail(file, start as usize);
-    change_uses(uses, number, rows, state, giving);
+    let uses = diagram_table::uses(file, table, row);
+    change_uses(uses, rows, state, giving);
 }
 
 fn tick_row(state: &mut [u16], ticks: u16, row: u32)

@@ -12,6 +12,8 @@ use diagram_table::FIRST;
 use diagram_table::LOOP;
 use diagram_table::OWNER;
 use effbd::Answer;
+use effbd::moves;
+use effbd::refusals;
 use words::kinds;
 
 mod counts;
@@ -96,7 +98,7 @@ fn step_row(table: &[u16], rows: u32, file: &[u8], state: &mut [u16], row: u16)
 fn write(table: &[u16], rows: u32, file: &[u8], state: &mut [u16], code: u16, argument: u16)
     ensures { λ _. ⌜ now (state .exit) ≡ moveChange (now (table .entry)) rows (now (file .entry)) code argument (now (state .entry)) ⌝ }
 {
-    if code == 1 {
+    if code == moves::STEP {
         step_row(table, rows, file, state, argument);
     } else {
         counts::pass_ticks(state, rows, argument);
@@ -157,7 +159,7 @@ pub fn fresh(file: &[u8], state: &mut [u16]) -> Answer
     }
     let size = state.len();
     if size != 3 * diagram.rows as usize + diagram.items as usize {
-        return Answer::Refused(20, 0);
+        return Answer::Refused(refusals::STATE_OFF, 0);
     }
     let fresh = diagram.fresh();
     words::copy(state, &fresh[0..size]);

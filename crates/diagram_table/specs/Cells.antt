@@ -1,11 +1,28 @@
--- The columns of a diagram's table, as crate diagram_file fills it, and what they say of a construct's BRANCH rows and of entering a row.
--- Past the table's end a cell is 0. Assumes nothing.
-use Prim.Native.Nat.{ℕ, _+_}
+-- The layout of a diagram's table: a cell for each row in each column, then a cell for each item; and what the columns say of a row's uses,
+-- of a construct's BRANCH rows and of entering a row. Past the table's end a cell is 0. Assumes nothing.
+use Prim.Native.Nat.{ℕ, _+_, _*_, _/_}
 use mathlib.Core.Bool.{Bool, cond, _&&_}
-use mathlib.Core.List.{List}
-use lib.ListN.{getD, drop}
-use lib.Dec.{eqb}
-use Rattle.effbd.specs.Diagrams.{Use, usesAt}
+use mathlib.Core.List.{List, []}
+use lib.ListN.{length, getD, take, drop}
+use lib.Dec.{leb, eqb}
+use Rattle.effbd.specs.Diagrams.{mostRows, mostItems, Use, usesAt}
+use Rattle.effbd.specs.Nesting.{Part, partIn}
+
+-- the cell of a row in a column: 0 kind, 1 first field (α or count), 2 second field (β), 3 byte offset of its uses, 4 number of its uses,
+-- 5 owner, 6 latest BRANCH, 7 close, 8 innermost LP
+abbrev pub cellOf : (column row : ℕ) → ℕ
+cellOf column row = mostRows * column + row
+
+abbrev pub columns : ℕ
+columns = 9
+
+-- the cell of an item's initial count
+abbrev pub countCell : ℕ → ℕ
+countCell k = mostRows * columns + k
+
+-- how many cells a table has
+abbrev pub cellTotal : ℕ
+cellTotal = mostRows * columns + mostItems
 
 module _ (table : List ℕ) where
   abbrev pub kindIn : ℕ → ℕ
@@ -13,38 +30,42 @@ module _ (table : List ℕ) where
 
   -- α of a FUNCTION, the count of an IT open; β of a FUNCTION
   abbrev pub firstIn : ℕ → ℕ
-  firstIn r = getD table (64 + r) 0
+  firstIn r = getD table (cellOf 1 r) 0
 
   abbrev pub secondIn : ℕ → ℕ
-  secondIn r = getD table (128 + r) 0
+  secondIn r = getD table (cellOf 2 r) 0
 
   -- the byte offset of a row's uses, and their number
   abbrev pub usesStartIn : ℕ → ℕ
-  usesStartIn r = getD table (192 + r) 0
+  usesStartIn r = getD table (cellOf 3 r) 0
 
   abbrev pub usesNumberIn : ℕ → ℕ
-  usesNumberIn r = getD table (256 + r) 0
+  usesNumberIn r = getD table (cellOf 4 r) 0
 
   -- the open row of the construct that a row stands in, the BRANCH that it ends, its close, its loop
   abbrev pub ownerIn : ℕ → ℕ
-  ownerIn r = getD table (320 + r) 0
+  ownerIn r = getD table (cellOf 5 r) 0
 
   abbrev pub branchIn : ℕ → ℕ
-  branchIn r = getD table (384 + r) 0
+  branchIn r = getD table (cellOf 6 r) 0
 
   abbrev pub closeIn : ℕ → ℕ
-  closeIn r = getD table (448 + r) 0
+  closeIn r = getD table (cellOf 7 r) 0
 
   abbrev pub loopIn : ℕ → ℕ
-  loopIn r = getD table (512 + r) 0
+  loopIn r = getD table (cellOf 8 r) 0
 
   -- the initial count of an item
   abbrev pub countIn : ℕ → ℕ
-  countIn k = getD table (576 + k) 0
+  countIn k = getD table (countCell k) 0
 
-  -- a row's uses
-  unfoldable pub usesIn : List ℕ → ℕ → List Use
-  usesIn file r = usesAt (usesNumberIn r) (drop (usesStartIn r) file)
+  -- the part of a file that holds a row's uses
+  abbrev pub usesPartIn : ℕ → Part
+  usesPartIn r = record { start = usesStartIn r; size = 6 * usesNumberIn r }
+
+  -- its bytes, where the file has them all; else none
+  unfoldable pub usesBytes : List ℕ → ℕ → List ℕ
+  usesBytes file r = cond (leb (usesStartIn r + 6 * usesNumberIn r) (length file)) (partIn file (usesPartIn r)) []
 
   -- row b is a BRANCH of the construct that row o opens
   unfoldable pub isBranch : ℕ → ℕ → Bool
@@ -55,3 +76,11 @@ module _ (table : List ℕ) where
   enteredIn r = cond (eqb (kindIn r) 18)
       (cond (eqb (kindIn (ownerIn r)) 17) (branchIn r) (closeIn (ownerIn r)))
       (cond (eqb (kindIn r) 19) (branchIn r) r)
+
+-- the uses that some bytes are, 6 bytes a use
+unfoldable pub usesOf : List ℕ → List Use
+usesOf bytes = usesAt (length bytes / 6) bytes
+
+-- a row's uses
+abbrev pub usesIn : (table file : List ℕ) → ℕ → List Use
+usesIn table file r = usesOf (usesBytes table file r)

@@ -1,29 +1,47 @@
-// A diagram's table: its columns, as crate diagram_file fills them, and what they say of a construct's BRANCH rows and of entering a row.
+// A diagram's table: its layout, and what its columns, as crate diagram_file fills them, say of a row's uses, of a construct's BRANCH rows and
+// of entering a row.
 // Nothing is asked of a caller: past the table's end a cell is 0.
 ghost use mathlib.Core.Path.{_≡_};
-ghost use Prim.Native.Nat.{_+_};
+ghost use Prim.Native.Nat.{_+_, _<_};
 ghost use lib.ListN.{getD};
-ghost use Rattle.diagram_table.specs.Cells.{kindIn, isBranch, enteredIn};
+ghost use Rattle.diagram_table.specs.Cells.{kindIn, usesPartIn, usesBytes, isBranch, enteredIn};
+use effbd::limits::MOST_ITEMS;
+use effbd::limits::MOST_ROWS;
 use words::kinds;
 
-// Where each column starts, behind the kinds; the last has the items' initial counts.
-pub const FIRST: u32 = 64;
+// A column has a cell for each row; where each column starts, behind the kinds.
+pub const COLUMN: u32 = MOST_ROWS as u32;
 
-pub const SECOND: u32 = 128;
+pub const FIRST: u32 = COLUMN;
 
-pub const USES_START: u32 = 192;
+pub const SECOND: u32 = 2 * COLUMN;
 
-pub const USES_NUMBER: u32 = 256;
+pub const USES_START: u32 = 3 * COLUMN;
 
-pub const OWNER: u32 = 320;
+pub const USES_NUMBER: u32 = 4 * COLUMN;
 
-pub const BRANCH_ENDED: u32 = 384;
+pub const OWNER: u32 = 5 * COLUMN;
 
-pub const CLOSE: u32 = 448;
+pub const BRANCH_ENDED: u32 = 6 * COLUMN;
 
-pub const LOOP: u32 = 512;
+pub const CLOSE: u32 = 7 * COLUMN;
 
-pub const COUNT: u32 = 576;
+pub const LOOP: u32 = 8 * COLUMN;
+
+// Behind the columns the items' initial counts.
+pub const COUNT: u32 = 9 * COLUMN;
+
+// How many cells a table has.
+pub const CELLS: usize = COUNT as usize + MOST_ITEMS as usize;
+
+// The bytes of a use: item, take, give.
+pub const USE_SIZE: usize = 6;
+
+// Where a part of a file starts, and its size.
+pub struct Part {
+    pub start: usize,
+    pub size: usize,
+}
 
 // The kind of a row.
 pub fn kind(table: &[u16], row: u32) -> u16
@@ -37,6 +55,30 @@ pub fn cell(table: &[u16], column: u32, row: u32) -> u16
     ensures { λ r. ⌜ r ≡ getD (now (table .entry)) (column + row) 0 ⌝ }
 {
     words::get(table, column as usize + row as usize)
+}
+
+// Where the uses of a row lie in the file; of a row without uses an empty part.
+pub fn uses_part(table: &[u16], row: u32) -> Part
+    ensures { λ r. ⌜ (r .start ≡ usesPartIn (now (table .entry)) row .start) × (r .size ≡ usesPartIn (now (table .entry)) row .size) ⌝ }
+    ensures { λ r. ⌜ (r .start < 65536) × (r .size < 393216) ⌝ }
+{
+    Part {
+        start: cell(table, USES_START, row) as usize,
+        size: USE_SIZE * cell(table, USES_NUMBER, row) as usize,
+    }
+}
+
+// The uses of a row, as the very bytes of the file; where the file does not have them all, an empty part at its start.
+pub fn uses<'a, 'b>(file: &'a [u8], table: &'b [u16], row: u32) -> &'a [u8]
+    ensures { λ r. ⌜ now r ≡ usesBytes (now (table .entry)) (now (file .entry)) row ⌝ }
+{
+    let part = uses_part(table, row);
+    let start = part.start;
+    let end = start + part.size;
+    if end <= file.len() {
+        return &file[start..end];
+    }
+    &file[0..0]
 }
 
 // Row `row` is a BRANCH of the construct that row `owner` opens.

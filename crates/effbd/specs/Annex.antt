@@ -2,7 +2,7 @@
 use Prim.Native.Nat.{ℕ, zero, suc, _+_, _/_, _%_}
 use mathlib.Core.Bool.{cond}
 use mathlib.Core.List.{List, [], _∷_, _++_}
-use lib.ListN.{length}
+use lib.ListN.{length, take, drop}
 use lib.Dec.{leb, ltb, eqb}
 use Rattle.effbd.specs.Answers.{Outcome, accepted, refused, andThen}
 use Rattle.effbd.specs.Nesting.{readDiagram}
@@ -93,3 +93,7 @@ annexIn room file = printed (andThen (readDiagram file) (λ d. fitted room (netO
 
 abbrev pub annexText : List ℕ → List ℕ
 annexText file = annexIn annexRoom file
+
+-- the text over the first bytes of the area lent for it, as far as it has room
+abbrev pub over : List ℕ → List ℕ → List ℕ
+over area text = take (length area) text ++ drop (length text) area

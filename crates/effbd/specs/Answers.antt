@@ -1,5 +1,5 @@
 -- Document 01, "Returned when turned away": a result or a numbered refusal. Assumes nothing.
-use Prim.Native.Nat.{ℕ, zero, suc}
+use Prim.Native.Nat.{ℕ, zero, suc, _+_, _*_}
 use mathlib.Core.Bool.{Bool, true, false}
 use Rattle.effbd.specs.declared.Answer.{Answer}
 use Rattle.effbd.specs.declared.Answer.the-variants.{Accepted, Refused}
@@ -38,3 +38,8 @@ returningZero (refused number value) = refused number value
 abbrev pub said : Answer → Outcome ℕ
 said (Accepted value) = accepted value
 said (Refused number value) = refused number value
+
+-- an answer in one number of 64 bits, as C and Rust get it: number * 2^32 + value, number 0 where accepted
+abbrev pub packed : Outcome ℕ → ℕ
+packed (accepted value) = value
+packed (refused number value) = number * 4294967296 + value

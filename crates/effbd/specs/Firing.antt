@@ -118,6 +118,10 @@ netWordsOutcome (refused number value) = refused number value
 abbrev pub netWordCount : Net → ℕ
 netWordCount n = length (n .marks) + length (n .transitions)
 
+-- what reading a net file returns: the number of words of its state
+unfoldable pub wordsOf : Outcome Net → Outcome ℕ
+wordsOf read = andThen read (λ n. accepted (netWordCount n))
+
 -- 20 "state length wrong"; then the move
 unfoldable pub checkedNetMove : Net → Move → List ℕ → Outcome (List ℕ)
 checkedNetMove n m words = cond (eqb (length words) (netWordCount n))

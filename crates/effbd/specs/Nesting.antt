@@ -1,8 +1,8 @@
 -- Document 01, "Nesting": which constructs are open at each row, what may stand there (refusals 7, 8, 9), a whole diagram file. Assumes nothing.
-use Prim.Native.Nat.{ℕ, zero, suc, _+_, _-_}
+use Prim.Native.Nat.{ℕ, zero, suc, _+_, _-_, _*_}
 use mathlib.Core.Bool.{Bool, true, false, not, cond, _&&_, _||_}
 use mathlib.Core.List.{List, [], _∷_}
-use lib.ListN.{length, drop}
+use lib.ListN.{length, take, drop}
 use lib.Dec.{leb, ltb, eqb}
 use Rattle.effbd.specs.Ranges.{least, only, within}
 use Rattle.effbd.specs.Answers.{Outcome, accepted, refused, unless, andThen}
@@ -172,6 +172,13 @@ fromRow file r = skip r (skip (word file 8) (drop 10 file))
 pub record Part : Type 0 where
   pub start : ℕ
   pub size : ℕ
+
+-- its bytes; where it lies, in one number of 64 bits
+abbrev pub partIn : List ℕ → Part → List ℕ
+partIn file part = take (part .size) (drop (part .start) file)
+
+abbrev pub packedPart : Part → ℕ
+packedPart part = part .start * 4294967296 + part .size
 
 abbrev pub usesPartOf : List ℕ → ℕ → Outcome Diagram → Part
 usesPartOf file r (refused number value) = record { start = 0; size = 0 }

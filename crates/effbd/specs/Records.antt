@@ -1,5 +1,6 @@
 -- Document 01, "Diagram records" and "Net": words in bytes, records, the order of refusals at a record. Assumes nothing.
 use Prim.Native.Nat.{ℕ, zero, suc, _+_, _-_, _*_, _/_, _%_}
+use mathlib.Core.Path.{_≡_}
 use mathlib.Core.Bool.{Bool, true, not, cond, _&&_}
 use mathlib.Core.List.{List, [], _∷_}
 use lib.ListN.{length, getD, drop}
@@ -52,6 +53,11 @@ lengthOf k = entryIn kindTable k .base
 
 unfoldable pub fieldsOf : ℕ → ℕ
 fieldsOf k = entryIn kindTable k .fields
+
+-- the table as the code has it, in bytes: of kind k its base length at 2k, its field count at 2k + 1
+pub record KindBytes (table : List ℕ) : Type 0 where
+  pub base : (k : ℕ) → getD table (2 * k) 0 ≡ lengthOf k
+  pub fields : (k : ℕ) → getD table (2 * k + 1) 0 ≡ fieldsOf k
 
 -- "At a record: 1 (4 bytes), 2, 3, 1, fields": `due`, its kind is due here; `right`, its length is right for its kind;
 -- `fine`, its fields are (else `number`, 4 or 5). 0 where nothing is off.

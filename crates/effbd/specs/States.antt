@@ -5,8 +5,9 @@ use mathlib.Core.List.{List}
 use lib.ListN.{getD}
 use lib.Dec.{leb, ltb, eqb}
 use Rattle.effbd.specs.Ranges.{allBelow, only, tabulate}
+use Rattle.effbd.specs.Answers.{Outcome, accepted, andThen}
 use Rattle.effbd.specs.Diagrams.{Kind, function, and-open, branch, and-close, or-open, or-close, it-open, it-close, lp-open, lp-close, loop-exit, end, Diagram, rowCount, countTotal, initialCount, kind, isKind, beta, turnLimit}
-use Rattle.effbd.specs.Nesting.{owner, branchEnded, close, branchOf}
+use Rattle.effbd.specs.Nesting.{owner, branchEnded, close, branchOf, readDiagram}
 use Rattle.effbd.specs.Layout.{byPlace, places, placeOf}
 
 -- "Per row: activity (0 idle, 1 ready, 2 running, 3 done), turns, clock; then M counts"
@@ -143,3 +144,7 @@ module _ (d : Diagram) where
 
   abbrev pub statePasses : State → Bool
   statePasses s = allBelow (rowCount d) (rowPasses s)
+
+-- what reading a diagram file returns: the number of words of its state, 3N + M
+unfoldable pub stateLength : List ℕ → Outcome ℕ
+stateLength file = andThen (readDiagram file) (λ d. accepted (places d))

@@ -1,5 +1,9 @@
 // Function flow block diagrams, their nets and the bus between panel and controller: document 01 as definitions (specs/).
-// The one thing of the code that belongs to them is the answer that every call gives.
+// Of the code there belong to them the answer that every call gives, and the numbers that document 01 fixes, by name.
+
+pub mod limits;
+pub mod moves;
+pub mod refusals;
 
 // `said` in specs/Answers.antt states document 01's number and value of each case.
 pub enum Answer {

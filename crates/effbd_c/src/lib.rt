@@ -1,15 +1,14 @@
 // The functions that C and Rust programs call. A list is a pointer and its number of elements; an answer is number * 2^32 + value,
 // number 0 where accepted. Each hands its arguments on as they are: what it answers and leaves is what the called function promises.
 ghost use mathlib.Core.Path.{_≡_};
-ghost use Rattle.effbd.specs.Answers.{said, returningZero, afterwards};
+ghost use Rattle.effbd.specs.Answers.{said, returningZero, afterwards, packed};
 ghost use Rattle.effbd.specs.Moves.{stepDiagram, freshDiagram};
-ghost use Rattle.effbd.specs.Firing.{stepNet, freshNet};
+ghost use Rattle.effbd.specs.Firing.{stepNet, freshNet, wordsOf};
 ghost use Rattle.effbd.specs.Patterns.{translated};
 ghost use Rattle.effbd.specs.BusEnds.{offered, taken};
-ghost use Rattle.diagram_file.specs.Tables.{stateLength};
+ghost use Rattle.effbd.specs.States.{stateLength};
+ghost use Rattle.effbd.specs.Nesting.{usesPart, packedPart};
 ghost use Rattle.effbd.specs.Nets.{readNet};
-ghost use Rattle.net_file.specs.Due.{wordsOf};
-ghost use Rattle.effbd_c.specs.Packed.{packed};
 use effbd::Answer;
 
 // An answer as one number.
@@ -28,6 +27,15 @@ pub extern "C" fn effbd_read(file: &[u8]) -> u64
     ensures { λ r. ⌜ r ≡ packed (stateLength (now (file .entry))) ⌝ }
 {
     pack(diagram_file::read(file))
+}
+
+// Where the uses of a FUNCTION row lie in a diagram file: start * 2^32 + size; for a refused file or another row 0.
+#[no_mangle]
+pub extern "C" fn effbd_uses(file: &[u8], row: u16) -> u64
+    ensures { λ r. ⌜ r ≡ packedPart (usesPart (now (file .entry)) row) ⌝ }
+{
+    let part = diagram_file::uses_part(file, row);
+    (part.start as u64) * 4294967296 + part.size as u64
 }
 
 // The fresh state of a diagram.

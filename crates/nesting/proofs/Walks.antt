@@ -96,7 +96,7 @@ module _ (table : List ℕ) (rows from : ℕ) (o : Open) (q : ℕ) (st : RunStat
 
   judged-here : (fault : ℕ) → Faulty fault → fault ≢ 0 → RunRead table rows from o (Judged fault q)
   judged-here fault f ne = record {
-    within = let h = st .high in omega arith;
+    within = (let h = st .high in omega arith, λ z. absurd (ne z));
     ended = λ d a. record {
       good = λ e. absurd (ne e);
       bad = λ e. (st .low, omega (arith, a .kinds .count, st .high), f d a, st .reached d a .clean);
@@ -116,7 +116,7 @@ module _ (table : List ℕ) (rows from : ℕ) (o : Open) (q : ℕ) (st : RunStat
 
     pub run-end : fault ≡ 0 → RunRead table rows from o (Judged 0 0)
     run-end z = record {
-      within = omega arith;
+      within = (omega arith, λ z. refl);
       ended = λ d a. record {
         good = λ e. let n : q + 1 ≡ rowCount d = omega (arith, a .kinds .count, st .high) in subst (Clean d from) n (clean-here (λ c b. last c b ∙ z) d a);
         bad = λ ne. absurd (ne refl);
@@ -248,7 +248,7 @@ module _ (table : List ℕ) (rows opened : ℕ) (o : Open) (l : opened + 1 < row
 
     pub construct-unbranched : branchFollows table rows (opened + 1) ≡ false → ConstructRead table rows opened o (WasJudged 7 (opened + 1))
     construct-unbranched f = record {
-      within = omega arith;
+      within = (omega arith, λ z. absurd (omega arith));
       ended = λ d a e. record {
         good = λ z. absurd (omega arith);
         bad = λ z. let m : opened + 1 < rowCount d = omega (arith, a .kinds .count) in
@@ -308,6 +308,7 @@ judged-is d number row j = decide (eqb number 0)
 pub no-rows : (table : List ℕ) (rows : ℕ) → rows ≡ 0 → NestingRead table rows (record { number = 0; row = 0 })
 no-rows table rows e = record {
   within = omega arith;
+  none = λ z. refl;
   judged = λ d k. judged-is d 0 0 (record { good = λ z. record { fine = λ q l h. absurd (omega (arith, k .count)) }; bad = λ ne. absurd (ne refl) });
 }
 
@@ -318,7 +319,8 @@ module _ (table : List ℕ) (rows : ℕ) (r : Run) (read : RunRead table rows 0 
 
   pub all-judged : (number row : ℕ) → r ≡ Judged number row → NestingRead table rows (record { number = number; row = row })
   all-judged number row e = record {
-    within = subst (RunWithin 0 rows) e (read .within);
+    within = subst (RunWithin 0 rows) e (read .within) .0;
+    none = subst (RunWithin 0 rows) e (read .within) .1;
     judged = λ d k. judged-is d number row (subst (RunEnded d 0) e (ran-all d k));
   }
 
@@ -327,6 +329,7 @@ module _ (table : List ℕ) (rows : ℕ) (r : Run) (read : RunRead table rows 0 
   unfolding stack
   never-ends part j h l ends = record {
     within = omega arith;
+    none = λ z. absurd (omega arith);
     judged = λ d k. let x = ends d k in
         let seven = bare-faulty d j (x .around) (ap ending (x .does) ∙ h) in
         let none = x .clean .fine j (omega arith) (omega arith) in absurd (omega arith);

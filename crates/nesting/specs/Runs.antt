@@ -99,7 +99,7 @@ RunEnded d a (Turned j) = Ends d Turns a j
 RunEnded d a (Closed j) = Ends d Closes a j
 
 abbrev pub RunWithin : ℕ → ℕ → Run → Type 0
-RunWithin a rows (Judged number row) = row ≤ rows
+RunWithin a rows (Judged number row) = (row ≤ rows) × (number ≡ 0 → row ≡ 0)
 RunWithin a rows (Turned j) = (a ≤ j) × (j + 1 < rows)
 RunWithin a rows (Closed j) = (a ≤ j) × (j + 1 < rows)
 
@@ -113,7 +113,7 @@ ConstructEnded d a (WasJudged number row) = AllJudged d (a + 1) number row
 ConstructEnded d a (WasClosed j) = Reached d (a + 1) (j + 1) (stack d a)
 
 abbrev pub ConstructWithin : ℕ → ℕ → Construct → Type 0
-ConstructWithin a rows (WasJudged number row) = row ≤ rows
+ConstructWithin a rows (WasJudged number row) = (row ≤ rows) × (number ≡ 0 → row ≡ 0)
 ConstructWithin a rows (WasClosed j) = (a < j) × (j + 1 < rows)
 
 pub record ConstructRead (table : List ℕ) (rows opened : ℕ) (o : Open) (r : Construct) : Type 0 where
@@ -123,4 +123,6 @@ pub record ConstructRead (table : List ℕ) (rows opened : ℕ) (o : Open) (r : 
 -- the nesting of the table's rows was judged: of every diagram that has their kinds, `nested` refuses that row with that number, or accepts
 pub record NestingRead (table : List ℕ) (rows : ℕ) (r : Judgement) : Type 0 where
   pub within : r .row ≤ rows
+  -- "0 and 0 for none"
+  pub none : r .number ≡ 0 → r .row ≡ 0
   pub judged : (d : Diagram) → Kinds d rows table → nested d ≡ unless (r .number) (r .row) (accepted d)

@@ -3,7 +3,10 @@
 // Nothing is asked of a caller: past the table's end a kind is 0, which no row has.
 ghost use mathlib.Core.Path.{_≡_};
 ghost use Prim.Native.Nat.{_+_, _≤_, _<_};
+ghost use Rattle.effbd.specs.Moves.{mostWord};
 ghost use Rattle.nesting.specs.Runs.{partOf, kindIn, topIn, isAndOr, exitFits, loopsIn, closesIn, stayFault, lastFault, branchFollows, RunRead, ConstructRead, NestingRead};
+use effbd::limits::MOST_OPEN;
+use effbd::refusals;
 use words::kinds;
 
 // What a row does to the constructs that are open: adds one, turns the innermost to its next branch, takes it off, or nothing.
@@ -152,17 +155,17 @@ fn last_fault(kind: u16, top: u16) -> u16
     ensures { λ r. ⌜ r ≡ lastFault kind top ⌝ }
 {
     if kind != kinds::END {
-        return 7;
+        return refusals::NESTING_BROKEN;
     }
     if top != 0 {
-        return 7;
+        return refusals::NESTING_BROKEN;
     }
     0
 }
 
 // "AND open and OR open are followed by BRANCH at once": is the row behind one a BRANCH, and not the last row?
 fn branch_follows(table: &[u16], rows: usize, row: usize) -> bool
-    requires { ⌜ (row < rows) × (rows ≤ 65535) ⌝ }
+    requires { ⌜ (row < rows) × (rows ≤ mostWord) ⌝ }
     ensures { λ r. ⌜ r ≡ branchFollows (now (table .entry)) rows row ⌝ }
 {
     if kind_in(table, rows, row) != kinds::BRANCH {
@@ -174,8 +177,8 @@ fn branch_follows(table: &[u16], rows: usize, row: usize) -> bool
 // Reads rows from `from` on, up to the BRANCH or close of the construct that they stand in. No row of a run stands right behind an AND open
 // or OR open, and the last row is judged behind the loop: so each row is looked at once, by its part.
 fn read_run(table: &[u16], rows: usize, from: usize, around: Open) -> Run
-    requires { ⌜ (from < rows) × (rows ≤ 65535) ⌝ }
-    requires { ⌜ (around .depth ≤ 12) × (around .opened ≤ 65535) ⌝ }
+    requires { ⌜ (from < rows) × (rows ≤ mostWord) ⌝ }
+    requires { ⌜ (around .depth ≤ 12) × (around .opened ≤ mostWord) ⌝ }
     ensures { λ r. ⌜ RunRead (now (table .entry)) rows from around r ⌝ }
 {
     let top = top_in(table, rows, around);
@@ -186,8 +189,8 @@ fn read_run(table: &[u16], rows: usize, from: usize, around: Open) -> Run
         let part = part_of(kind);
         match part {
             Part::Opens => {
-                if 12 <= around.depth {
-                    return Run::Judged(9, row);
+                if MOST_OPEN <= around.depth {
+                    return Run::Judged(refusals::TOO_MANY_OPEN, row);
                 }
                 let inner = read_construct(table, rows, row, around);
                 match inner {
@@ -203,13 +206,13 @@ fn read_run(table: &[u16], rows: usize, from: usize, around: Open) -> Run
                 if is_and_or(top) {
                     return Run::Turned(row);
                 }
-                return Run::Judged(7, row);
+                return Run::Judged(refusals::NESTING_BROKEN, row);
             }
             Part::Closes => {
                 if closes(kind, top, two) {
                     return Run::Closed(row);
                 }
-                return Run::Judged(7, row);
+                return Run::Judged(refusals::NESTING_BROKEN, row);
             }
             Part::Stays => {
                 let fault = stay_fault(kind, kind_in(table, rows, row + 1), top, around.looped);
@@ -229,7 +232,7 @@ fn read_run(table: &[u16], rows: usize, from: usize, around: Open) -> Run
 
 // Reads the construct that row `opened` opens, up to its close; `around` is what is open around it.
 fn read_construct(table: &[u16], rows: usize, opened: usize, around: Open) -> Construct
-    requires { ⌜ (opened + 1 < rows) × (rows ≤ 65535) ⌝ }
+    requires { ⌜ (opened + 1 < rows) × (rows ≤ mostWord) ⌝ }
     requires { ⌜ around .depth < 12 ⌝ }
     ensures { λ r. ⌜ ConstructRead (now (table .entry)) rows opened around r ⌝ }
 {
@@ -239,7 +242,7 @@ fn read_construct(table: &[u16], rows: usize, opened: usize, around: Open) -> Co
     let mut from = opened + 1;
     if is_and_or(kind) {
         if !branch_follows(table, rows, from) {
-            return Construct::Judged(7, from);
+            return Construct::Judged(refusals::NESTING_BROKEN, from);
         }
         from += 1;
     }
@@ -286,11 +289,11 @@ pub fn read_nesting(table: &[u16], rows: u16) -> Judgement
             row: row,
         },
         Run::Turned(row) => Judgement {
-            number: 7,
+            number: refusals::NESTING_BROKEN,
             row: row,
         },
         Run::Closed(row) => Judgement {
-            number: 7,
+            number: refusals::NESTING_BROKEN,
             row: row,
         },
     }

@@ -1,7 +1,7 @@
-pub mod Records
 pub mod Tails
 pub mod Turns
 pub mod Walks
-pub mod Accepted
-pub mod Standing
 pub mod Places
+pub mod Standing
+pub mod Accepted
+pub mod Headed

@@ -1,11 +1,11 @@
--- What the bytes of a net file say, accepted or not, read by tails; and what arcs and transitions may follow one another. Assumes nothing.
+-- What the bytes of a net file say, accepted or not, read by tails. Assumes nothing.
 use Prim.Native.Nat.{ℕ, zero, suc, _+_, _*_}
-use mathlib.Core.Bool.{Bool, true, cond, _&&_}
+use mathlib.Core.Bool.{Bool, cond, _&&_}
 use mathlib.Core.List.{List, [], _∷_}
 use lib.ListN.{length, drop}
 use lib.Dec.{leb}
 use Rattle.effbd.specs.Records.{word, kindAt}
-use Rattle.effbd.specs.Nets.{Arc, Transition, takeArc, mostPlaces, mostTransitions, arcDue, arcFine, above, transitionFine, arcAt}
+use Rattle.effbd.specs.Nets.{Arc, Transition, takeArc, mostPlaces, mostTransitions, arcDue, arcAt}
 
 -- an arc stands at the start
 unfoldable pub arcHere : List ℕ → Bool
@@ -41,15 +41,6 @@ partAt (suc j) rest = partAt j (afterTransition rest)
 -- where the transitions begin, in a file of so many places
 unfoldable pub behindPlaces : ℕ → List ℕ → List ℕ
 behindPlaces places file = drop (8 + 6 * places) file
-
--- arcs that may follow one of kind k, those of kind k with places from `from` on; transitions that may follow a label
-unfoldable pub arcsFine : (count k from : ℕ) → List Arc → Bool
-arcsFine count k from [] = true
-arcsFine count k from (x ∷ xs) = arcDue k (x .kind) && (arcFine count k from x && arcsFine count (x .kind) (above x) xs)
-
-unfoldable pub transitionsFine : (count label : ℕ) → List Transition → Bool
-transitionsFine count label [] = true
-transitionsFine count label (t ∷ ts) = transitionFine label t && (arcsFine count takeArc 0 (t .arcs) && transitionsFine count (t .label) ts)
 
 -- the head's values
 unfoldable pub headFine : (places transitions : ℕ) → Bool

@@ -8,9 +8,9 @@ use Rattle.effbd.specs.Diagrams.{end, Diagram, rowCount, kind}
 use Rattle.effbd.specs.States.{enteredRow}
 use Rattle.agreement.specs.AcceptedFiles.{Held}
 use Rattle.agreement.specs.Reach.{next-in, entered-in}
-use Rattle.diagram_file.specs.Tables.{Holds}
+use Rattle.diagram_table.specs.Held.{Holds}
 use Rattle.diagram_file.proofs.HeldCells.{entered-cell}
-use Rattle.net_loops.specs.Loops.{entry}
+use Rattle.net_loops.specs.LoopTransitions.{entry}
 
 module _ (d : Diagram) (rows items : ℕ) (table : List ℕ) (h : Holds d rows items table) where
   pub entry-cell : (q : ℕ) → suc q < rowCount d → entry table (q + 1) ≡ 3 * enteredRow d (suc q)

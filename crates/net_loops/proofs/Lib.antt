@@ -1,6 +1,6 @@
 pub mod Weights
-pub mod Ranges
-pub mod Patterns
+pub mod ClearRanges
+pub mod PatternRecords
 pub mod Entries
 pub mod LoopRecords
-mod Steps
+mod ComputedTransitions

@@ -21,14 +21,14 @@ use Rattle.agreement.specs.AcceptedFiles.{Held}
 use Rattle.agreement.specs.Structure.{Laws, opens}
 use Rattle.agreement.specs.NestingLaws.{laws}
 use Rattle.agreement.specs.Reach.{close-in, entered-in}
-use Rattle.diagram_file.specs.Tables.{Holds}
+use Rattle.diagram_table.specs.Held.{Holds}
 use Rattle.diagram_file.proofs.HeldCells.{in-rows, kind-cell, close-cell}
 use Rattle.net_records.specs.Writing.{Records, runs, span}
 use Rattle.net_records.specs.Records.{arc}
 use Rattle.net_records.proofs.Runs.{runs-same, runs-span}
-use Rattle.net_loops.specs.Loops.{early, late, itTurn, itOpen, restore, leave, loopExit}
+use Rattle.net_loops.specs.LoopTransitions.{early, late, itTurn, itOpen, restore, leave, loopExit}
 use Rattle.net_loops.proofs.Weights.{arc-none, weights, count-none, at-P, mark-P, entry-among, it-gives}
-use Rattle.net_loops.proofs.Patterns.{patternRecords, allPatterns, one-clear, unclearing}
+use Rattle.net_loops.proofs.PatternRecords.{patternRecords, allPatterns, one-clear, unclearing}
 use Rattle.net_loops.proofs.Entries.{entry-cell, next-entry, next-entered}
 
 -- an IT open: P and what it takes at Q or R; what it gives there, and the entry
@@ -58,7 +58,7 @@ module _ (d : Diagram) (rows items : ℕ) (table : List ℕ) (h : Holds d rows i
       (entered-in d (held .acc) (suc (close d r)) behind)
       (λ q n. (rw (ne-eqb q r n), refl)) (λ q n. (refl, rw (ne-eqb q r n)))
       (rw (arc-none takeArc (3 * r + 2) refl, only-refl r, append-nil)) (rw (arc-none giveArc (3 * r + 1) refl, only-refl r))
-      ∙ rw (h .firsts r (in-rows d rows items table h r l), close-cell d rows items table h r l, entry-cell d rows items table h (close d r) behind))))
+      ∙ rw (h .records .firsts r (in-rows d rows items table h r l), close-cell d rows items table h r l, entry-cell d rows items table h (close d r) behind))))
     where
       no-end : kind d r ≢ end
       no-end = not-kind d r e end refl
@@ -104,7 +104,7 @@ module _ (d : Diagram) (rows items : ℕ) (table : List ℕ) (h : Holds d rows i
       g q = arc giveArc (3 * q + 1) 0 ++ arc giveArc (3 * q + 2) (restoresR d (inLoop d r) q)
 
       turn : (q : ℕ) → o ≤ q → q ≤ c → g q ≡ restore table q
-      turn q a b = let w = cl in unfold restore in rw (arc-none giveArc (3 * q + 1) refl, le-leb o q a, le-leb q c b, kind-cell d rows items table h q (omega arith), h .firsts q (in-rows d rows items table h q (omega arith)))
+      turn q a b = let w = cl in unfold restore in rw (arc-none giveArc (3 * q + 1) refl, le-leb o q a, le-leb q c b, kind-cell d rows items table h q (omega arith), h .records .firsts q (in-rows d rows items table h q (omega arith)))
           (decide (isKind d it-open q) (λ z. rw z) (λ z. rw z (arc-none giveArc (3 * q + 2) refl)))
 
       off : (q : ℕ) → within o c q ≡ false → g q ≡ []

@@ -17,7 +17,7 @@ use Rattle.ranges.specs.RangeLaws.{only-refl}
 use Rattle.agreement.specs.Numbering.{place-P, place-Q, place-R, place-I}
 use Rattle.net_records.specs.Writing.{Records, runs}
 use Rattle.net_records.specs.Records.{arc}
-use Rattle.net_loops.specs.Loops.{early, late}
+use Rattle.net_loops.specs.LoopTransitions.{early, late}
 use Rattle.net_records.proofs.Nets.{arcRecord}
 use Rattle.net_records.proofs.Runs.{runs-same, runs-none, runs-plus, runs-threes, runs-one, runs-first, runs-last}
 

@@ -3,7 +3,7 @@
 ghost use mathlib.Core.Path.{_≡_};
 ghost use Prim.Native.Nat.{_+_};
 ghost use Rattle.net_records.specs.Writing.{Wrote, span};
-ghost use Rattle.net_loops.specs.Loops.{entry as entryOf, early as earlyOf, late as lateOf, itTurn, itOpen, restore as restoreRecords, leave as leaveRecords, loopExit};
+ghost use Rattle.net_loops.specs.LoopTransitions.{entry as entryOf, early as earlyOf, late as lateOf, itTurn, itOpen, restore as restoreRecords, leave as leaveRecords, loopExit};
 use diagram_table::CLOSE;
 use diagram_table::FIRST;
 use diagram_table::LOOP;

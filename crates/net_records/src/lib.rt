@@ -76,7 +76,11 @@ fn add(area: &mut [u8], at: usize, fields: &[u16]) -> usize
     next
 }
 
-// A record of two numbers: the head (places, transitions), a clear (first, last place).
+// What follows takes places, labels and numbers of transitions as its callers work them out, in usize, from any table. A record holds
+// 16 bits of each, and what is above is cut: of the net of an accepted diagram nothing, since its places and transitions keep a
+// head's limits and its labels are its rows (`net-well-formed`, crate agreement).
+
+// A record of two numbers, both cut: the head (places, transitions), a clear (first, last place).
 pub fn pair(area: &mut [u8], at: usize, kind: u16, first: usize, second: usize) -> usize
     ensures { λ r. ⌜ Wrote (now (area .entry)) at (now (area .exit)) r (pairRecord kind first second) ⌝ }
 {
@@ -84,7 +88,7 @@ pub fn pair(area: &mut [u8], at: usize, kind: u16, first: usize, second: usize) 
     add(area, at, &fields)
 }
 
-// A take or a give; "zero weights left out".
+// A take or a give, its place cut; "zero weights left out".
 pub fn arc(area: &mut [u8], at: usize, kind: u16, place: usize, weight: u16) -> usize
     ensures { λ r. ⌜ Wrote (now (area .entry)) at (now (area .exit)) r (arcRecord kind place weight) ⌝ }
 {
@@ -95,6 +99,7 @@ pub fn arc(area: &mut [u8], at: usize, kind: u16, place: usize, weight: u16) -> 
     add(area, at, &fields)
 }
 
+// A transition without its arcs, its label cut.
 pub fn transition(area: &mut [u8], at: usize, label: usize, earliest: u16, latest: u16) -> usize
     ensures { λ r. ⌜ Wrote (now (area .entry)) at (now (area .exit)) r (transitionRecord label earliest latest) ⌝ }
 {
@@ -102,6 +107,7 @@ pub fn transition(area: &mut [u8], at: usize, label: usize, earliest: u16, lates
     add(area, at, &fields)
 }
 
+// A place with its mark.
 pub fn mark(area: &mut [u8], at: usize, weight: u16) -> usize
     ensures { λ r. ⌜ Wrote (now (area .entry)) at (now (area .exit)) r (markRecord weight) ⌝ }
 {

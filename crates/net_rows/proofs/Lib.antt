@@ -1,8 +1,9 @@
-pub mod Uses
-pub mod Walks
-pub mod Nesting
-pub mod Branches
+mod Underway
+pub mod UseArcs
+pub mod ConstructWalks
+pub mod ConstructRows
+pub mod BranchGives
 pub mod RowRecords
-pub mod NetParts
+pub mod HeadMarksTransitions
 pub mod RowSizes
-pub mod Steps
+pub mod ComputedRecords

@@ -7,7 +7,6 @@ use mathlib.Core.List.{List, [], _∷_, _++_, append-assoc, append-nil}
 use native.Mathlib.Omega.{arith}
 use lib.Dec.{leb, eqb}
 use borrow.Author.Tests.{eqb-true}
-use Rattle.effbd.specs.Records.{word}
 use Rattle.effbd.specs.Ranges.{only}
 use Rattle.effbd.specs.Diagrams.{Kind, function, and-open, branch, and-close, or-open, or-close, it-open, it-close, lp-open, lp-close, loop-exit, end, Diagram, Use, numberOf, rowCount, countTotal, row, kind, isKind, takeOf, giveOf, takes, gives, usesFine, rowFine, rowFineAs}
 use Rattle.effbd.specs.Layout.{byPlace}
@@ -21,19 +20,19 @@ use Rattle.agreement.specs.AcceptedFiles.{Held}
 use Rattle.agreement.specs.Structure.{Laws, opens}
 use Rattle.agreement.specs.NestingLaws.{laws}
 use Rattle.agreement.specs.Reach.{close-in}
-use Rattle.diagram_table.specs.Cells.{usesStartIn, usesNumberIn, closeIn, isBranch}
-use Rattle.diagram_file.specs.Tables.{Holds, HoldsUses}
+use Rattle.diagram_table.specs.Cells.{usesIn, closeIn, isBranch}
+use Rattle.diagram_table.specs.Held.{Holds, HoldsUses}
 use Rattle.diagram_file.proofs.HeldCells.{in-rows, kind-cell, owner-cell, owner-kind, close-cell, branch-cell}
 use Rattle.net_records.specs.Writing.{Records, runs, span}
 use Rattle.net_records.specs.Records.{arc}
-use Rattle.net_rows.specs.Rows.{token, useArc, useArcs, functionStart, functionEnd, branchPlace, branchArc, branchArcs, andOpen, andClose, branchToken, onward, back, rowAs, rowRecords}
+use Rattle.net_rows.specs.Rows.{token, useWeight, useArcs, functionStart, functionEnd, functionRecords, branchPlace, branchArc, branchArcs, andOpen, andClose, orToken, branchToken, onward, back, rowAs, rowRecords}
 use Rattle.net_records.proofs.Runs.{runs-same, runs-span}
-use Rattle.net_rows.proofs.Uses.{uses-read}
-use Rattle.net_rows.proofs.Walks.{walk-span}
-use Rattle.net_rows.proofs.Nesting.{behind-branch, branch-inside, owner-inside}
-use Rattle.net_rows.proofs.Branches.{images}
+use Rattle.net_rows.proofs.UseArcs.{by-count}
+use Rattle.net_rows.proofs.ConstructWalks.{walk-span}
+use Rattle.net_rows.proofs.ConstructRows.{behind-branch, branch-inside, owner-inside}
+use Rattle.net_rows.proofs.BranchGives.{images}
 use Rattle.net_loops.proofs.Weights.{arc-none, countArcs, at-P, mark-P, mark-Q, mark-each}
-use Rattle.net_loops.proofs.Patterns.{patternRecords, allPatterns, unclearing}
+use Rattle.net_loops.proofs.PatternRecords.{patternRecords, allPatterns, unclearing}
 use Rattle.net_loops.proofs.Entries.{next-entry, next-entered}
 use Rattle.net_loops.proofs.LoopRecords.{it-open-is, loop-exit-is}
 
@@ -50,34 +49,38 @@ module _ (d : Diagram) (rows items : ℕ) (table file : List ℕ) (h : Holds d r
   uses-fine r e = and-right (leb (row d r .first) (row d r .second)) _ (subst (λ k. rowFineAs k (countTotal d) (row d r) ≡ true) e (unfold rowFine in held .each r .fine))
 
   -- the takes or gives of a FUNCTION's uses
-  uses-are : (r k j : ℕ) (field : Use → ℕ) (weight : List Use → ℕ → ℕ) → r < rowCount d → kind d r ≡ function
-      → ((bytes : List ℕ) → field (record { item = word bytes 0; take = word bytes 2; give = word bytes 4 }) ≡ word bytes j)
-      → ((i : ℕ) → weight [] i ≡ 0) → ((x : Use) (xs : List Use) (i : ℕ) → weight (x ∷ xs) i ≡ cond (eqb (x .item) i) (field x) (weight xs i))
-      → countArcs d k (weight (row d r .uses)) ≡ useArcs table file rows r k j
-  unfolding countArcs useArcs useArc
-  uses-are r k j field weight l e reads without with = uses-read (λ i w. arc k (3 * rowCount d + i) w) field j reads (λ i. arc-none k (3 * rowCount d + i) refl) weight without with
-      (countTotal d) (row d r .uses) (usesNumberIn table r) (usesStartIn table r) file (uses-fine r e) (u .uses r l)
-      ∙ ap (λ (n : ℕ). runs (λ i. arc k (3 * n + word file (usesStartIn table r + 6 * i)) (word file (usesStartIn table r + 6 * i + j))) (usesNumberIn table r)) (sym (h .rowsAre))
+  uses-are : (r k : ℕ) (weight : List Use → ℕ → ℕ) → r < rowCount d → kind d r ≡ function
+      → ((i : ℕ) → weight [] i ≡ 0) → ((x : Use) (xs : List Use) (i : ℕ) → weight (x ∷ xs) i ≡ cond (eqb (x .item) i) (useWeight k x) (weight xs i))
+      → countArcs d k (weight (row d r .uses)) ≡ useArcs rows k (usesIn table file r)
+  unfolding countArcs
+  uses-are r k weight l e without with = by-count (rowCount d) k weight without with (countTotal d) (row d r .uses) 0 (uses-fine r e)
+      ∙ ap₂ (λ (n : ℕ) (us : List Use). useArcs n k us) (sym (h .records .rowsAre)) (sym (u .uses r l))
 
-  function-is : (r : ℕ) → r < rowCount d → kind d r ≡ function → functionStart table file rows r ++ functionEnd table file rows r ≡ allPatterns d r (patternsAs d function r)
-  unfolding functionStart functionEnd allPatterns
+  function-is : (r : ℕ) → r < rowCount d → kind d r ≡ function → functionRecords table file rows r ≡ allPatterns d r (patternsAs d function r)
+  unfolding functionRecords allPatterns
   function-is r l e = sym (ap₂ _++_ start (append-nil _ ∙ stop))
     where
+      takes-are : countArcs d takeArc (takes d r) ≡ useArcs rows takeArc (usesIn table file r)
+      takes-are = unfold useWeight in uses-are r takeArc takeOf l e (λ i. refl) (λ x xs i. refl)
+
+      gives-are : countArcs d giveArc (gives d r) ≡ useArcs rows giveArc (usesIn table file r)
+      gives-are = unfold useWeight in uses-are r giveArc giveOf l e (λ i. refl) (λ x xs i. refl)
+
       no-end : kind d r ≢ end
       no-end = not-kind d r e end refl
 
-      start : patternRecords d r (atOnce (byPlace (oneAt (only r)) none none (takes d r)) nowhere (byPlace none (oneAt (only r)) none none)) ≡ functionStart table file rows r
-      start = unfold functionStart in (unclearing d r 0 0 _ _ (arc takeArc (3 * r) 1 ++ useArcs table file rows r takeArc 2) (arc giveArc (3 * r + 1) 1)
-          (at-P d takeArc r none none (takes d r) l (λ q n. (refl, refl)) ∙ rw (arc-none takeArc (3 * r + 1) refl, arc-none takeArc (3 * r + 2) refl, append-nil, uses-are r takeArc 2 (λ x. x .take) takeOf l e (λ b. refl) (λ i. refl) (λ x xs i. refl)))
+      start : patternRecords d r (atOnce (byPlace (oneAt (only r)) none none (takes d r)) nowhere (byPlace none (oneAt (only r)) none none)) ≡ functionStart (usesIn table file r) rows r
+      start = unfold functionStart in (unclearing d r 0 0 _ _ (arc takeArc (3 * r) 1 ++ useArcs rows takeArc (usesIn table file r)) (arc giveArc (3 * r + 1) 1)
+          (at-P d takeArc r none none (takes d r) l (λ q n. (refl, refl)) ∙ rw (arc-none takeArc (3 * r + 1) refl, arc-none takeArc (3 * r + 2) refl, append-nil, takes-are))
           (mark-Q d giveArc r l) ∙ simp append-assoc)
 
       stop : patternRecords d r (record { earliest = row d r .first; latest = row d r .second; take = byPlace none (oneAt (only r)) none none; clear = nowhere; give = byPlace (oneAt (only (enteredRow d (suc r)))) none none (gives d r) })
-          ≡ functionEnd table file rows r
-      stop = unfold functionEnd in (unclearing d r (row d r .first) (row d r .second) _ _ (arc takeArc (3 * r + 1) 1) (arc giveArc (3 * enteredRow d (suc r)) 1 ++ useArcs table file rows r giveArc 4)
+          ≡ functionEnd table (usesIn table file r) rows r
+      stop = unfold functionEnd in (unclearing d r (row d r .first) (row d r .second) _ _ (arc takeArc (3 * r + 1) 1) (arc giveArc (3 * enteredRow d (suc r)) 1 ++ useArcs rows giveArc (usesIn table file r))
           (mark-Q d takeArc r l)
           (at-P d giveArc (enteredRow d (suc r)) none none (gives d r) (next-entered d rows items table h held r no-end) (λ q n. (refl, refl))
-          ∙ rw (arc-none giveArc (3 * enteredRow d (suc r) + 1) refl, arc-none giveArc (3 * enteredRow d (suc r) + 2) refl, append-nil, uses-are r giveArc 4 (λ x. x .give) giveOf l e (λ b. refl) (λ i. refl) (λ x xs i. refl)))
-          ∙ rw (h .firsts r (in-rows d rows items table h r l), h .seconds r (in-rows d rows items table h r l), next-entry d rows items table h held r no-end) (simp append-assoc))
+          ∙ rw (arc-none giveArc (3 * enteredRow d (suc r) + 1) refl, arc-none giveArc (3 * enteredRow d (suc r) + 2) refl, append-nil, gives-are))
+          ∙ rw (h .records .firsts r (in-rows d rows items table h r l), h .records .seconds r (in-rows d rows items table h r l), next-entry d rows items table h held r no-end) (simp append-assoc))
 
   -- the arcs of a construct's BRANCH rows
   branches-are : (o k : ℕ) (place : ℕ → ℕ) → o < rowCount d → opens d o ≡ true → ((q : ℕ) → branchOf d o q ≡ true → branchPlace table k q ≡ place q)
@@ -165,7 +168,7 @@ module _ (d : Diagram) (rows items : ℕ) (table file : List ℕ) (h : Holds d r
   back-is r l = rw (owner-cell d rows items table h r l) (token-is d r r (owner d r) l (let b = h .ownerLow r in omega arith))
 
   branch-is : (r : ℕ) → r < rowCount d → kind d r ≡ branch → branchToken table r ≡ allPatterns d r (patternsAs d branch r)
-  unfolding branchToken
+  unfolding branchToken orToken
   branch-is r l e = rw (owner-kind d rows items table h r l, owner-cell d rows items table h r l, next-entry d rows items table h held r no-end) (decide (isKind d or-open (owner d r))
       (λ z. rw z (token-is d r (owner d r) (enteredRow d (suc r)) (let b = h .ownerLow r in omega arith) (next-entered d rows items table h held r no-end)))
       (λ z. rw z (unfold allPatterns in refl)))

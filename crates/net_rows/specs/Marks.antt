@@ -3,16 +3,21 @@ use Prim.Native.Nat.{ℕ, zero, suc, _+_}
 use mathlib.Core.Bool.{cond, _&&_}
 use mathlib.Core.List.{List, _++_}
 use lib.Dec.{eqb}
+use Rattle.effbd.specs.Diagrams.{function, branch, or-open, it-open, end, numberOf}
 use Rattle.diagram_table.specs.Cells.{kindIn, firstIn, ownerIn, countIn}
 use Rattle.net_records.specs.Writing.{Records}
 use Rattle.net_records.specs.Records.{mark}
+
+-- the kind of a net's head
+abbrev pub netHead : ℕ
+netHead = 32
 
 -- the fresh marks of a row's three places; `first` is the row that entering row 0 changes
 unfoldable pub firstMark : (first row : ℕ) → ℕ
 firstMark first row = cond (eqb row first) 1 0
 
 unfoldable pub remaining : (table : List ℕ) (row : ℕ) → ℕ
-remaining table row = cond (eqb (kindIn table row) 22) (firstIn table row) 0
+remaining table row = cond (eqb (kindIn table row) (numberOf it-open)) (firstIn table row) 0
 
 unfoldable pub rowMarks : (table : List ℕ) (first row : ℕ) → Records
 rowMarks table first row = mark (firstMark first row) ++ mark 0 ++ mark (remaining table row)
@@ -22,10 +27,15 @@ itemMark table k = mark (countIn table k)
 
 -- how many transitions a row of kind k has: by its kind, and, for a BRANCH, by the kind j of its construct's open row
 unfoldable pub ownNumber : ℕ → ℕ
-ownNumber k = cond (eqb k 16) 2 (cond (eqb k 22) 2 (cond (eqb k 27) 0 (cond (eqb k 20) 0 (cond (eqb k 18) 0 1))))
+ownNumber k =
+    cond (eqb k (numberOf function)) 2
+    (cond (eqb k (numberOf it-open)) 2
+    (cond (eqb k (numberOf end)) 0
+    (cond (eqb k (numberOf or-open)) 0
+    (cond (eqb k (numberOf branch)) 0 1))))
 
 unfoldable pub branchNumber : (j k : ℕ) → ℕ
-branchNumber j k = cond (eqb k 18 && eqb j 20) 1 0
+branchNumber j k = cond (eqb k (numberOf branch) && eqb j (numberOf or-open)) 1 0
 
 unfoldable pub numberAs : (j k : ℕ) → ℕ
 numberAs j k = ownNumber k + branchNumber j k

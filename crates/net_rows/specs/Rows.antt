@@ -2,34 +2,40 @@
 -- Any words are a table: past its end a word is 0. Assumes nothing.
 use Prim.Native.Nat.{ℕ, zero, suc, _+_, _*_}
 use mathlib.Core.Bool.{cond, _&&_}
-use mathlib.Core.List.{List, [], _++_}
+use mathlib.Core.List.{List, [], _∷_, _++_}
 use lib.Dec.{ltb, eqb}
-use Rattle.effbd.specs.Records.{word}
+use Rattle.effbd.specs.Diagrams.{function, and-open, branch, and-close, or-open, or-close, it-open, it-close, lp-open, lp-close, loop-exit, numberOf, Use}
 use Rattle.effbd.specs.Nets.{takeArc, giveArc}
-use Rattle.diagram_table.specs.Cells.{kindIn, firstIn, secondIn, usesStartIn, usesNumberIn, ownerIn, closeIn, isBranch}
-use Rattle.net_records.specs.Writing.{Records, runs}
+use Rattle.diagram_table.specs.Cells.{kindIn, firstIn, secondIn, usesIn, ownerIn, closeIn, isBranch}
+use Rattle.net_records.specs.Writing.{Records}
 use Rattle.net_records.specs.Records.{transition, arc}
-use Rattle.net_loops.specs.Loops.{entry, itOpen, loopExit}
+use Rattle.net_loops.specs.LoopTransitions.{entry, itOpen, loopExit}
 
 -- one token from a place to a place: BRANCH of an OR, OR close, LP open, IT close, LP close
 unfoldable pub token : (row from to : ℕ) → Records
 token row from to = transition row 0 0 ++ arc takeArc from 1 ++ arc giveArc to 1
 
--- the takes of a row's uses (kind 35, at byte 2 of each use), or the gives (kind 37, at byte 4)
-unfoldable pub useArc : (table file : List ℕ) (rows row kind field k : ℕ) → Records
-useArc table file rows row kind field k = let at = usesStartIn table row + 6 * k in
-    arc kind (3 * rows + word file at) (word file (at + field))
+-- the takes of uses, or their gives: the byte of a use that has the weight, and the weight
+unfoldable pub weightAt : (kind : ℕ) → ℕ
+weightAt kind = cond (eqb kind takeArc) 2 4
 
-unfoldable pub useArcs : (table file : List ℕ) (rows row kind field : ℕ) → Records
-useArcs table file rows row kind field = runs (useArc table file rows row kind field) (usesNumberIn table row)
+unfoldable pub useWeight : (kind : ℕ) → Use → ℕ
+useWeight kind u = cond (eqb kind takeArc) (u .take) (u .give)
 
-unfoldable pub functionStart : (table file : List ℕ) (rows row : ℕ) → Records
-functionStart table file rows row =
-    transition row 0 0 ++ arc takeArc (3 * row) 1 ++ useArcs table file rows row takeArc 2 ++ arc giveArc (3 * row + 1) 1
+unfoldable pub useArcs : (rows kind : ℕ) → List Use → Records
+useArcs rows kind [] = []
+useArcs rows kind (u ∷ us) = arc kind (3 * rows + u .item) (useWeight kind u) ++ useArcs rows kind us
 
-unfoldable pub functionEnd : (table file : List ℕ) (rows row : ℕ) → Records
-functionEnd table file rows row = transition row (firstIn table row) (secondIn table row)
-    ++ arc takeArc (3 * row + 1) 1 ++ arc giveArc (entry table (row + 1)) 1 ++ useArcs table file rows row giveArc 4
+unfoldable pub functionStart : (uses : List Use) (rows row : ℕ) → Records
+functionStart uses rows row = transition row 0 0 ++ arc takeArc (3 * row) 1 ++ useArcs rows takeArc uses ++ arc giveArc (3 * row + 1) 1
+
+unfoldable pub functionEnd : (table : List ℕ) (uses : List Use) (rows row : ℕ) → Records
+functionEnd table uses rows row = transition row (firstIn table row) (secondIn table row)
+    ++ arc takeArc (3 * row + 1) 1 ++ arc giveArc (entry table (row + 1)) 1 ++ useArcs rows giveArc uses
+
+-- a FUNCTION, its uses in the bytes of the file
+unfoldable pub functionRecords : (table file : List ℕ) (rows row : ℕ) → Records
+functionRecords table file rows row = functionStart (usesIn table file row) rows row ++ functionEnd table (usesIn table file row) rows row
 
 -- the arcs of the BRANCH rows of a construct: an AND close takes from them, an AND open gives to the entries behind them
 unfoldable pub branchPlace : (table : List ℕ) (kind q : ℕ) → ℕ
@@ -56,10 +62,12 @@ andOpen table row = transition row 0 0 ++ arc takeArc (3 * row) 1 ++ branchArcs 
 unfoldable pub andClose : (table : List ℕ) (row : ℕ) → Records
 andClose table row = transition row 0 0 ++ branchArcs table (ownerIn table row) takeArc ++ arc giveArc (entry table (row + 1)) 1
 
--- a BRANCH has a transition only where its construct is an OR
+-- a BRANCH has a transition only where its construct, which row `opened` of kind k opens, is an OR
+unfoldable pub orToken : (row opened k to : ℕ) → Records
+orToken row opened k to = cond (eqb k (numberOf or-open)) (token row (3 * opened) to) []
+
 unfoldable pub branchToken : (table : List ℕ) (row : ℕ) → Records
-branchToken table row = let opened = ownerIn table row in
-    cond (eqb (kindIn table opened) 20) (token row (3 * opened) (entry table (row + 1))) []
+branchToken table row = let opened = ownerIn table row in orToken row opened (kindIn table opened) (entry table (row + 1))
 
 unfoldable pub onward : (table : List ℕ) (row : ℕ) → Records
 onward table row = token row (3 * row) (entry table (row + 1))
@@ -70,16 +78,16 @@ back table row = token row (3 * row) (3 * ownerIn table row)
 -- the records of a row, were its kind k
 unfoldable pub rowAs : (table file : List ℕ) (rows row k : ℕ) → Records
 rowAs table file rows row k =
-    cond (eqb k 16) (functionStart table file rows row ++ functionEnd table file rows row)
-    (cond (eqb k 17) (andOpen table row)
-    (cond (eqb k 18) (branchToken table row)
-    (cond (eqb k 19) (andClose table row)
-    (cond (eqb k 21) (onward table row)
-    (cond (eqb k 22) (itOpen table row)
-    (cond (eqb k 23) (back table row)
-    (cond (eqb k 24) (onward table row)
-    (cond (eqb k 25) (back table row)
-    (cond (eqb k 26) (loopExit table row) [])))))))))
+    cond (eqb k (numberOf function)) (functionRecords table file rows row)
+    (cond (eqb k (numberOf and-open)) (andOpen table row)
+    (cond (eqb k (numberOf branch)) (branchToken table row)
+    (cond (eqb k (numberOf and-close)) (andClose table row)
+    (cond (eqb k (numberOf or-close)) (onward table row)
+    (cond (eqb k (numberOf it-open)) (itOpen table row)
+    (cond (eqb k (numberOf it-close)) (back table row)
+    (cond (eqb k (numberOf lp-open)) (onward table row)
+    (cond (eqb k (numberOf lp-close)) (back table row)
+    (cond (eqb k (numberOf loop-exit)) (loopExit table row) [])))))))))
 
 unfoldable pub rowRecords : (table file : List ℕ) (rows row : ℕ) → Records
 rowRecords table file rows row = rowAs table file rows row (kindIn table row)

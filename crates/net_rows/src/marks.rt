@@ -4,7 +4,7 @@ ghost use Prim.Native.Nat.{_+_, _*_, _≤_};
 ghost use Rattle.diagram_table.specs.Cells.{enteredIn};
 ghost use Rattle.net_records.specs.Writing.{Wrote, runs};
 ghost use Rattle.net_records.specs.Records.{pair};
-ghost use Rattle.net_rows.specs.Marks.{firstMark, remaining as remainingOf, rowMarks, itemMark, ownNumber, branchNumber, numberAs, tally as tallyOf};
+ghost use Rattle.net_rows.specs.Marks.{netHead, firstMark, remaining as remainingOf, rowMarks, itemMark, ownNumber, branchNumber, numberAs, tally as tallyOf};
 use diagram_table::COUNT;
 use diagram_table::FIRST;
 use diagram_table::OWNER;
@@ -113,7 +113,7 @@ fn tally(table: &[u16], rows: u16) -> usize
 }
 
 pub fn head(table: &[u16], rows: u16, items: u16, area: &mut [u8], at: usize) -> usize
-    ensures { λ r. ⌜ Wrote (now (area .entry)) at (now (area .exit)) r (pair 32 (3 * rows + items) (tallyOf (now (table .entry)) rows)) ⌝ }
+    ensures { λ r. ⌜ Wrote (now (area .entry)) at (now (area .exit)) r (pair netHead (3 * rows + items) (tallyOf (now (table .entry)) rows)) ⌝ }
 {
     let transitions = tally(table, rows);
     net_records::pair(

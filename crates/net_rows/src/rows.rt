@@ -1,15 +1,14 @@
 // The transitions of a diagram's rows, from its table (crate diagram_table). Nothing is asked of a caller: any words are a table.
 ghost use Prim.Native.Nat.{_<_};
 ghost use mathlib.Core.Path.{_≡_};
-ghost use mathlib.Core.List.{_++_};
+ghost use Rattle.diagram_table.specs.Cells.{usesOf};
 ghost use Rattle.net_records.specs.Writing.{Wrote, runs};
-ghost use Rattle.net_rows.specs.Rows.{token as tokenRecords, useArcs, functionStart, functionEnd, branchPlace, branchArc, behindIn, branchArcs, andOpen, andClose, branchToken, onward as onwardRecords, back as backRecords, rowRecords};
+ghost use Rattle.net_rows.specs.Rows.{token as tokenRecords, weightAt, useArcs, functionStart, functionEnd, functionRecords, branchPlace, branchArc, behindIn, branchArcs, andOpen, andClose, branchToken, onward as onwardRecords, back as backRecords, rowRecords};
 use diagram_table::CLOSE;
 use diagram_table::FIRST;
 use diagram_table::OWNER;
 use diagram_table::SECOND;
-use diagram_table::USES_NUMBER;
-use diagram_table::USES_START;
+use diagram_table::USE_SIZE;
 use words::kinds;
 use words::kinds::GIVE;
 use words::kinds::TAKE;
@@ -23,58 +22,52 @@ fn token(row: u16, from: usize, to: usize, area: &mut [u8], at: usize) -> usize
     net_records::arc(area, gives, GIVE, to, 1)
 }
 
-// The takes of a row's uses, at byte 2 of each, or the gives, at byte 4.
-fn use_arcs(
-    table: &[u16],
-    file: &[u8],
-    rows: u16,
-    row: u16,
-    kind: u16,
-    field: u16,
-    area: &mut [u8],
-    at: usize,
-) -> usize
-    ensures { λ r. ⌜ Wrote (now (area .entry)) at (now (area .exit)) r (useArcs (now (table .entry)) (now (file .entry)) rows row kind field) ⌝ }
+// A use is its item, its take and its give: the byte where the weight of its arc of a kind stands.
+fn weight_at(kind: u16) -> usize
+    ensures { λ r. ⌜ r ≡ weightAt kind ⌝ }
 {
-    let from = diagram_table::cell(table, USES_START, row as u32) as usize;
-    let number = diagram_table::cell(table, USES_NUMBER, row as u32);
+    if kind == TAKE {
+        return 2;
+    }
+    4
+}
+
+// The takes of uses, or their gives. `uses` is a part of the file, walked by its tails.
+fn use_arcs(uses: &[u8], rows: u16, kind: u16, area: &mut [u8], at: usize) -> usize
+    ensures { λ r. ⌜ Wrote (now (area .entry)) at (now (area .exit)) r (useArcs rows kind (usesOf (now (uses .entry)))) ⌝ }
+{
     let counts = 3 * rows as usize;
+    let field = weight_at(kind);
     let mut next = at;
-    let mut k: u16 = 0;
-    while k < number {
-        let item = words::word(file, from + 6 * k as usize) as usize;
-        let weight = words::word(file, from + 6 * k as usize + field as usize);
+    let mut rest = uses;
+    while USE_SIZE <= rest.len() {
+        let item = words::word(rest, 0) as usize;
+        let weight = words::word(rest, field);
         next = net_records::arc(area, next, kind, counts + item, weight);
-        k += 1;
+        let more = words::tail(rest, USE_SIZE);
+        rest = more;
     }
     next
 }
 
-fn function_start(
-    table: &[u16],
-    file: &[u8],
-    rows: u16,
-    row: u16,
-    area: &mut [u8],
-    at: usize,
-) -> usize
-    ensures { λ r. ⌜ Wrote (now (area .entry)) at (now (area .exit)) r (functionStart (now (table .entry)) (now (file .entry)) rows row) ⌝ }
+fn function_start(uses: &[u8], rows: u16, row: u16, area: &mut [u8], at: usize) -> usize
+    ensures { λ r. ⌜ Wrote (now (area .entry)) at (now (area .exit)) r (functionStart (usesOf (now (uses .entry))) rows row) ⌝ }
 {
     let own = net_records::transition(area, at, row as usize, 0, 0);
     let takes = net_records::arc(area, own, TAKE, 3 * row as usize, 1);
-    let gives = use_arcs(table, file, rows, row, TAKE, 2, area, takes);
+    let gives = use_arcs(uses, rows, TAKE, area, takes);
     net_records::arc(area, gives, GIVE, 3 * row as usize + 1, 1)
 }
 
 fn function_end(
     table: &[u16],
-    file: &[u8],
+    uses: &[u8],
     rows: u16,
     row: u16,
     area: &mut [u8],
     at: usize,
 ) -> usize
-    ensures { λ r. ⌜ Wrote (now (area .entry)) at (now (area .exit)) r (functionEnd (now (table .entry)) (now (file .entry)) rows row) ⌝ }
+    ensures { λ r. ⌜ Wrote (now (area .entry)) at (now (area .exit)) r (functionEnd (now (table .entry)) (usesOf (now (uses .entry))) rows row) ⌝ }
 {
     let earliest = diagram_table::cell(table, FIRST, row as u32);
     let latest = diagram_table::cell(table, SECOND, row as u32);
@@ -82,14 +75,16 @@ fn function_end(
     let own = net_records::transition(area, at, row as usize, earliest, latest);
     let takes = net_records::arc(area, own, TAKE, 3 * row as usize + 1, 1);
     let gives = net_records::arc(area, takes, GIVE, to, 1);
-    use_arcs(table, file, rows, row, GIVE, 4, area, gives)
+    use_arcs(uses, rows, GIVE, area, gives)
 }
 
+// Both transitions of a FUNCTION. Its uses are handed back as the very bytes of the lent file, and lent on.
 fn function(table: &[u16], file: &[u8], rows: u16, row: u16, area: &mut [u8], at: usize) -> usize
-    ensures { λ r. ⌜ Wrote (now (area .entry)) at (now (area .exit)) r (functionStart (now (table .entry)) (now (file .entry)) rows row ++ functionEnd (now (table .entry)) (now (file .entry)) rows row) ⌝ }
+    ensures { λ r. ⌜ Wrote (now (area .entry)) at (now (area .exit)) r (functionRecords (now (table .entry)) (now (file .entry)) rows row) ⌝ }
 {
-    let next = function_start(table, file, rows, row, area, at);
-    function_end(table, file, rows, row, area, next)
+    let uses = diagram_table::uses(file, table, row as u32);
+    let next = function_start(uses, rows, row, area, at);
+    function_end(table, uses, rows, row, area, next)
 }
 
 // P of a BRANCH row, which an AND close takes from, or the entry behind it, which an AND open gives to.

@@ -1,24 +1,26 @@
 -- What a call comes to, by what the reader of the file answered.
 use Prim.Native.Nat.{ℕ, zero, suc, _+_, _*_, _≤_, _<_}
 use mathlib.Core.Path.{_≡_, ap, ap₂, sym, _∙_}
-use mathlib.Core.Bool.{true}
+use mathlib.Core.Bool.{true, _&&_}
 use mathlib.Core.List.{List, _∷_, _++_}
 use native.Mathlib.Nat.{zero-add}
 use native.Mathlib.Omega.{arith}
 use lib.ListN.{length, take, drop, getD, length-take, List·getD-eq-default}
 use lib.Seq.{drop-drop, getD-drop, getD-take, length-take-le}
-use lib.Dec.{ltb}
+use lib.Dec.{leb, ltb}
 use borrow.Author.Tests.{eq-eqb, ne-eqb, lt-ltb, le-ltb, ltb-true, ltb-false}
-use Rattle.ranges.specs.Tests.{decide}
+use Rattle.ranges.specs.Tests.{decide, and-right}
 use Rattle.ranges.specs.RangeLaws.{tab-ext}
 use Rattle.effbd.specs.Ranges.{tabulate}
 use Rattle.effbd.specs.Answers.{Outcome, accepted, refused, andThen}
-use Rattle.effbd.specs.Records.{word}
-use Rattle.effbd.specs.Nets.{Net, readNet}
-use Rattle.effbd.specs.Firing.{netWordCount, checkedNetMove, stepNet, freshNetWords, freshNet}
-use Rattle.net_file.specs.Due.{wordsOf}
-use Rattle.net_file.specs.Contents.{transitionsIn, behindPlaces, transitionsFine}
+use Rattle.effbd.specs.Records.{areBytes, word}
+use Rattle.effbd.specs.Moves.{mostWord}
+use Rattle.effbd.specs.Nets.{Net, mostPlaces, mostTransitions, readNet}
+use Rattle.effbd.specs.Firing.{netWordCount, wordsOf, checkedNetMove, stepNet, freshNetWords, freshNet}
+use Rattle.net_file.specs.Contents.{transitionsIn, behindPlaces}
 use Rattle.agreement.specs.ByteLaws.{never, bind-inv}
+use Rattle.agreement.specs.Formed.{marksFine, transitionsFine, wellFormed}
+use Rattle.agreement.specs.NetFiles.{net-back}
 use Rattle.net_file.proofs.Accepted.{NetRead, net-read, place-count, transition-count, word-count}
 use Rattle.net_walk.proofs.Effects.{Words}
 use Rattle.net_step.specs.Stepping.{movedWords, freshWord}
@@ -60,6 +62,10 @@ read-of file size e =
     same : {a b : ℕ} → accepted a ≡ accepted b → a ≡ b
     same q = cc
 
+well-formed : (n : Net) → wellFormed n ≡ true → transitionsFine (length (n .marks)) 0 (n .transitions) ≡ true
+unfolding wellFormed
+well-formed n e = and-right (marksFine (n .marks)) _ (and-right (leb 1 (length (n .marks)) && (leb (length (n .marks)) mostPlaces && leb (length (n .transitions)) mostTransitions)) _ e)
+
 module _ (file words : List ℕ) (size : ℕ) (read : Read file size) where
   pub step-length : (code argument : ℕ) → (length words ≡ size → ⊥) → stepNet file code argument words ≡ refused 20 0
   unfolding stepNet checkedNetMove
@@ -79,20 +85,20 @@ module _ (file words : List ℕ) (size : ℕ) (read : Read file size) where
         (λ e. beyond p (ltb-false p (length (read .net .marks)) e));
   }
     where
-      beyond : (p : ℕ) → length (read .net .marks) ≤ p → getD (take (length (read .net .marks)) words) p 0 ≤ 65535
+      beyond : (p : ℕ) → length (read .net .marks) ≤ p → getD (take (length (read .net .marks)) words) p 0 ≤ mostWord
       beyond p l = rw (List·getD-eq-default (take (length (read .net .marks)) words) 0 {n = p} (rw length-take (omega arith))) (omega arith)
 
-  pub step-moves : (code argument places count : ℕ) (transitions : List ℕ) → length words ≡ size → Words words → places ≡ word file 4 → count ≡ word file 6 → transitions ≡ drop (8 + 6 * places) file
+  pub step-moves : areBytes file ≡ true → (code argument places count : ℕ) (transitions : List ℕ) → length words ≡ size → Words words → places ≡ word file 4 → count ≡ word file 6 → transitions ≡ drop (8 + 6 * places) file
       → stepNet file code argument words ≡ movedWords (transitionsIn count transitions) code argument (take places words) (drop places words)
   unfolding stepNet checkedNetMove behindPlaces
-  step-moves code argument places count transitions l w ep ec et =
+  step-moves bytes code argument places count transitions l w ep ec et =
       rw (read .says, eq-eqb (length words) (netWordCount (read .net)) (l ∙ sym (read .counts)))
       (move-is (length (read .net .marks)) (read .net .transitions) (λ i m. fine-at (length (read .net .marks)) 0 (read .net .transitions) i _ m fine)
       (take (length (read .net .marks)) words) (drop (length (read .net .marks)) words) (length-take-le (length (read .net .marks)) words (omega (arith, mark-count, l, read .adds))) (marks-words w) code argument
       ∙ (rw (mark-count, read .holds .transitions, et, ec, ep)))
     where
       fine : transitionsFine (length (read .net .marks)) 0 (read .net .transitions) ≡ true
-      fine = rw mark-count (read .holds .fine)
+      fine = well-formed (read .net) (net-back file (read .net) bytes (read .says) .fine)
 
 -- a fresh state
 tabulate-append : (a b : ℕ) (f g h : ℕ → ℕ) → ((i : ℕ) → i < a → f i ≡ h i) → ((i : ℕ) → i < b → g i ≡ h (a + i)) → tabulate a f ++ tabulate b g ≡ tabulate (a + b) h
@@ -111,6 +117,6 @@ unfolding freshNet freshNetWords freshWord
 fresh-is file words size places read l ep = rw (read .says, eq-eqb (length words) (netWordCount (read .net)) (l ∙ sym (read .counts)))
     (ap accepted (ap₂ (λ (m : List ℕ) (n : ℕ). m ++ tabulate n (λ x. 0)) (read .holds .marks) (transition-count file (read .net) (read .holds))
     ∙ (tabulate-append (word file 4) (word file 6) _ _ (freshWord file places)
-    (λ i m. rw (ep, lt-ltb i (word file 4) m) (word-drop (6 * i) 8 4 file ∙ (let z : 8 + 6 * i + 4 ≡ 12 + 6 * i = omega arith in ap (word file) z)))
+    (λ i m. rw (ep, lt-ltb i (word file 4) m) (word-drop (6 * i) 8 4 file))
     (λ i m. rw (ep, le-ltb (word file 4 + i) (word file 4) (omega arith)))
     ∙ ap (λ (n : ℕ). tabulate n (freshWord file places)) (sym (l ∙ read .adds)))))

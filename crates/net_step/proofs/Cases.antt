@@ -10,15 +10,14 @@ use borrow.Rule.Slice.PartMut.{putMid, midOf as partOf, post-is}
 use lib.ListN.{length, take, drop, getD, length-append, drop-of-length-le}
 use lib.Seq.{drop-at, length-take-le, drop-length, getD-drop}
 use Rattle.words.specs.Stores.{copied}
-use Rattle.effbd.specs.Answers.{Outcome, accepted, refused, afterwards, returningZero}
+use Rattle.effbd.specs.Answers.{Outcome, accepted, refused, andThen, afterwards, returningZero}
 use Rattle.effbd.specs.declared.Answer.{Answer}
 use Rattle.effbd.specs.declared.Answer.the-variants.{Accepted, Refused}
 use Rattle.effbd.specs.Nets.{Transition, takeArc, clearArc, giveArc}
 use Rattle.net_file.specs.Contents.{arcsIn, transitionIn, transitionsIn, partAt}
 use Rattle.net_file.proofs.Walks.{length-transitions, transition-at}
 use Rattle.net_walk.specs.Walked.{stands, applied, reduced, sums, lowest}
-use Rattle.net_walk.specs.declared.Sums.{Sums}
-use Rattle.net_step.specs.Stepping.{keptClock, renewedClock, clocksBy, waitHeld, given, firedWords, noTransition, steppedWords, waitedWords, movedWords, Answered}
+use Rattle.net_step.specs.Stepping.{keptClock, renewedClock, clocksBy, waitHeld, firedWords, noTransition, steppedWords, waitedWords, movedWords, Answered}
 use Rattle.net_step.specs.declared.Renewal.the-variants.{Fired, Waited}
 use Rattle.ranges.specs.RangeLaws.{tail-is}
 
@@ -65,17 +64,17 @@ module _ (ts : List Transition) (j : ℕ) (t : Transition) (marks state : List �
   unfolding firedWords
   fire-late l = rw (← clock-is, ← el, lt-ltb clock earliest l)
 
-  pub fire-on : earliest ≤ clock → (mid : List ℕ) (s : Sums) → mid ≡ reduced (t .arcs) marks → s ≡ sums (t .arcs) mid
-      → firedWords ts j t marks (drop p state) ≡ given s (applied giveArc (t .arcs) mid ++ clocksBy (keptClock j mid) 0 ts (drop p state))
+  pub fire-on : earliest ≤ clock → (mid : List ℕ) (s : Outcome ℕ) → mid ≡ reduced (t .arcs) marks → s ≡ sums (t .arcs) mid
+      → firedWords ts j t marks (drop p state) ≡ andThen s (λ z. accepted (applied giveArc (t .arcs) mid ++ clocksBy (keptClock j mid) 0 ts (drop p state)))
   unfolding firedWords
-  fire-on l mid s em es = rw (← clock-is, ← el, le-ltb clock earliest l, ← em) (ap (λ (q : Sums). given q (applied giveArc (t .arcs) mid ++ clocksBy (keptClock j mid) 0 ts (drop p state))) (sym es))
+  fire-on l mid s em es = rw (← clock-is, ← el, le-ltb clock earliest l, ← em) (ap (λ (q : Outcome ℕ). andThen q (λ z. accepted (applied giveArc (t .arcs) mid ++ clocksBy (keptClock j mid) 0 ts (drop p state)))) (sym es))
 
 module _ (part arcs marks mid : List ℕ) (ea : arcs ≡ drop 10 part) where
   pub mid-is : (taken : List ℕ) → taken ≡ applied takeArc (arcsIn arcs) marks → mid ≡ applied clearArc (arcsIn arcs) taken → mid ≡ reduced (transitionIn part .arcs) marks
   unfolding transitionIn reduced
   mid-is taken et em = rw (← ea, ← et) em
 
-  pub sums-of : (s : Sums) → s ≡ sums (arcsIn arcs) mid → s ≡ sums (transitionIn part .arcs) mid
+  pub sums-of : (s : Outcome ℕ) → s ≡ sums (arcsIn arcs) mid → s ≡ sums (transitionIn part .arcs) mid
   unfolding transitionIn
   sums-of s e = rw (← ea) e
 

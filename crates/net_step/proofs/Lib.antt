@@ -1,4 +1,4 @@
-pub mod Loops
+pub mod StateWalks
 pub mod Cases
 pub mod Refines
 pub mod Calls

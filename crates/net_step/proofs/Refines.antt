@@ -11,18 +11,16 @@ use borrow.Author.Tests.{ltb-false, le-leb, eqb-true, eqb-false, eq-eqb, ne-eqb}
 use Rattle.ranges.specs.Tests.{decide, clash, and-left, and-right}
 use Rattle.ranges.specs.RangeLaws.{all-elim, tab-ext, all-ext, all-front}
 use Rattle.effbd.specs.Ranges.{allBelow, least, only, tabulate}
-use Rattle.effbd.specs.Answers.{accepted, refused}
+use Rattle.effbd.specs.Answers.{accepted, refused, andThen}
 use Rattle.effbd.specs.Moves.{step-row, wait-ticks, no-move, moveOf}
 use Rattle.effbd.specs.Nets.{Transition, takeArc, giveArc, transitionFine}
 use Rattle.effbd.specs.Firing.{Effect, noEffect, Behaviour, NetState, effectOf, covers, takenAndCleared, firedState, overflows, fire, fireLowest, letsPass, tickedState, netWait, netMove, netWordsOutcome}
-use Rattle.net_file.specs.Contents.{arcsFine, transitionsFine}
+use Rattle.agreement.specs.Formed.{fitsWord, arcsFine, transitionsFine}
 use Rattle.agreement.specs.Numbering.{getD-map}
 use Rattle.net_walk.specs.Walked.{covered, applied, reduced, sums, stands, lowest}
-use Rattle.net_walk.specs.declared.Sums.{Sums}
-use Rattle.net_walk.specs.declared.Sums.the-variants.{Fit, Over}
 use Rattle.net_walk.proofs.Effects.{Words, reduced-is, reduced-length}
-use Rattle.net_walk.proofs.Rising.{SumsAre, enabled-is, sums-is, given-is, reduced-words}
-use Rattle.net_step.specs.Stepping.{keptClock, grownClock, renewedClock, clocksBy, holdsWait, waitHeld, given, firedWords, noTransition, steppedWords, waitedWords, movedWords}
+use Rattle.net_walk.proofs.Rising.{enabled-is, sums-is, given-is, reduced-words}
+use Rattle.net_step.specs.Stepping.{keptClock, grownClock, renewedClock, clocksBy, holdsWait, waitHeld, firedWords, noTransition, steppedWords, waitedWords, movedWords}
 use Rattle.net_step.specs.declared.Renewal.the-variants.{Waited}
 use Rattle.net_step.proofs.Cases.{lowest-most}
 
@@ -59,9 +57,9 @@ held-from ticks marks x (t ∷ ts) clocks none =
 pub fine-at : (count label : ℕ) (ts : List Transition) (i : ℕ) (none : Transition) → i < length ts → transitionsFine count label ts ≡ true → arcsFine count takeArc 0 (getD ts i none .arcs) ≡ true
 unfolding transitionsFine
 fine-at count label [] i none l h = absurd (not-suc-le-zero l)
-fine-at count label (t ∷ ts) zero none l h = and-left (arcsFine count takeArc 0 (t .arcs)) _ (and-right (transitionFine label t) _ h)
+fine-at count label (t ∷ ts) zero none l h = and-left (arcsFine count takeArc 0 (t .arcs)) _ (and-right (fitsWord (t .latest)) _ (and-right (transitionFine label t) _ h))
 fine-at count label (t ∷ ts) (suc i) none l h =
-    fine-at count (t .label) ts i none (le-of-suc-le-suc l) (and-right (arcsFine count takeArc 0 (t .arcs)) _ (and-right (transitionFine label t) _ h))
+    fine-at count (t .label) ts i none (le-of-suc-le-suc l) (and-right (arcsFine count takeArc 0 (t .arcs)) _ (and-right (fitsWord (t .latest)) _ (and-right (transitionFine label t) _ h)))
 
 module _ (places : ℕ) (ts : List Transition) (fine : (i : ℕ) → i < length ts → arcsFine places takeArc 0 (getD ts i (noTransition ts) .arcs) ≡ true)
     (marks clocks : List ℕ) (size : length marks ≡ places) (words : Words marks) where
@@ -94,17 +92,18 @@ module _ (places : ℕ) (ts : List Transition) (fine : (i : ℕ) → i < length 
 
     fire-is : netWordsOutcome (fire net j (effectOf t) state) ≡ firedWords ts j t marks clocks
     unfolding fire firedWords effectOf
-    fire-is = by (ltb (getD clocks j 0) (t .earliest)) (sums (t .arcs) mid) (sums-is net t state mid reached (reduced-words (t .arcs) marks words) rising) refl
+    fire-is = by (ltb (getD clocks j 0) (t .earliest)) (allBelow places (λ p. not (overflows net (effectOf t) state p))) refl
+        (sums-is net t state mid reached (reduced-words (t .arcs) marks words) rising)
       where
-        by : (late : Bool) (s : Sums) → SumsAre places (overflows net (effectOf t) state) s → sums (t .arcs) mid ≡ s
+        by : (late fit : Bool) → allBelow places (λ p. not (overflows net (effectOf t) state p)) ≡ fit
+            → cond fit (accepted 0) (refused 25 (least places (overflows net (effectOf t) state))) ≡ sums (t .arcs) mid
             → netWordsOutcome (cond late (refused 24 (t .earliest - getD clocks j 0))
-            (cond (allBelow places (λ p. not (overflows net (effectOf t) state p))) (accepted (firedState net j (effectOf t) state)) (refused 25 (least places (overflows net (effectOf t) state)))))
-            ≡ cond late (refused 24 (t .earliest - getD clocks j 0)) (given s (applied giveArc (t .arcs) mid ++ clocksBy (keptClock j mid) 0 ts clocks))
-        by true s a e = refl
-        by false Fit a e =
-            let f = a .fit refl in
-            rw f (ap₂ (λ (m c : List ℕ). accepted (m ++ c)) (given-is net t state mid reached (reduced-words (t .arcs) marks words) j (reduced-length (t .arcs) marks ∙ size) f) fired-clocks)
-        by false (Over p) a e = let f = a .over p refl in rw (f .0) (ap (refused 25) (f .1))
+            (cond fit (accepted (firedState net j (effectOf t) state)) (refused 25 (least places (overflows net (effectOf t) state)))))
+            ≡ cond late (refused 24 (t .earliest - getD clocks j 0)) (andThen (sums (t .arcs) mid) (λ z. accepted (applied giveArc (t .arcs) mid ++ clocksBy (keptClock j mid) 0 ts clocks)))
+        by true fit f e = refl
+        by false true f e =
+            rw (← e) (ap₂ (λ (m c : List ℕ). accepted (m ++ c)) (given-is net t state mid reached (reduced-words (t .arcs) marks words) j (reduced-length (t .arcs) marks ∙ size) f) fired-clocks)
+        by false false f e = rw (← e)
 
   -- a step: the lowest-numbered of the transitions from number i on
   lowest-is : (us : List Transition) (i label : ℕ) → ((x : ℕ) → x < length us → arcsFine places takeArc 0 (getD us x (noTransition ts) .arcs) ≡ true)

@@ -5,13 +5,11 @@ use mathlib.Core.Bool.{Bool, false, cond, _&&_, _||_}
 use mathlib.Core.List.{List, [], _∷_, _++_}
 use lib.ListN.{length, getD}
 use lib.Dec.{leb, ltb, eqb}
-use Rattle.effbd.specs.Answers.{Outcome, accepted, refused, afterwards, returningZero, said}
+use Rattle.effbd.specs.Answers.{Outcome, accepted, refused, andThen, afterwards, returningZero, said}
 use Rattle.effbd.specs.declared.Answer.{Answer}
 use Rattle.effbd.specs.Records.{word}
 use Rattle.effbd.specs.Nets.{Transition, giveArc}
 use Rattle.net_walk.specs.Walked.{covered, applied, reduced, sums, lowest}
-use Rattle.net_walk.specs.declared.Sums.{Sums}
-use Rattle.net_walk.specs.declared.Sums.the-variants.{Fit, Over}
 use Rattle.net_step.specs.declared.Renewal.{Renewal}
 use Rattle.net_step.specs.declared.Renewal.the-variants.{Fired, Waited}
 
@@ -40,17 +38,12 @@ unfoldable pub waitHeld : ℕ → List ℕ → ℕ → List Transition → List 
 waitHeld ticks marks x [] clocks = false
 waitHeld ticks marks x (t ∷ ts) clocks = holdsWait ticks marks t (getD clocks x 0) || waitHeld ticks marks (x + 1) ts clocks
 
--- 25 at the place that does not fit
-abbrev pub given : Sums → List ℕ → Outcome (List ℕ)
-given Fit words = accepted words
-given (Over place) words = refused 25 place
-
 module _ (ts : List Transition) where
   -- transition t, number j, fires
   unfoldable pub firedWords : ℕ → Transition → (marks clocks : List ℕ) → Outcome (List ℕ)
   firedWords j t marks clocks = cond (ltb (getD clocks j 0) (t .earliest)) (refused 24 (t .earliest - getD clocks j 0))
-      (given (sums (t .arcs) (reduced (t .arcs) marks))
-      (applied giveArc (t .arcs) (reduced (t .arcs) marks) ++ clocksBy (keptClock j (reduced (t .arcs) marks)) 0 ts clocks))
+      (andThen (sums (t .arcs) (reduced (t .arcs) marks))
+      (λ z. accepted (applied giveArc (t .arcs) (reduced (t .arcs) marks) ++ clocksBy (keptClock j (reduced (t .arcs) marks)) 0 ts clocks)))
 
   abbrev pub noTransition : Transition
   noTransition = record { label = 0; earliest = 0; latest = 0; arcs = [] }
@@ -74,4 +67,4 @@ pub record Answered (answer : Answer) (before after : List ℕ) (outcome : Outco
 
 -- word i of a fresh state: the marks that a file of so many places gives, clocks 0
 unfoldable pub freshWord : List ℕ → ℕ → ℕ → ℕ
-freshWord file places i = cond (ltb i places) (word file (12 + 6 * i)) 0
+freshWord file places i = cond (ltb i places) (word file (8 + 6 * i + 4)) 0

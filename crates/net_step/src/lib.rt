@@ -1,7 +1,15 @@
 // The stepper of nets, on any net file: a state is its marks, then the clocks of its transitions.
 // A move is decided first and written last: what is turned away has written nothing.
 use effbd::Answer;
-use net_walk::Sums;
+use effbd::limits::MOST_PLACES;
+use effbd::refusals::CODE_OFF;
+use effbd::refusals::NOT_STANDING;
+use effbd::refusals::STATE_OFF;
+use effbd::refusals::TICKS_LACKING;
+use effbd::refusals::WAIT_HELD;
+use net_walk::HEAD_LENGTH;
+use net_walk::PLACE_LENGTH;
+use net_walk::TRANSITION_LENGTH;
 use words::kinds::CLEAR;
 use words::kinds::GIVE;
 use words::kinds::TAKE;
@@ -34,7 +42,7 @@ fn kept(j: u16, marks: &[u16], x: u16, rest: &[u8], running: u16) -> u16
     if running == 0 {
         return 0;
     }
-    if net_walk::covers(marks, words::tail(rest, 10)) {
+    if net_walk::covers(marks, words::tail(rest, TRANSITION_LENGTH)) {
         return running;
     }
     0
@@ -44,7 +52,7 @@ fn kept(j: u16, marks: &[u16], x: u16, rest: &[u8], running: u16) -> u16
 fn grown(ticks: u16, marks: &[u16], rest: &[u8], clock: u16) -> u16
     ensures { λ r. ⌜ r ≡ grownClock ticks (now (marks .entry)) (transitionIn (now (rest .entry))) clock ⌝ }
 {
-    if net_walk::covers(marks, words::tail(rest, 10)) {
+    if net_walk::covers(marks, words::tail(rest, TRANSITION_LENGTH)) {
         let sum = clock as u32 + ticks as u32;
         if sum <= words::word(rest, 8) as u32 {
             return sum as u16;
@@ -84,7 +92,7 @@ fn renew(clocks: &mut [u16], how: Renewal, marks: &[u16], transitions: &[u8], co
 fn holds(ticks: u16, marks: &[u16], rest: &[u8], clock: u16) -> bool
     ensures { λ r. ⌜ r ≡ holdsWait ticks (now (marks .entry)) (transitionIn (now (rest .entry))) clock ⌝ }
 {
-    net_walk::covers(marks, words::tail(rest, 10))
+    net_walk::covers(marks, words::tail(rest, TRANSITION_LENGTH))
         && (words::word(rest, 8) as u32) < clock as u32 + ticks as u32
 }
 
@@ -146,15 +154,15 @@ fn fire(
     let clock = words::get(state, marks.len() + j as usize);
     let earliest = words::word(part, 6);
     if clock < earliest {
-        return Answer::Refused(24, (earliest - clock) as u32);
+        return Answer::Refused(TICKS_LACKING, (earliest - clock) as u32);
     }
-    let arcs = words::tail(part, 10);
+    let arcs = words::tail(part, TRANSITION_LENGTH);
     net_walk::apply(marks, TAKE, arcs);
     net_walk::apply(marks, CLEAR, arcs);
     let fit = net_walk::sums_fit(marks, arcs);
     match fit {
-        Sums::Over(place) => Answer::Refused(25, place as u32),
-        Sums::Fit => {
+        Answer::Refused(number, place) => Answer::Refused(number, place),
+        Answer::Accepted(_) => {
             finish(marks, state, arcs, transitions, count, j);
             Answer::Accepted(0)
         }
@@ -174,7 +182,7 @@ fn step_label(
 {
     let j = net_walk::lowest(marks, transitions, count, label);
     if j == count {
-        return Answer::Refused(22, label as u32);
+        return Answer::Refused(NOT_STANDING, label as u32);
     }
     let part = net_walk::part_at(transitions, j);
     fire(marks, state, transitions, count, j, part)
@@ -192,11 +200,11 @@ fn wait_ticks(
     ensures { λ r. ⌜ Answered r (now (state .entry)) (now (state .exit)) (waitedWords (transitionsIn count (now (transitions .entry))) ticks (now (marks .entry)) (drop (length (now (marks .entry))) (now (state .entry)))) ⌝ }
 {
     if ticks == 0 {
-        return Answer::Refused(21, 0);
+        return Answer::Refused(CODE_OFF, 0);
     }
     let places = marks.len();
     if held(state, places, ticks, marks, transitions, count) {
-        return Answer::Refused(26, 0);
+        return Answer::Refused(WAIT_HELD, 0);
     }
     renew(
         &mut state[places..],
@@ -225,12 +233,12 @@ fn move_by(
     match code {
         1 => step_label(marks, state, transitions, count, argument),
         2 => wait_ticks(marks, state, transitions, count, argument),
-        _ => Answer::Refused(21, 0),
+        _ => Answer::Refused(CODE_OFF, 0),
     }
 }
 
 // Steps a label (code 1) or waits ticks (code 2); refused by the file's own numbers, 20, 21, 22, 24, 25 or 26.
-// The firing is worked out on a copy of up to 208 marks.
+// "The firing is worked out on a copy of up to 208 marks": as many as a net may have places.
 pub fn step(net: &[u8], state: &mut [u16], code: u16, argument: u16) -> Answer
     ensures { λ r. ⌜ said r ≡ returningZero (stepNet (now (net .entry)) code argument (now (state .entry))) ⌝ }
     ensures { λ _. ⌜ now (state .exit) ≡ afterwards (now (state .entry)) (stepNet (now (net .entry)) code argument (now (state .entry))) ⌝ }
@@ -240,12 +248,12 @@ pub fn step(net: &[u8], state: &mut [u16], code: u16, argument: u16) -> Answer
         Answer::Refused(number, value) => Answer::Refused(number, value),
         Answer::Accepted(size) => {
             if state.len() != size as usize {
-                return Answer::Refused(20, 0);
+                return Answer::Refused(STATE_OFF, 0);
             }
             let places = words::word(net, 4) as usize;
             let count = words::word(net, 6);
-            let transitions = words::tail(net, 8 + 6 * places);
-            let mut marks = [0u16; 208];
+            let transitions = words::tail(net, HEAD_LENGTH + PLACE_LENGTH * places);
+            let mut marks = [0u16; MOST_PLACES as usize];
             move_by(
                 &mut marks[0..places],
                 state,
@@ -258,12 +266,12 @@ pub fn step(net: &[u8], state: &mut [u16], code: u16, argument: u16) -> Answer
     }
 }
 
-// Word i of a fresh state.
+// Word i of a fresh state. A place's mark stands behind its length and its kind.
 fn fresh_word(net: &[u8], places: u16, i: usize) -> u16
     ensures { λ r. ⌜ r ≡ freshWord (now (net .entry)) places i ⌝ }
 {
     if i < places as usize {
-        return words::word(net, 12 + 6 * i);
+        return words::word(net, HEAD_LENGTH + PLACE_LENGTH * i + 4);
     }
     0
 }
@@ -289,7 +297,7 @@ pub fn fresh(net: &[u8], state: &mut [u16]) -> Answer
         Answer::Refused(number, value) => Answer::Refused(number, value),
         Answer::Accepted(size) => {
             if state.len() != size as usize {
-                return Answer::Refused(20, 0);
+                return Answer::Refused(STATE_OFF, 0);
             }
             fill(net, words::word(net, 4), state);
             Answer::Accepted(0)

@@ -19,7 +19,7 @@ use Rattle.net_walk.specs.Walked.{zeros, changed, changedIf, applied, re
 
 -- numbers of 16 bits
 pub record Words (marks : List ℕ) : Type 0 where
-  pub each : (p : ℕ) → getD marks p 0 ≤ 65535
+  pub each : (p : ℕ) → getD marks p 0 ≤ mostWord
 
 -- one arc at one place
 module _ (marks : List ℕ) (p : ℕ) (l : p < length marks) where
@@ -96,15 +96,15 @@ module _ (x : Arc) (marks : List ℕ) (p : ℕ) (l : p < length marks) where
           (λ f. rw f (decide (ltb p (x .first + (x .second + 1 - x .first))) (λ g. let w = ltb-true p (x .first + (x .second + 1 - x .first)) g in clash (le-leb p (x .second) (omega arith)) f) (λ g. g)))))
           (λ e. rw e)
 
-  give-at : getD marks p 0 ≤ 65535 → getD (changedIf giveArc x marks) p 0 ≡ min 65535 (getD marks p 0 + cond (eqb (x .kind) giveArc && only p (x .first)) (x .second) 0)
+  give-at : getD marks p 0 ≤ mostWord → getD (changedIf giveArc x marks) p 0 ≡ min mostWord (getD marks p 0 + cond (eqb (x .kind) giveArc && only p (x .first)) (x .second) 0)
   unfolding changedIf changed
   give-at h = decide (eqb (x .kind) giveArc)
       (λ e. let z = eqb-true (x .kind) giveArc e in
       rw (e, ne-eqb (x .kind) takeArc (omega arith), ne-eqb (x .kind) clearArc (omega arith), set-at marks p l (x .first) (min mostWord (getD marks (x .first) 0 + x .second))) (go (only p (x .first)) refl))
       (λ e. rw e (omega arith))
     where
-      go : (b : Bool) → only p (x .first) ≡ b → cond b (min mostWord (getD marks (x .first) 0 + x .second)) (getD marks p 0) ≡ min 65535 (getD marks p 0 + cond b (x .second) 0)
-      go true e = ap (λ (q : ℕ). min 65535 (getD marks q 0 + x .second)) (eqb-true (x .first) p e)
+      go : (b : Bool) → only p (x .first) ≡ b → cond b (min mostWord (getD marks (x .first) 0 + x .second)) (getD marks p 0) ≡ min mostWord (getD marks p 0 + cond b (x .second) 0)
+      go true e = ap (λ (q : ℕ). min mostWord (getD marks q 0 + x .second)) (eqb-true (x .first) p e)
       go false e = omega arith
 
 -- all arcs at one place
@@ -125,7 +125,7 @@ clears-at (x ∷ xs) marks p l = clears-at xs (changedIf clearArc x marks) p (rw
     go false true = refl
     go false false = refl
 
-pub gives-at : (xs : List Arc) (marks : List ℕ) (p : ℕ) → p < length marks → getD marks p 0 ≤ 65535 → getD (applied giveArc xs marks) p 0 ≡ min 65535 (getD marks p 0 + weightAt giveArc xs p)
+pub gives-at : (xs : List Arc) (marks : List ℕ) (p : ℕ) → p < length marks → getD marks p 0 ≤ mostWord → getD (applied giveArc xs marks) p 0 ≡ min mostWord (getD marks p 0 + weightAt giveArc xs p)
 unfolding applied weightAt
 gives-at [] marks p l h = omega arith
 gives-at (x ∷ xs) marks p l h =

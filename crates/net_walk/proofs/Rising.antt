@@ -1,6 +1,6 @@
 -- Where places rise, one arc of a kind at most stands at a place: enabled and sums, arc by arc, are those by place.
 use Prim.Native.Nat.{ℕ, suc, _+_, _≤_, _<_, min}
-use mathlib.Core.Path.{_≡_, refl, sym, _∙_, ap, subst}
+use mathlib.Core.Path.{_≡_, refl, sym, _∙_, ap, ap₂, subst}
 use mathlib.Core.Logic.{_≢_}
 use mathlib.Core.Bool.{Bool, true, false, not, cond, _&&_}
 use mathlib.Core.List.{List, [], _∷_}
@@ -13,13 +13,12 @@ use borrow.Author.Tests.{leb-true, ltb-true, ltb-false, eqb-true, eqb-false, eq-
 use Rattle.ranges.specs.Tests.{decide, and-left, and-right}
 use Rattle.ranges.specs.RangeLaws.{all-elim, length-tab, getD-tab, all-ext, all-intro, all-fail, all-but, least-is, least-ext}
 use Rattle.effbd.specs.Ranges.{allBelow, least, only, tabulate}
+use Rattle.effbd.specs.Answers.{Outcome, accepted, refused}
 use Rattle.effbd.specs.Moves.{mostWord}
 use Rattle.effbd.specs.Nets.{Arc, Transition, takeArc, clearArc, giveArc, arcDue, arcFine, above}
 use Rattle.effbd.specs.Firing.{Behaviour, NetState, weightAt, clearedAt, effectOf, covers, takenAndCleared, overflows, firedState}
-use Rattle.net_file.specs.Contents.{arcsFine}
+use Rattle.agreement.specs.Formed.{fitsWord, arcsFine}
 use Rattle.net_walk.specs.Walked.{covered, applied, reduced, tooMuch, sums}
-use Rattle.net_walk.specs.declared.Sums.{Sums}
-use Rattle.net_walk.specs.declared.Sums.the-variants.{Fit, Over}
 use Rattle.net_walk.proofs.Effects.{Words, applied-length, reduced-length, takes-at, clears-at, gives-at}
 
 -- what fine arcs say of the first
@@ -41,7 +40,7 @@ first count k from x xs e =
       low = λ q. leb-true from (x .first) (rw (eq-eqb (x .kind) k q) at (and-left (leb (cond (eqb (x .kind) k) from 0) (x .first)) _ f));
       inside = λ q. ltb-true (x .first) count (and-left (ltb (x .first) count) (leb 1 (x .second)) (rw (ne-eqb (x .kind) clearArc q) at (and-right (leb (cond (eqb (x .kind) k) from 0) (x .first)) _ f)));
       next = λ q. rw (ne-eqb (x .kind) clearArc q);
-      rest = and-right (leb (cond (eqb (x .kind) k) from 0) (x .first) && _) _ r;
+      rest = and-right (fitsWord (x .second)) _ (and-right (leb (cond (eqb (x .kind) k) from 0) (x .first) && _) _ r);
     }
 
 module _ (count : ℕ) where
@@ -97,43 +96,36 @@ module _ (count : ℕ) where
   abbrev high : List Arc → List ℕ → ℕ → Bool
   high xs marks p = not (leb (getD marks p 0 + weightAt giveArc xs p) mostWord)
 
-  -- what the walk answers of them
-  pub record SumsAre (f : ℕ → Bool) (s : Sums) : Type 0 where
-    pub fit : s ≡ Fit → allBelow count (λ p. not (f p)) ≡ true
-    pub over : (p : ℕ) → s ≡ Over p → (allBelow count (λ q. not (f q)) ≡ false) × (least count f ≡ p)
+  -- 25 at the lowest place at which f holds, 0 where it holds at none
+  abbrev pub lowestOver : (ℕ → Bool) → Outcome ℕ
+  lowestOver f = cond (allBelow count (λ p. not (f p))) (accepted 0) (refused 25 (least count f))
 
-  sums-step : (f g : ℕ → Bool) (s : Sums) → ((p : ℕ) → p < count → f p ≡ g p) → SumsAre g s → SumsAre f s
-  sums-step f g s h r = record {
-    fit = λ e. all-ext count (λ p. not (f p)) (λ p. not (g p)) (λ p l. ap not (h p l)) ∙ r .fit e;
-    over = λ p e. (all-ext count (λ p. not (f p)) (λ p. not (g p)) (λ p l. ap not (h p l)) ∙ r .over p e .0, least-ext count f g h ∙ r .over p e .1);
-  }
+  over-ext : (f g : ℕ → Bool) → ((p : ℕ) → p < count → f p ≡ g p) → lowestOver f ≡ lowestOver g
+  over-ext f g h = ap₂ (λ (b : Bool) (p : ℕ). cond b (accepted 0) (refused 25 p)) (all-ext count (λ p. not (f p)) (λ p. not (g p)) (λ p l. ap not (h p l))) (least-ext count f g h)
 
-  sums-stop : (f : ℕ → Bool) (q : ℕ) → q < count → f q ≡ true → ((p : ℕ) → p < q → f p ≡ false) → SumsAre f (Over q)
-  sums-stop f q l e h = record {
-    fit = λ z. absurd (let y : _≡_ {A = ℕ} 0 1 = cc in omega arith);
-    over = λ p z. (all-fail count (λ p. not (f p)) q l (rw e), least-is count f q l e h ∙ (let y : q ≡ p = cc in y));
-  }
+  over-at : (f : ℕ → Bool) (q : ℕ) → q < count → f q ≡ true → ((p : ℕ) → p < q → f p ≡ false) → lowestOver f ≡ refused 25 q
+  over-at f q l e h = ap₂ (λ (b : Bool) (p : ℕ). cond b (accepted 0) (refused 25 p)) (all-fail count (λ p. not (f p)) q l (rw e)) (least-is count f q l e h)
 
-  sums-are : (k from : ℕ) (xs : List Arc) (marks : List ℕ) → 35 ≤ k → Words marks → arcsFine count k from xs ≡ true → SumsAre (high xs marks) (sums xs marks)
+  over-none : (f : ℕ → Bool) → ((p : ℕ) → p < count → f p ≡ false) → lowestOver f ≡ accepted 0
+  over-none f h = rw (all-intro count (λ p. not (f p)) (λ p l. rw (h p l)))
+
+  sums-are : (k from : ℕ) (xs : List Arc) (marks : List ℕ) → 35 ≤ k → Words marks → arcsFine count k from xs ≡ true → lowestOver (high xs marks) ≡ sums xs marks
   unfolding sums weightAt tooMuch
-  sums-are k from [] marks h w e = record {
-    fit = λ z. all-intro count (λ p. not (high [] marks p)) (λ p l. rw (le-leb (getD marks p 0 + 0) mostWord (let y = w .each p in omega arith)));
-    over = λ p z. absurd (let y : _≡_ {A = ℕ} 0 1 = cc in omega arith);
-  }
+  sums-are k from [] marks h w e = over-none (high [] marks) (λ p l. rw (le-leb (getD marks p 0 + 0) mostWord (let y = w .each p in omega arith)))
   sums-are k from (x ∷ xs) marks h w e = let f = first count k from x xs e in let d = f .due in
       go (sums-are (x .kind) (above x) xs marks (omega arith) w (f .rest)) (eqb (x .kind) giveArc) (ltb mostWord (getD marks (x .first) 0 + x .second)) refl refl
     where
       f : First count k from x xs
       f = first count k from x xs e
 
-      go : SumsAre (high xs marks) (sums xs marks) → (a b : Bool) → eqb (x .kind) giveArc ≡ a → ltb mostWord (getD marks (x .first) 0 + x .second) ≡ b
-          → SumsAre (high (x ∷ xs) marks) (cond (a && b) (Over (x .first)) (sums xs marks))
-      go ih false b q r = sums-step (high (x ∷ xs) marks) (high xs marks) (sums xs marks) (λ p l. rw q (ap (λ (v : ℕ). not (leb (getD marks p 0 + v) mostWord)) (zero-add (weightAt giveArc xs p)))) ih
+      go : lowestOver (high xs marks) ≡ sums xs marks → (a b : Bool) → eqb (x .kind) giveArc ≡ a → ltb mostWord (getD marks (x .first) 0 + x .second) ≡ b
+          → lowestOver (high (x ∷ xs) marks) ≡ cond (a && b) (refused 25 (x .first)) (sums xs marks)
+      go ih false b q r = over-ext (high (x ∷ xs) marks) (high xs marks) (λ p l. rw q (ap (λ (v : ℕ). not (leb (getD marks p 0 + v) mostWord)) (zero-add (weightAt giveArc xs p)))) ∙ ih
       go ih true b q r = give ih b q r
         where
-          give : SumsAre (high xs marks) (sums xs marks) → (b : Bool) → eqb (x .kind) giveArc ≡ true → ltb mostWord (getD marks (x .first) 0 + x .second) ≡ b
-              → SumsAre (high (x ∷ xs) marks) (cond b (Over (x .first)) (sums xs marks))
-          give ih true q r = sums-stop (high (x ∷ xs) marks) (x .first) inside
+          give : lowestOver (high xs marks) ≡ sums xs marks → (b : Bool) → eqb (x .kind) giveArc ≡ true → ltb mostWord (getD marks (x .first) 0 + x .second) ≡ b
+              → lowestOver (high (x ∷ xs) marks) ≡ cond b (refused 25 (x .first)) (sums xs marks)
+          give ih true q r = over-at (high (x ∷ xs) marks) (x .first) inside
               (rw (q, eq-eqb (x .first) (x .first) refl, lt-leb (getD marks (x .first) 0 + (x .second + weightAt giveArc xs (x .first))) mostWord (let y = ltb-true mostWord (getD marks (x .first) 0 + x .second) r in omega arith)))
               (λ p l. rw (q, ne-eqb (x .first) p (omega arith), below p l, le-leb (getD marks p 0 + 0) mostWord (let y = w .each p in omega arith)))
             where
@@ -148,14 +140,14 @@ module _ (count : ℕ) where
 
               below : (p : ℕ) → p < x .first → weightAt giveArc xs p ≡ 0
               below p l = let n = f .next c in subst (λ (j : ℕ). weightAt j xs p ≡ 0) z (low-weight (x .kind) (above x) xs p c (omega arith) (f .rest))
-          give ih false q r = sums-step (high (x ∷ xs) marks) (high xs marks) (sums xs marks)
+          give ih false q r = over-ext (high (x ∷ xs) marks) (high xs marks)
               (λ p l. decide (only p (x .first))
               (λ y. let u = eqb-true (x .first) p y in
               rw (q, ← u, eq-eqb (x .first) (x .first) refl, own) (rw (
                 le-leb (getD marks (x .first) 0 + (x .second + 0)) mostWord (let v = ltb-false mostWord (getD marks (x .first) 0 + x .second) r in omega arith),
                 le-leb (getD marks (x .first) 0 + 0) mostWord (let v = w .each (x .first) in omega arith),
               )))
-              (λ y. rw (q, y) (ap (λ (v : ℕ). not (leb (getD marks p 0 + v) mostWord)) (zero-add (weightAt giveArc xs p))))) ih
+              (λ y. rw (q, y) (ap (λ (v : ℕ). not (leb (getD marks p 0 + v) mostWord)) (zero-add (weightAt giveArc xs p))))) ∙ ih
             where
               z : x .kind ≡ giveArc
               z = eqb-true (x .kind) giveArc q
@@ -169,12 +161,12 @@ unfolding covers effectOf
 enabled-is n t marks e = covered-is (n .places) takeArc 0 (t .arcs) marks (omega arith) e
 
 module _ (n : Behaviour) (t : Transition) (s : NetState) (mid : List ℕ) (reached : takenAndCleared n (effectOf t) (s .marks) ≡ mid) (words : Words mid) where
-  -- THEOREM: the first give that passes 65,535 is at the lowest place that does
-  pub sums-is : arcsFine (n .places) takeArc 0 (t .arcs) ≡ true → SumsAre (n .places) (overflows n (effectOf t) s) (sums (t .arcs) mid)
+  -- THEOREM: the first give that passes 65,535 is at the lowest place that does: the walk over the gives answers what the definition does
+  pub sums-is : arcsFine (n .places) takeArc 0 (t .arcs) ≡ true → lowestOver (n .places) (overflows n (effectOf t) s) ≡ sums (t .arcs) mid
   unfolding overflows effectOf
-  sums-is e = sums-step (n .places) (overflows n (effectOf t) s) (high (n .places) (t .arcs) mid) (sums (t .arcs) mid)
+  sums-is e = over-ext (n .places) (overflows n (effectOf t) s) (high (n .places) (t .arcs) mid)
       (λ p l. ap (λ (m : List ℕ). not (leb (getD m p 0 + weightAt giveArc (t .arcs) p) mostWord)) reached)
-      (sums-are (n .places) takeArc 0 (t .arcs) mid (omega arith) words e)
+      ∙ (sums-are (n .places) takeArc 0 (t .arcs) mid (omega arith) words e)
 
   -- THEOREM: where all sums fit, gives that stop at 65,535 are the sums
   pub given-is : (j : ℕ) → length mid ≡ n .places → allBelow (n .places) (λ p. not (overflows n (effectOf t) s p)) ≡ true
@@ -184,14 +176,14 @@ module _ (n : Behaviour) (t : Transition) (s : NetState) (mid : List ℕ) (reach
       (length-tab (n .places) f ∙ sym (applied-length giveArc (t .arcs) mid ∙ e))
       (λ p l. let h : p < n .places = rw (length-tab (n .places) f) at l in
       getD-tab (n .places) f p 0 h ∙ (ap (λ (m : List ℕ). getD m p 0 + weightAt giveArc (t .arcs) p) reached
-      ∙ (let b = bounded p h in let z : getD mid p 0 + weightAt giveArc (t .arcs) p ≡ min 65535 (getD mid p 0 + weightAt giveArc (t .arcs) p) = omega arith in
+      ∙ (let b = bounded p h in let z : getD mid p 0 + weightAt giveArc (t .arcs) p ≡ min mostWord (getD mid p 0 + weightAt giveArc (t .arcs) p) = omega arith in
       z ∙ sym (gives-at (t .arcs) mid p (rw e h) (words .each p)))))
     where
       f : ℕ → ℕ
       f p = getD (takenAndCleared n (effectOf t) (s .marks)) p 0 + weightAt giveArc (t .arcs) p
 
-      bounded : (p : ℕ) → p < n .places → getD mid p 0 + weightAt giveArc (t .arcs) p ≤ 65535
-      bounded p h = leb-true (getD mid p 0 + weightAt giveArc (t .arcs) p) 65535
+      bounded : (p : ℕ) → p < n .places → getD mid p 0 + weightAt giveArc (t .arcs) p ≤ mostWord
+      bounded p h = leb-true (getD mid p 0 + weightAt giveArc (t .arcs) p) mostWord
           (rw reached at (not-false-of (leb (getD (takenAndCleared n (effectOf t) (s .marks)) p 0 + weightAt giveArc (t .arcs) p) mostWord) (all-elim (n .places) (λ q. not (overflows n (effectOf t) s q)) fit p h)))
         where
           not-false-of : (b : Bool) → not (not b) ≡ true → b ≡ true
@@ -210,7 +202,7 @@ reduced-words xs marks w = record {
       rw (List·getD-eq-default (applied clearArc xs (applied takeArc xs marks)) 0 {n = p} (let y = reduced-length xs marks in unfold-length y l)) (omega arith));
 }
   where
-    less : (b : Bool) (x : ℕ) → x ≤ 65535 → cond b 0 x ≤ 65535
+    less : (b : Bool) (x : ℕ) → x ≤ mostWord → cond b 0 x ≤ mostWord
     less true x h = omega arith
     less false x h = h
 

@@ -8,12 +8,13 @@ use borrow.Author.Tests.{eqb-true, eq-eqb, ne-eqb, le-leb, lt-leb}
 use lib.ListN.{length, drop, getD, set}
 use lib.Dec.{eqb, leb}
 use Rattle.ranges.specs.Tests.{decide, clash, and-left, and-right, and-intro}
+use Rattle.effbd.specs.Answers.{accepted, refused}
 use Rattle.effbd.specs.Records.{word, kindAt}
+use Rattle.effbd.specs.Moves.{mostWord}
 use Rattle.effbd.specs.Nets.{takeArc, arcDue, arcAt}
 use Rattle.net_file.specs.Contents.{arcHere, arcsIn, transitionIn, afterTransition, transitionsIn, partAt}
 use Rattle.net_file.proofs.Walks.{here-long, arcs-more, arcs-done, transitions-more, transitions-none, part-more, part-none}
 use Rattle.net_walk.specs.Walked.{takeHere, covered, zeros, changed, changedIf, applied, tooMuch, sums, stands, lowest}
-use Rattle.net_walk.specs.declared.Sums.the-variants.{Fit, Over}
 
 pub take-kind : (rest : List ℕ) → takeHere rest ≡ true → eqb (kindAt rest) takeArc ≡ true
 unfolding takeHere
@@ -60,7 +61,7 @@ module _ (marks rest : List ℕ) (h : arcHere rest ≡ true) where
   unfolding sums
   sums-go e = rw (arcs-more rest h, e)
 
-  pub sums-stop : (place : ℕ) → tooMuch (arcAt rest) marks ≡ true → place ≡ word rest 4 → sums (arcsIn rest) marks ≡ Over place
+  pub sums-stop : (place : ℕ) → tooMuch (arcAt rest) marks ≡ true → place ≡ word rest 4 → sums (arcsIn rest) marks ≡ refused 25 place
   unfolding sums
   sums-stop place e ep = rw (arcs-more rest h, e, ep)
 
@@ -69,7 +70,7 @@ module _ (marks rest : List ℕ) (h : arcHere rest ≡ false) where
   unfolding applied
   applied-end kind = rw (arcs-done rest h)
 
-  pub sums-end : sums (arcsIn rest) marks ≡ Fit
+  pub sums-end : sums (arcsIn rest) marks ≡ accepted 0
   unfolding sums
   sums-end = rw (arcs-done rest h)
 
@@ -79,7 +80,7 @@ module _ (marks : List ℕ) (kind first second mark : ℕ) (em : mark ≡ getD m
   unfolding changed
   change-take v e ev = rw (e, ev, em)
 
-  pub change-give : (v : ℕ) → (kind ≡ 35 → ⊥) → (kind ≡ 36 → ⊥) → v ≡ min 65535 (mark + second) → set marks first v ≡ changed kind first second marks
+  pub change-give : (v : ℕ) → (kind ≡ 35 → ⊥) → (kind ≡ 36 → ⊥) → v ≡ min mostWord (mark + second) → set marks first v ≡ changed kind first second marks
   unfolding changed
   change-give v a b ev = rw (ne-eqb kind 35 a, ne-eqb kind 36 b, ev, em)
 

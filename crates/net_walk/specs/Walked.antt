@@ -4,11 +4,10 @@ use mathlib.Core.Bool.{Bool, true, cond, _&&_}
 use mathlib.Core.List.{List, [], _∷_}
 use lib.ListN.{length, getD, set}
 use lib.Dec.{leb, ltb, eqb}
+use Rattle.effbd.specs.Answers.{Outcome, accepted, refused}
 use Rattle.effbd.specs.Records.{kindAt}
 use Rattle.effbd.specs.Moves.{mostWord}
 use Rattle.effbd.specs.Nets.{Arc, Transition, takeArc, clearArc, giveArc}
-use Rattle.net_walk.specs.declared.Sums.{Sums}
-use Rattle.net_walk.specs.declared.Sums.the-variants.{Fit, Over}
 
 -- a take stands at the start
 unfoldable pub takeHere : List ℕ → Bool
@@ -41,13 +40,14 @@ applied kind (x ∷ xs) marks = applied kind xs (changedIf kind x marks)
 unfoldable pub reduced : List Arc → List ℕ → List ℕ
 reduced arcs marks = applied clearArc arcs (applied takeArc arcs marks)
 
--- the first give whose sum passes 65,535
+-- the sum of a mark and a give passes 65,535
 unfoldable pub tooMuch : Arc → List ℕ → Bool
 tooMuch x marks = eqb (x .kind) giveArc && ltb mostWord (getD marks (x .first) 0 + x .second)
 
-unfoldable pub sums : List Arc → List ℕ → Sums
-sums [] marks = Fit
-sums (x ∷ xs) marks = cond (tooMuch x marks) (Over (x .first)) (sums xs marks)
+-- 25 at the first such give, 0 where all sums fit
+unfoldable pub sums : List Arc → List ℕ → Outcome ℕ
+sums [] marks = accepted 0
+sums (x ∷ xs) marks = cond (tooMuch x marks) (refused 25 (x .first)) (sums xs marks)
 
 -- a transition is labelled so and enabled; the lowest-numbered such one, or how many transitions there are
 unfoldable pub stands : Transition → List ℕ → ℕ → Bool

@@ -1,34 +1,42 @@
 // Walks over the arcs and transitions of a net file, on its bytes. Nothing is asked of the file: what its bytes say, accepted
 // or not, is defined in net_file's specs/Contents.antt.
+use effbd::Answer;
+use effbd::limits::MOST_WORD;
+use effbd::refusals::SUM_TOO_LARGE;
 use words::kinds::CLEAR;
 use words::kinds::GIVE;
 use words::kinds::TAKE;
 ghost use mathlib.Core.Path.{_≡_};
 ghost use Prim.Native.Nat.{_+_, _-_, min};
+ghost use Rattle.effbd.specs.Answers.{said};
 ghost use Rattle.effbd.specs.Nets.{arcAt};
 ghost use Rattle.effbd.specs.Moves.{mostWord};
 ghost use Rattle.net_file.specs.Contents.{arcHere, arcsIn, pastArcs, transitionIn, afterTransition, transitionsIn, partAt};
 ghost use Rattle.net_walk.specs.Walked.{takeHere, covered, zeros, changed, changedIf, applied, tooMuch, sums as sumsOf, stands as standsIn, lowest as lowestIn};
 
-// The sums of marks and gives: they fit 16 bits, or the first place at which one does not.
-pub enum Sums {
-    Fit,
-    Over(u16),
-}
+// The lengths that the table of kinds gives the records of a net. A walk over a file that was read asks no table: its promises are
+// about these lengths, so that none could be another.
+pub const HEAD_LENGTH: usize = 8;
+
+pub const PLACE_LENGTH: usize = 6;
+
+pub const TRANSITION_LENGTH: usize = 10;
+
+pub const ARC_LENGTH: usize = 8;
 
 // Does an arc stand at the start?
 fn arc_here(rest: &[u8]) -> bool
     ensures { λ r. ⌜ r ≡ arcHere (now (rest .entry)) ⌝ }
 {
     let kind = words::word(rest, 2);
-    8 <= rest.len() && (TAKE <= kind && kind <= GIVE)
+    ARC_LENGTH <= rest.len() && (TAKE <= kind && kind <= GIVE)
 }
 
 // Does a take?
 fn take_here(rest: &[u8]) -> bool
     ensures { λ r. ⌜ r ≡ takeHere (now (rest .entry)) ⌝ }
 {
-    8 <= rest.len() && words::word(rest, 2) == TAKE
+    ARC_LENGTH <= rest.len() && words::word(rest, 2) == TAKE
 }
 
 // Do the marks cover the takes of these arcs?
@@ -40,7 +48,7 @@ pub fn covers(marks: &[u16], arcs: &[u8]) -> bool
         if words::get(marks, words::word(rest, 4) as usize) < words::word(rest, 6) {
             return false;
         }
-        let more = words::tail(rest, 8);
+        let more = words::tail(rest, ARC_LENGTH);
         rest = more;
     }
     true
@@ -52,7 +60,7 @@ pub fn past<'a>(arcs: &'a [u8]) -> &'a [u8]
 {
     let mut rest = arcs;
     while arc_here(rest) {
-        let more = words::tail(rest, 8);
+        let more = words::tail(rest, ARC_LENGTH);
         rest = more;
     }
     rest
@@ -69,10 +77,10 @@ fn lowered(mark: u16, weight: u16) -> u16
 fn raised(mark: u16, weight: u16) -> u16
     ensures { λ r. ⌜ r ≡ min mostWord (mark + weight) ⌝ }
 {
-    if mark as u32 + weight as u32 <= 65535 {
+    if mark as u32 + weight as u32 <= MOST_WORD as u32 {
         mark + weight
     } else {
-        65535
+        MOST_WORD
     }
 }
 
@@ -115,7 +123,7 @@ pub fn apply(marks: &mut [u16], kind: u16, arcs: &[u8])
     let mut rest = arcs;
     while arc_here(rest) {
         change_if(marks, kind, rest);
-        let more = words::tail(rest, 8);
+        let more = words::tail(rest, ARC_LENGTH);
         rest = more;
     }
 }
@@ -128,29 +136,29 @@ fn too_much(marks: &[u16], rest: &[u8]) -> bool
         return false;
     }
     let mark = words::get(marks, words::word(rest, 4) as usize);
-    65535 < mark as u32 + words::word(rest, 6) as u32
+    (MOST_WORD as u32) < mark as u32 + words::word(rest, 6) as u32
 }
 
-// Do the sums of marks and gives fit?
-pub fn sums_fit(marks: &[u16], arcs: &[u8]) -> Sums
-    ensures { λ r. ⌜ r ≡ sumsOf (arcsIn (now (arcs .entry))) (now (marks .entry)) ⌝ }
+// Do the sums of marks and gives fit? Refused (25) with the first place at which one does not.
+pub fn sums_fit(marks: &[u16], arcs: &[u8]) -> Answer
+    ensures { λ r. ⌜ said r ≡ sumsOf (arcsIn (now (arcs .entry))) (now (marks .entry)) ⌝ }
 {
     let mut rest = arcs;
     while arc_here(rest) {
         if too_much(marks, rest) {
-            return Sums::Over(words::word(rest, 4));
+            return Answer::Refused(SUM_TOO_LARGE, words::word(rest, 4) as u32);
         }
-        let more = words::tail(rest, 8);
+        let more = words::tail(rest, ARC_LENGTH);
         rest = more;
     }
-    Sums::Fit
+    Answer::Accepted(0)
 }
 
 // What follows the transition at the start of `rest`.
 pub fn after<'a>(rest: &'a [u8]) -> &'a [u8]
     ensures { λ r. ⌜ now r ≡ afterTransition (now (rest .entry)) ⌝ }
 {
-    past(words::tail(rest, 10))
+    past(words::tail(rest, TRANSITION_LENGTH))
 }
 
 // Where transition number `j` begins.
@@ -171,7 +179,7 @@ pub fn part_at<'a>(transitions: &'a [u8], j: u16) -> &'a [u8]
 fn stands(marks: &[u16], rest: &[u8], label: u16) -> bool
     ensures { λ r. ⌜ r ≡ standsIn (transitionIn (now (rest .entry))) (now (marks .entry)) label ⌝ }
 {
-    words::word(rest, 4) == label && covers(marks, words::tail(rest, 10))
+    words::word(rest, 4) == label && covers(marks, words::tail(rest, TRANSITION_LENGTH))
 }
 
 // The lowest-numbered enabled transition labelled so among `count`; `count` where there is none.

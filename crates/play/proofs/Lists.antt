@@ -7,7 +7,7 @@ use native.Mathlib.Omega.{arith}
 use lib.ListN.{length, take, drop}
 use Rattle.effbd.specs.Records.{lengthAt}
 use Rattle.effbd.specs.History.{Call, offer, hand, Ends, Seen, run, seen, runAll, seenAll}
-use Rattle.play.specs.CallList.{isCall, callAt, callsIn, afterCall, listAfter}
+use Rattle.play.specs.CallList.{isCall, recordAt, callOf, callsIn, afterCall, listAfter}
 use Rattle.play.specs.Played.{Live, liveAfter, liveSeen, liveAll, liveSeenAll}
 
 -- both ends without the bytes that went over the bus
@@ -71,16 +71,16 @@ module _ (file net : List ℕ) (station : ℕ) where
 
   -- one call of the loop: its record's bytes are replaced by what is seen of it, the rest stays
   pub making-turn : (v₀ : Live) (calls₀ : List ℕ) (most at : ℕ) (v v′ : Live) (calls calls′ : List ℕ) → Making v₀ calls₀ (suc most) at v calls
-      → isCall (drop at calls) ≡ true → v′ ≡ liveAfter file net station v (callAt (drop at calls))
+      → isCall (drop at calls) ≡ true → v′ ≡ liveAfter file net station v (callOf (recordAt (drop at calls)))
       → length calls′ ≡ length calls → at + lengthAt (drop at calls) ≤ length calls
-      → take (at + lengthAt (drop at calls)) calls′ ≡ take at calls ++ afterCall (drop at calls) (liveSeen file net station v (callAt (drop at calls)))
+      → take (at + lengthAt (drop at calls)) calls′ ≡ take at calls ++ afterCall (recordAt (drop at calls)) (liveSeen file net station v (callOf (recordAt (drop at calls))))
       → drop (at + lengthAt (drop at calls)) calls′ ≡ drop (lengthAt (drop at calls)) (drop at calls)
       → Making v₀ calls₀ most (at + lengthAt (drop at calls)) v′ calls′
   unfolding callsIn liveAll liveSeenAll listAfter
   making-turn v₀ calls₀ most at v v′ calls calls′ m c e n l front back = record {
     within = omega arith;
     live = (rw c at (m .live)) ∙ ap₂ (λ (x : Live) (y : List ℕ). liveAll file net station x (callsIn most y)) (sym e) (sym back);
-    list = (rw (c, c) at (m .list)) ∙ (sym (append-assoc (take at calls) (afterCall rest (liveSeen file net station v (callAt rest))) _)
+    list = (rw (c, c) at (m .list)) ∙ (sym (append-assoc (take at calls) (afterCall (recordAt rest) (liveSeen file net station v (callOf (recordAt rest)))) _)
         ∙ ap₂ (λ (x y : List ℕ). x ++ y) (sym front)
         (ap₂ (λ (x : Live) (y : List ℕ). listAfter most (liveSeenAll file net station x (callsIn most y)) y) (sym e) (sym back)));
   }

@@ -17,19 +17,20 @@ use Rattle.effbd.specs.Layout.{places}
 use Rattle.effbd.specs.States.{freshWords}
 use Rattle.effbd.specs.Moves.{freshDiagram}
 use Rattle.effbd.specs.Nets.{Net, readNet}
-use Rattle.effbd.specs.Firing.{netWordCount, freshNetWords, freshNet}
+use Rattle.effbd.specs.Firing.{netWordCount, wordsOf, freshNetWords, freshNet}
 use Rattle.effbd.specs.Patterns.{netOf, Translated, translated}
 use Rattle.effbd.specs.History.{Seen, freshEnds, netFileOf}
+use Rattle.translate.specs.NetRecords.{longestNet}
 use Rattle.ranges.specs.Tests.{decide}
 use Rattle.agreement.specs.AcceptedFiles.{held}
 use Rattle.agreement.specs.Theorems.{net-well-formed, net-read-back}
 use Rattle.bus.specs.Demand.{demand-3}
-use Rattle.diagram_file.specs.Tables.{refusalNumber, refusalValue, HoldsFile, Parsed}
+use Rattle.diagram_file.specs.Tables.{refusalNumber, refusalValue, Parsed}
+use Rattle.diagram_table.specs.Held.{HoldsFile}
 use Rattle.diagram_file.specs.declared.Diagram.{Diagram as Table}
-use Rattle.net_file.specs.Due.{wordsOf}
 use Rattle.translate.proofs.Sizes.{net-small}
 use Rattle.play.specs.CallList.{callsOf, listAfter}
-use Rattle.play.specs.Parts.{netLength, Laid, NetOf, asLong}
+use Rattle.play.specs.ReadyEnds.{netLength, NetLaid, NetLaidAs, NetOf, asLong}
 use Rattle.play.specs.Played.{Live, AllCalled, playable, Played, PlayedAs}
 use Rattle.play.proofs.Lists.{live-all, live-seen-all}
 
@@ -52,45 +53,30 @@ started file net station leader follower fresh calls leader′ follower′ calls
     subst (λ (x : List ℕ). AllCalled file net station (record { leader = leader; sent = 0; follower = x; taken = 0 }) calls leader′ follower′ calls′ sent took) e
 
 -- a refused file has no net
-pub no-net : (file area : List ℕ) (p : Table) → Parsed file p → p .number ≢ 0 → (refused (p .number) (p .value) ≡ netLength (readDiagram file)) × Laid file area
+pub no-net : (file area : List ℕ) (p : Table) → Parsed file p → p .number ≢ 0 → (refused (p .number) (p .value) ≡ netLength (readDiagram file)) × NetLaidAs (readDiagram file) area area
 unfolding netLength
-no-net file area p h n = go (readDiagram file) refl (h .number) (h .value)
+no-net file area p h n = go (readDiagram file) (h .number) (h .value)
   where
-    go : (o : Outcome Diagram) → readDiagram file ≡ o → p .number ≡ refusalNumber o → p .value ≡ refusalValue o → (refused (p .number) (p .value) ≡ netLength o) × Laid file area
-    go (accepted d) r e f = absurd (n e)
-    go (refused number value) r e f = (
-      ap₂ refused e f,
-      record {
-        within = λ d s. absurd (let z : _≡_ {A = ℕ} 0 1 = cc in omega arith);
-        front = λ d s. absurd (let z : _≡_ {A = ℕ} 0 1 = cc in omega arith);
-      },
-    )
+    go : (o : Outcome Diagram) → p .number ≡ refusalNumber o → p .value ≡ refusalValue o → (refused (p .number) (p .value) ≡ netLength o) × NetLaidAs o area area
+    go (accepted d) e f = absurd (n e)
+    go (refused number value) e f = (ap₂ refused e f, refl)
 
 -- an accepted file's net fits
 module _ (file : List ℕ) (rows items : ℕ) (table : List ℕ) (h : HoldsFile file rows items table) (bytes : areBytes file ≡ true) where
-  small : length (netFileOf (h .diagram)) ≤ 65535
+  small : length (netFileOf (h .diagram)) ≤ longestNet
   small = net-small (h .diagram) rows items table file (h .holds) (h .uses) (held file (h .diagram) bytes (h .read))
 
-  translation : (area : List ℕ) → 65535 ≤ length area
+  translation : (area : List ℕ) → longestNet ≤ length area
       → translated file area ≡ record { answer = accepted (length (netFileOf (h .diagram))); area = netFileOf (h .diagram) ++ drop (length (netFileOf (h .diagram))) area }
   unfolding translated
   translation area l = let s = small in rw (h .read, le-ltb (length area) (length (netFileOf (h .diagram))) (omega arith))
 
-  pub net-laid : (area after : List ℕ) (answer : Outcome ℕ) → 65535 ≤ length area → answer ≡ translated file area .answer → after ≡ translated file area .area
-      → (answer ≡ netLength (readDiagram file)) × Laid file after
+  pub net-laid : (area after : List ℕ) (answer : Outcome ℕ) → longestNet ≤ length area → answer ≡ translated file area .answer → after ≡ translated file area .area
+      → (answer ≡ netLength (readDiagram file)) × NetLaidAs (readDiagram file) area after
   unfolding netLength
-  net-laid area after answer l a e =
-      let t = translation area l in
-      let is : after ≡ netFileOf (h .diagram) ++ drop (length (netFileOf (h .diagram))) area = e ∙ ap (λ (x : Translated). x .area) t in
-      let same : (d : Diagram) → readDiagram file ≡ accepted d → h .diagram ≡ d = λ d r. (let r′ = h .read in cc) in (
-        a ∙ (ap (λ (x : Translated). x .answer) t ∙ ap netLength (sym (h .read))),
-        record {
-          within = λ d r. subst (λ (x : Diagram). length (netFileOf x) ≤ length after) (same d r)
-              (let n = length-append (netFileOf (h .diagram)) (drop (length (netFileOf (h .diagram))) area) in let m = ap length is in omega arith);
-          front = λ d r. subst (λ (x : Diagram). take (length (netFileOf x)) after ≡ netFileOf x) (same d r)
-              (ap (take (length (netFileOf (h .diagram)))) is ∙ take-at (netFileOf (h .diagram)) (drop (length (netFileOf (h .diagram))) area) (length (netFileOf (h .diagram))) refl);
-        },
-      )
+  net-laid area after answer l a e = let t = translation area l in
+      subst (λ (o : Outcome Diagram). (answer ≡ netLength o) × NetLaidAs o area after) (sym (h .read))
+      (a ∙ ap (λ (x : Translated). x .answer) t, record { holds = e ∙ ap (λ (x : Translated). x .area) t; small = small })
 
 -- nothing was done
 pub unplayed : (o : Outcome Diagram) (number value : ℕ) → o ≡ refused number value → (file : List ℕ) (station : ℕ) (calls leader follower leader′ : List ℕ) → leader′ ≡ leader
@@ -116,17 +102,20 @@ file-refused file number value e leader follower = go (readDiagram file) e
     go (refused n v) f = let a : n ≡ number = cc in let b : v ≡ value = cc in ap₂ refused a b
 
 -- a file that is accepted, and its net in an area
-pub found-net : (file area : List ℕ) (n : ℕ) → accepted n ≡ netLength (readDiagram file) → Laid file area → (n ≤ length area) × NetOf file (take n area)
+pub found-net : (file area after : List ℕ) (n : ℕ) → accepted n ≡ netLength (readDiagram file) → NetLaidAs (readDiagram file) area after
+    → (n ≤ length after) × NetOf file (take n after)
 unfolding netLength
-found-net file area n e h = go (readDiagram file) refl e
+found-net file area after n e h = go (readDiagram file) refl e h
   where
-    go : (o : Outcome Diagram) → readDiagram file ≡ o → accepted n ≡ netLength o → (n ≤ length area) × NetOf file (take n area)
-    go (accepted d) r f = let q : n ≡ length (netFileOf d) = cc in
-        (subst (λ (x : ℕ). x ≤ length area) (sym q) (h .within d r), record { diagram = d; read = r; is = ap (λ (x : ℕ). take x area) q ∙ h .front d r })
-    go (refused number value) r f = absurd (let z : _≡_ {A = ℕ} 0 1 = cc in omega arith)
+    go : (o : Outcome Diagram) → readDiagram file ≡ o → accepted n ≡ netLength o → NetLaidAs o area after → (n ≤ length after) × NetOf file (take n after)
+    go (accepted d) r f l =
+        let q : n ≡ length (netFileOf d) = cc in
+        let long = ap length (l .holds) ∙ length-append (netFileOf d) (drop (length (netFileOf d)) area) in
+        (omega arith, record { diagram = d; read = r; is = ap (take n) (l .holds) ∙ take-at (netFileOf d) (drop (length (netFileOf d)) area) n (sym q) })
+    go (refused number value) r f l = absurd (let z : _≡_ {A = ℕ} 0 1 = cc in omega arith)
 
 module _ (file net : List ℕ) (n : NetOf file net) (bytes : areBytes file ≡ true) where
-  net-reads : readNet net ≡ accepted (netOf (n .diagram))
+  pub net-reads : readNet net ≡ accepted (netOf (n .diagram))
   net-reads = ap readNet (n .is) ∙ net-read-back (netOf (n .diagram)) (net-well-formed file (n .diagram) bytes (n .read))
 
   as-long : (follower : List ℕ) (b : Bool) → b ≡ asLong (readNet net) (length follower) → eqb (length follower) (netWordCount (netOf (n .diagram))) ≡ b
@@ -144,7 +133,7 @@ module _ (file net : List ℕ) (n : NetOf file net) (bytes : areBytes file ≡ t
   follower-off leader follower e = decide (eqb (length leader) (places (n .diagram)))
       (λ t. playable-is leader follower true false t (as-long follower false e)) (λ t. playable-is leader follower false false t (as-long follower false e))
 
-  fresh-is : (leader : List ℕ) (a : Bool) → eqb (length leader) (places (n .diagram)) ≡ a → freshDiagram file leader ≡ cond a (accepted (freshWords (n .diagram))) (refused 20 0)
+  pub fresh-is : (leader : List ℕ) (a : Bool) → eqb (length leader) (places (n .diagram)) ≡ a → freshDiagram file leader ≡ cond a (accepted (freshWords (n .diagram))) (refused 20 0)
   unfolding freshDiagram
   fresh-is leader a p = ap (λ (o : Outcome Diagram). andThen o (λ d. cond (eqb (length leader) (places d)) (accepted (freshWords d)) (refused 20 0))) (n .read)
       ∙ ap (λ (x : Bool). cond x (accepted (freshWords (n .diagram))) (refused 20 0)) p
@@ -158,7 +147,7 @@ module _ (file net : List ℕ) (n : NetOf file net) (bytes : areBytes file ≡ t
       (λ t. let z : refused number value ≡ refused 20 0 = r ∙ ap returningZero (fresh-is leader false t) in let a : 20 ≡ number = cc in let b : 0 ≡ value = cc in
       (playable-is leader follower false true t (as-long follower true e) ∙ ap₂ refused a b, l ∙ ap (afterwards leader) (fresh-is leader false t)))
 
-  fresh-net-is : (follower : List ℕ) → eqb (length follower) (netWordCount (netOf (n .diagram))) ≡ true → freshNet net follower ≡ accepted (freshNetWords (netOf (n .diagram)))
+  pub fresh-net-is : (follower : List ℕ) → eqb (length follower) (netWordCount (netOf (n .diagram))) ≡ true → freshNet net follower ≡ accepted (freshNetWords (netOf (n .diagram)))
   unfolding freshNet
   fresh-net-is follower p = ap (λ (o : Outcome Net). andThen o (λ x. cond (eqb (length follower) (netWordCount x)) (accepted (freshNetWords x)) (refused 20 0))) net-reads
       ∙ ap (λ (x : Bool). cond x (accepted (freshNetWords (netOf (n .diagram)))) (refused 20 0)) p

@@ -1,3 +1,3 @@
 pub mod CallList
-pub mod Parts
 pub mod Played
+pub mod ReadyEnds

@@ -13,7 +13,7 @@ use Rattle.effbd.specs.Firing.{netWordCount}
 use Rattle.effbd.specs.Patterns.{netOf}
 use Rattle.effbd.specs.BusEnds.{offered, taken}
 use Rattle.effbd.specs.History.{Call, offer, hand, Seen, freshEnds, seenAll, netFileOf, endsOf, MayBeHanded, Demand3}
-use Rattle.play.specs.CallList.{callAt, callsOf, afterCall, listAfter}
+use Rattle.play.specs.CallList.{callOf, callsOf, afterCall, listAfter}
 
 -- the memory of both ends: states and counts
 pub record Live : Type 0 where
@@ -23,7 +23,11 @@ pub record Live : Type 0 where
   pub taken : ℕ
 
 module _ (file net : List ℕ) (station : ℕ) where
-  -- what one call leaves, and what is seen of it
+  -- what one call is answered, what it leaves, and what is seen of it
+  unfoldable pub liveAnswer : Live → Call → Outcome ℕ
+  liveAnswer v (offer code argument area) = offered file (v .leader) (v .sent) station code argument area .answer
+  liveAnswer v (hand bytes) = taken net (v .follower) (v .taken) station bytes .answer
+
   unfoldable pub liveAfter : Live → Call → Live
   liveAfter v (offer code argument area) = let o = offered file (v .leader) (v .sent) station code argument area in
       record { leader = o .state; sent = afterwards (v .sent) (o .answer); follower = v .follower; taken = v .taken }
@@ -42,13 +46,14 @@ module _ (file net : List ℕ) (station : ℕ) where
   liveSeenAll v [] = []
   liveSeenAll v (x ∷ xs) = liveSeen v x ∷ liveSeenAll (liveAfter v x) xs
 
--- one call was made: the memory of both ends and the call's record afterwards
-pub record Called (file net : List ℕ) (station : ℕ) (v : Live) (call leader follower after : List ℕ) (sent took : ℕ) : Type 0 where
-  pub leader-holds : leader ≡ liveAfter file net station v (callAt call) .leader
-  pub sent-is : sent ≡ liveAfter file net station v (callAt call) .sent
-  pub follower-holds : follower ≡ liveAfter file net station v (callAt call) .follower
-  pub taken-is : took ≡ liveAfter file net station v (callAt call) .taken
-  pub record-holds : after ≡ afterCall call (liveSeen file net station v (callAt call))
+-- one call was made: its answer, the memory of both ends and the call's bytes afterwards
+pub record Called (file net : List ℕ) (station : ℕ) (v : Live) (call leader follower after : List ℕ) (answer : Outcome ℕ) (sent took : ℕ) : Type 0 where
+  pub answer-is : answer ≡ liveAnswer file net station v (callOf call)
+  pub leader-holds : leader ≡ liveAfter file net station v (callOf call) .leader
+  pub sent-is : sent ≡ liveAfter file net station v (callOf call) .sent
+  pub follower-holds : follower ≡ liveAfter file net station v (callOf call) .follower
+  pub taken-is : took ≡ liveAfter file net station v (callOf call) .taken
+  pub record-holds : after ≡ afterCall call (liveSeen file net station v (callOf call))
 
 -- all calls of a list were made
 pub record AllCalled (file net : List ℕ) (station : ℕ) (v : Live) (calls leader follower after : List ℕ) (sent took : ℕ) : Type 0 where

@@ -2,7 +2,7 @@
 use Prim.Native.Nat.{ℕ, zero, suc}
 use mathlib.Core.Path.{_≡_, refl}
 use mathlib.Core.Logic.{_≢_}
-use Rattle.effbd.specs.Answers.{Outcome, refused, unless, andThen}
+use Rattle.effbd.specs.Answers.{Outcome, accepted, refused, unless, andThen}
 
 -- on where there is no fault, turned away where there is one
 pub unless-none : {A : Type 0} (f v : ℕ) (on : Outcome A) → f ≡ 0 → unless f v on ≡ on
@@ -20,3 +20,9 @@ unless-same (suc f) v o p h = refl
 pub unless-then : {A B : Type 0} (f v : ℕ) (o : Outcome A) (g : A → Outcome B) → andThen (unless f v o) g ≡ unless f v (andThen o g)
 unless-then zero v o g = refl
 unless-then (suc f) v o g = refl
+
+-- one after another, in two ways
+pub andThen-twice : {A B C : Type 0} (a : Outcome A) (f : A → Outcome B) (g : B → Outcome C) (h : A → Outcome C)
+    → ((x : A) → h x ≡ andThen (f x) g) → andThen a h ≡ andThen (andThen a f) g
+andThen-twice (accepted x) f g h e = e x
+andThen-twice (refused n v) f g h e = refl

@@ -2,8 +2,8 @@
 use Prim.Native.Nat.{ℕ, _+_}
 use mathlib.Core.Path.{_≡_}
 use mathlib.Core.Bool.{cond}
-use mathlib.Core.List.{List, [], _∷_, _++_}
-use lib.ListN.{length, take, drop, set}
+use mathlib.Core.List.{List, [], _∷_}
+use lib.ListN.{set}
 use lib.Dec.{ltb}
 
 -- the position behind `at`; it stops far above any text
@@ -22,7 +22,3 @@ reach at (b ∷ bytes) = reach (behind at) bytes
 pub record Laid (before : List ℕ) (at : ℕ) (after : List ℕ) (next : ℕ) (bytes : List ℕ) : Type 0 where
   pub area : after ≡ lay before at bytes
   pub reached : next ≡ reach at bytes
-
--- an area whose first bytes are `bytes`, as far as it reaches, and whose rest is as it was
-abbrev pub over : List ℕ → List ℕ → List ℕ
-over area bytes = take (length area) bytes ++ drop (length bytes) area

@@ -7,7 +7,8 @@ use native.Mathlib.Numerals.{add-one}
 use lib.ListN.{length, set, length-set}
 use lib.Seq.{drop-nil}
 use borrow.Author.Tests.{lt-ltb}
-use Rattle.text.specs.Laid.{behind, lay, reach, Laid, over}
+use Rattle.effbd.specs.Annex.{over}
+use Rattle.text.specs.Laid.{behind, lay, reach, Laid}
 
 lay-append : (xs ys area : List ℕ) (at : ℕ) → lay area at (xs ++ ys) ≡ lay (lay area at xs) (reach at xs) ys
 unfolding lay reach
@@ -75,6 +76,9 @@ pub reaches : (bytes : List ℕ) (at : ℕ) → at + length bytes ≤ 1000000000
 unfolding reach
 reaches [] at l = omega arith
 reaches (b ∷ bytes) at l = ap (λ (k : ℕ). reach k bytes) (behind-next at (omega arith)) ∙ (reaches bytes (suc at) (omega arith) ∙ omega arith)
+
+pub laid-size : {a b : List ℕ} {n : ℕ} {xs : List ℕ} → Laid a 0 b n xs → length xs ≤ 1000000000000 → n ≡ length xs
+laid-size {a} {b} {n} {xs} v l = v .reached ∙ (reaches xs 0 (omega arith) ∙ omega arith)
 
 lay-none : (bytes : List ℕ) (at : ℕ) → lay [] at bytes ≡ []
 unfolding lay

@@ -1,2 +1,4 @@
 pub mod Laid
 pub mod LaidLaws
+pub mod Letters
+pub mod NumberLengths

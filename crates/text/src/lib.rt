@@ -37,7 +37,7 @@ pub fn put_letters(text: &mut [u8], at: usize, letters: &[u8]) -> usize
 }
 
 // A number's digits, at most `most` of them.
-fn put_digits(text: &mut [u8], at: usize, most: u16, number: usize) -> usize
+fn put_digits(text: &mut [u8], at: usize, most: u16, number: u32) -> usize
     ensures { λ r. ⌜ Laid (now (text .entry)) at (now (text .exit)) r (digits most number) ⌝ }
 {
     if most == 0 {
@@ -50,8 +50,8 @@ fn put_digits(text: &mut [u8], at: usize, most: u16, number: usize) -> usize
     put(text, next, b'0' + (number % 10) as u8)
 }
 
-// A space and a number.
-pub fn put_number(text: &mut [u8], at: usize, number: usize) -> usize
+// A space and a number: ten digits hold every number of 32 bits.
+pub fn put_number(text: &mut [u8], at: usize, number: u32) -> usize
     ensures { λ r. ⌜ Laid (now (text .entry)) at (now (text .exit)) r (numberText number) ⌝ }
 {
     let next = put(text, at, b' ');
@@ -59,7 +59,7 @@ pub fn put_number(text: &mut [u8], at: usize, number: usize) -> usize
 }
 
 // A word, a space and a number.
-pub fn put_named(text: &mut [u8], at: usize, letters: &[u8], number: usize) -> usize
+pub fn put_named(text: &mut [u8], at: usize, letters: &[u8], number: u32) -> usize
     ensures { λ r. ⌜ Laid (now (text .entry)) at (now (text .exit)) r (now (letters .entry) ++ numberText number) ⌝ }
 {
     let next = put_letters(text, at, letters);
@@ -67,7 +67,7 @@ pub fn put_named(text: &mut [u8], at: usize, letters: &[u8], number: usize) -> u
 }
 
 // A word, two numbers and a newline.
-pub fn put_line(text: &mut [u8], at: usize, letters: &[u8], first: usize, second: usize) -> usize
+pub fn put_line(text: &mut [u8], at: usize, letters: &[u8], first: u32, second: u32) -> usize
     ensures { λ r. ⌜ Laid (now (text .entry)) at (now (text .exit)) r (line (now (letters .entry)) (first ∷ second ∷ [])) ⌝ }
 {
     let behind_first = put_named(text, at, letters, first);

@@ -1,3 +1,3 @@
-pub mod NetRecords
+pub mod NetBytes
 pub mod Sizes
-pub mod Fits
+pub mod AnswerAndArea

@@ -4,10 +4,11 @@ ghost use Prim.Native.Nat.{_≤_};
 ghost use lib.ListN.{length};
 ghost use Rattle.effbd.specs.Answers.{said};
 ghost use Rattle.effbd.specs.Patterns.{translated};
-ghost use Rattle.diagram_file.specs.Tables.{HoldsFile};
+ghost use Rattle.diagram_table.specs.Held.{HoldsFile};
 ghost use Rattle.net_records.specs.Writing.{flat, Wrote};
-ghost use Rattle.translate.specs.Whole.{netRecords};
+ghost use Rattle.translate.specs.NetRecords.{netRecords};
 use effbd::Answer;
+use effbd::refusals::AREA_SHORT;
 use net_rows::marks;
 use net_rows::rows;
 
@@ -32,22 +33,21 @@ fn write_whole(table: &[u16], file: &[u8], rows: u16, items: u16, area: &mut [u8
     ensures { λ _. ⌜ now (area .exit) ≡ translated (now (file .entry)) (now (area .entry)) .area ⌝ }
 {
     let written = put_net(table, file, rows, items, area, 0);
-    let length = written as u32;
-    Answer::Accepted(length)
+    let size = written as u32;
+    Answer::Accepted(size)
 }
 
-// The same in an area of any length: the net is measured first, by writing it where there is no room.
+// The same in an area of any length: the net is measured first, by writing it into an empty part of the area.
 fn write_measured(table: &[u16], file: &[u8], rows: u16, items: u16, area: &mut [u8]) -> Answer
     requires { ⌜ HoldsFile (now file) rows items (now table) ⌝ }
     ensures { λ r. ⌜ said r ≡ translated (now (file .entry)) (now (area .entry)) .answer ⌝ }
     ensures { λ _. ⌜ now (area .exit) ≡ translated (now (file .entry)) (now (area .entry)) .area ⌝ }
 {
     let room = area.len();
-    let mut nothing = [0u8; 1];
-    let needed = put_net(table, file, rows, items, &mut nothing, 0);
+    let needed = put_net(table, file, rows, items, &mut area[0..0], 0);
     if room < needed {
         let value = needed as u32;
-        return Answer::Refused(10, value);
+        return Answer::Refused(AREA_SHORT, value);
     }
     write_whole(table, file, rows, items, area)
 }
@@ -64,7 +64,7 @@ fn write(table: &[u16], file: &[u8], rows: u16, items: u16, area: &mut [u8]) -> 
     write_whole(table, file, rows, items, area)
 }
 
-// The net of a diagram file, written into the first bytes of the area: answers its length. A refused file's refusal, and 10 with
+// The net of a diagram file, written into the first bytes of the area: answers its length. A refused file's refusal, and AREA_SHORT with
 // the bytes needed where the area is too short; then nothing is altered.
 pub fn translate(file: &[u8], area: &mut [u8]) -> Answer
     ensures { λ r. ⌜ said r ≡ translated (now (file .entry)) (now (area .entry)) .answer ⌝ }

@@ -1,7 +1,8 @@
-// The kinds of records: their names, and the constant table from kind to base length and field count, diagram and net kinds together; 0
-// where no kind has the number.
+// The kinds of records: their names, and the constant table from kind to base length and field count, diagram and net kinds together.
 ghost use mathlib.Core.Path.{_≡_};
-ghost use Rattle.effbd.specs.Records.{lengthOf, fieldsOf};
+ghost use Prim.Native.Nat.{_+_, _*_, _<_};
+ghost use lib.ListN.{getD};
+ghost use Rattle.effbd.specs.Records.{KindBytes};
 
 // The kinds by their names: records of a diagram file, of a net file, the arcs of a transition.
 pub const HEAD: u16 = 1;
@@ -44,106 +45,114 @@ pub const CLEAR: u16 = 36;
 
 pub const GIVE: u16 = 37;
 
-// The length of a record of each kind; a FUNCTION has 6 bytes more for each of its uses. Bytes, since a call lays the table out anew.
-const LENGTHS: [u8; 38] = [
-    0,
-    10,
-    6,
-    0,
-    0,
-    0,
+// A telegram's kind; its length is no table's.
+pub const TELEGRAM: u16 = 48;
+
+// Of kind k the length of its records stands at 2k (a FUNCTION has 6 bytes more for each of its uses), the number of 16-bit fields in that
+// length at 2k + 1; 0 where no kind has the number.
+const TABLE: [u8; 76] = [
     0,
     0,
-    0,
-    0,
-    0,
-    0,
+    10, // length of HEAD
+    3, // fields of HEAD
+    6, // length of ITEM
+    1, // fields of ITEM
     0,
     0,
     0,
     0,
-    8,
-    4,
-    4,
-    4,
-    4,
-    4,
-    6,
-    4,
-    4,
-    4,
-    4,
-    4,
     0,
     0,
     0,
     0,
-    8,
-    6,
-    10,
-    8,
-    8,
-    8,
+    0,
+    0,
+    0,
+    0,
+    0,
+    0,
+    0,
+    0,
+    0,
+    0,
+    0,
+    0,
+    0,
+    0,
+    0,
+    0,
+    0,
+    0,
+    8, // length of FUNCTION
+    2, // fields of FUNCTION
+    4, // length of AND_OPEN
+    0, // fields of AND_OPEN
+    4, // length of BRANCH
+    0, // fields of BRANCH
+    4, // length of AND_CLOSE
+    0, // fields of AND_CLOSE
+    4, // length of OR_OPEN
+    0, // fields of OR_OPEN
+    4, // length of OR_CLOSE
+    0, // fields of OR_CLOSE
+    6, // length of IT_OPEN
+    1, // fields of IT_OPEN
+    4, // length of IT_CLOSE
+    0, // fields of IT_CLOSE
+    4, // length of LP_OPEN
+    0, // fields of LP_OPEN
+    4, // length of LP_CLOSE
+    0, // fields of LP_CLOSE
+    4, // length of LOOP_EXIT
+    0, // fields of LOOP_EXIT
+    4, // length of END
+    0, // fields of END
+    0,
+    0,
+    0,
+    0,
+    0,
+    0,
+    0,
+    0,
+    8, // length of NET_HEAD
+    2, // fields of NET_HEAD
+    6, // length of PLACE
+    1, // fields of PLACE
+    10, // length of TRANSITION
+    3, // fields of TRANSITION
+    8, // length of TAKE
+    2, // fields of TAKE
+    8, // length of CLEAR
+    2, // fields of CLEAR
+    8, // length of GIVE
+    2, // fields of GIVE
 ];
 
-// The number of 16-bit fields in that length.
-const FIELDS: [u8; 38] = [
-    0,
-    3,
-    1,
-    0,
-    0,
-    0,
-    0,
-    0,
-    0,
-    0,
-    0,
-    0,
-    0,
-    0,
-    0,
-    0,
-    2,
-    0,
-    0,
-    0,
-    0,
-    0,
-    1,
-    0,
-    0,
-    0,
-    0,
-    0,
-    0,
-    0,
-    0,
-    0,
-    2,
-    1,
-    3,
-    2,
-    2,
-    2,
-];
-
-// The length that a kind gives.
-pub fn length_of(kind: u16) -> u16
-    ensures { λ r. ⌜ r ≡ lengthOf kind ⌝ }
+// The table, for a reader to lay out once and lend on: where a constant is read at a place known only then, the compiler lays it out anew.
+pub fn table() -> [u8; 76]
+    ensures { λ r. ⌜ KindBytes r ⌝ }
 {
-    if kind < 38 {
-        return LENGTHS[kind as usize] as u16;
-    }
-    0
+    TABLE
 }
 
-// How many fields a kind has; no reader needs it, document 01's form asks for it.
-pub fn fields_of(kind: u16) -> u16
-    ensures { λ r. ⌜ r ≡ fieldsOf kind ⌝ }
+// The length that a kind gives.
+pub fn base_length(table: &[u8], kind: u16) -> u16
+    ensures { λ r. ⌜ r ≡ getD (now (table .entry)) (2 * kind) 0 ⌝ }
 {
-    if kind < 38 {
-        return FIELDS[kind as usize] as u16;
-    }
-    0
+    crate::byte(table, 2 * kind as usize)
+}
+
+// How many fields a kind has.
+pub fn field_count(table: &[u8], kind: u16) -> u16
+    ensures { λ r. ⌜ (r ≡ getD (now (table .entry)) (2 * kind + 1) 0) × (r < 256) ⌝ }
+{
+    crate::byte(table, 2 * kind as usize + 1)
+}
+
+// Where the fields of a record end, behind its length and its kind: a FUNCTION's uses begin there.
+pub fn behind_fields(table: &[u8], kind: u16) -> u16
+    ensures { λ r. ⌜ (r ≡ 4 + 2 * getD (now (table .entry)) (2 * kind + 1) 0) × (r < 516) ⌝ }
+{
+    4 + 2 * field_count(table, kind)
 }

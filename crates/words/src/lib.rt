@@ -2,6 +2,7 @@
 // Nothing is asked of a caller: past the end a byte or word is 0, a tail is empty, a store changes nothing.
 pub mod kinds;
 
+use effbd::refusals;
 ghost use mathlib.Core.Path.{_≡_};
 ghost use Prim.Native.Nat.{_+_, _*_, _<_};
 ghost use lib.ListN.{drop, getD, set};
@@ -56,16 +57,16 @@ pub fn record_fault(bytes: &[u8], due: bool, right: bool, fine: bool, number: u1
     ensures { λ r. ⌜ r ≡ faultAt (now (bytes .entry)) due right fine number ⌝ }
 {
     if bytes.len() < 4 {
-        return 1;
+        return refusals::CUT_SHORT;
     }
     if !due {
-        return 2;
+        return refusals::KIND_NOT_DUE;
     }
     if !right {
-        return 3;
+        return refusals::LENGTH_WRONG;
     }
     if bytes.len() < word(bytes, 0) as usize {
-        return 1;
+        return refusals::CUT_SHORT;
     }
     if !fine {
         return number;

@@ -1,8 +1,10 @@
-use Rattle.text.specs.LaidLaws.{same}
-use Rattle.annex_text.specs.Lines.{netText, answerText}
-use Rattle.effbd.specs.declared.Answer.{Answer}
-use Rattle.effbd.specs.Answers.{said}
+use Rattle.annex_text.proofs.MarksAndRecords.{first-most}
+use native.Mathlib.Omega.{arith}
 use mathlib.Core.Path.{sym, ap, _∙_}
+use Rattle.effbd.specs.Answers.{said}
+use Rattle.effbd.specs.declared.Answer.{Answer}
+use Rattle.annex_text.specs.Lines.{netText, answerText}
+use Rattle.text.specs.LaidLaws.{same}
 use borrow.Author.Needs.{needs}
 use Rattle.annex_text.proofs.put_answer.Statement.{statement}
 use Rattle.annex_text.proofs.put_answer.Tie as tie
@@ -17,7 +19,7 @@ first-requires : tie.Need-first-requires
 first-requires c κs = search needs
 
 put-net-requires : tie.Need-put-net-requires
-put-net-requires c κs = search needs
+put-net-requires c κs = first-most (c .before .before .before .before .before .before .before .args .net .now) _ (c .before .before .before .answer .given .0 .0) _ (c .first .ensures) (omega arith)
 
 enum-known-answer-2 : tie.Need-enum-known-answer-2
 enum-known-answer-2 c = search needs
@@ -27,9 +29,6 @@ slice-aggregate-put-line c = search needs
 
 cast-put-line : tie.Need-cast-put-line
 cast-put-line c = search needs
-
-cast-put-line-2 : tie.Need-cast-put-line-2
-cast-put-line-2 c = search needs
 
 put-line-requires : tie.Need-put-line-requires
 put-line-requires c κs = search needs
@@ -57,7 +56,6 @@ put-answer-spec =
     enum-known-answer-2
     slice-aggregate-put-line
     cast-put-line
-    cast-put-line-2
     put-line-requires
     same-length
     returns

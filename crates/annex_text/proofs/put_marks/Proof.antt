@@ -1,5 +1,5 @@
 use Rattle.text.specs.LaidLaws.{Ongoing, ongoing-length}
-use Rattle.annex_text.proofs.Loops.{marks-begun, marks-turn, marks-done}
+use Rattle.annex_text.proofs.MarksAndRecords.{marks-begun, marks-turn, marks-done}
 use Rattle.annex_text.specs.Lines.{markNumbers}
 use native.Mathlib.Omega.{arith}
 use Prim.Native.Nat.{_≤_, _-_}

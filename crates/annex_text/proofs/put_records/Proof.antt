@@ -1,5 +1,5 @@
 use Rattle.text.specs.LaidLaws.{ongoing-length}
-use Rattle.annex_text.proofs.Loops.{InRecords, records-begun, records-turn, records-done, falls, counts-most}
+use Rattle.annex_text.proofs.MarksAndRecords.{InRecords, records-begun, records-turn, records-done, falls, counts-most}
 use lib.ListN.{length}
 use native.Mathlib.Omega.{arith}
 use borrow.Author.Needs.{needs}
@@ -22,7 +22,7 @@ transitions-at-requires : tie.Need-transitions-at-requires Inv-loop μ-loop
 transitions-at-requires c κs = search needs
 
 add-j : tie.Need-add-j Inv-loop μ-loop
-add-j c = omega (arith, counts-most (c .before .before .before .before .before .before .loop .rest .now), c .before .before .before .before .before .before .loop .inv .few, c .transitions-at .ensures)
+add-j c = omega (arith, c .before .before .before .before .before .before .before .before .before .pre, counts-most (c .before .before .before .before .before .before .loop .rest .now), c .before .before .before .before .before .before .loop .inv .few, c .transitions-at .ensures)
 
 record-size-requires : tie.Need-record-size-requires Inv-loop μ-loop
 record-size-requires c κs = search needs

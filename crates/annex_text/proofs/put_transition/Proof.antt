@@ -1,5 +1,5 @@
 use Rattle.text.specs.LaidLaws.{and-then, same}
-use Rattle.annex_text.proofs.Laws.{transition-of}
+use Rattle.annex_text.proofs.WrittenLines.{transition-of}
 use borrow.Author.Needs.{needs}
 use Rattle.annex_text.proofs.put_transition.Statement.{statement}
 use Rattle.annex_text.proofs.put_transition.Tie as tie

@@ -6,6 +6,9 @@ use borrow.Author.Needs.{needs}
 use Rattle.bus.proofs.judge.Statement.{statement}
 use Rattle.bus.proofs.judge.Tie as tie
 
+cast-if1 : tie.Need-cast-if1
+cast-if1 c = search needs
+
 returns : tie.Need-returns
 returns c = size-off (c .before .before .args .count) (c .before .before .args .station) (c .before .before .args .bytes .now) (c .if1 .taken)
 
@@ -24,8 +27,8 @@ returns-3 c = kind-off (c .before .before .before .before .before .before .args 
 word-requires-3 : tie.Need-word-requires-3
 word-requires-3 c κs = search needs
 
-cast-t9 : tie.Need-cast-t9
-cast-t9 c = search needs
+cast-t10 : tie.Need-cast-t10
+cast-t10 c = search needs
 
 returns-4 : tie.Need-returns-4
 returns-4 c = ap (λ (x : ℕ). refused 31 x) (c .before .word3 .ensures) ∙ other-station (c .before .before .before .before .before .before .before .before .args .count) (c .before .before .before .before .before .before .before .before .args .station) (c .before .before .before .before .before .before .before .before .args .bytes .now) (c .before .before .before .before .before .before .if1 .left) (sym (c .before .before .before .before .before .word .ensures) ∙ c .before .before .before .before .if2 .left) (sym (c .before .before .before .word2 .ensures) ∙ c .before .before .if3 .left) (λ e. c .if4 .taken (c .before .word3 .ensures ∙ e))
@@ -49,13 +52,14 @@ pub judge-spec : {M : Type 1} → statement M
 judge-spec =
     tie.close
     (tie.spec
+    cast-if1
     returns
     word-requires
     returns-2
     word-requires-2
     returns-3
     word-requires-3
-    cast-t9
+    cast-t10
     returns-4
     long-requires
     returns-5

@@ -17,6 +17,12 @@ same-length c = search needs
 returns : tie.Need-returns
 returns c = let t = offer-withheld (c .before .before .before .before .before .before .before .before .args .file .now) (c .before .before .before .before .before .before .before .before .args .state .now) (c .before .before .before .before .before .before .before .before .args .count) (c .before .before .before .before .before .before .before .before .args .station) (c .before .before .before .before .before .before .before .before .args .code) (c .before .before .before .before .before .before .before .before .args .argument) (c .before .before .before .before .before .before .before .before .args .area .now) 27 (c .before .before .before .before .before .before .before .before .args .count) _ _ (λ next e. offer-27 (c .before .before .before .before .before .before .before .before .args .file .now) (c .before .before .before .before .before .before .before .before .args .state .now) (c .before .before .before .before .before .before .before .before .args .count) (c .before .before .before .before .before .before .before .before .args .station) (c .before .before .before .before .before .before .before .before .args .code) (c .before .before .before .before .before .before .before .before .args .argument) (c .before .before .before .before .before .before .before .before .args .area .now) next e (omega arith)) (c .before .before .withhold .ensures .0) (c .before .before .withhold .ensures .1) in (t .0, (t .1, t .2))
 
+cast-if2 : tie.Need-cast-if2
+cast-if2 c = search needs
+
+cast-needed : tie.Need-cast-needed
+cast-needed c = search needs
+
 withhold-requires-2 : tie.Need-withhold-requires-2
 withhold-requires-2 c κs = search needs
 
@@ -41,8 +47,8 @@ add-write-telegram c = search needs
 write-telegram-requires : tie.Need-write-telegram-requires
 write-telegram-requires c κs = search needs
 
-add-t23 : tie.Need-add-t23
-add-t23 c = search needs
+add-t25 : tie.Need-add-t25
+add-t25 c = search needs
 
 same-length-3 : tie.Need-same-length-3
 same-length-3 c = search needs
@@ -66,6 +72,8 @@ offer-spec =
     withhold-requires
     same-length
     returns
+    cast-if2
+    cast-needed
     withhold-requires-2
     same-length-2
     returns-2
@@ -74,7 +82,7 @@ offer-spec =
     enum-told
     add-write-telegram
     write-telegram-requires
-    add-t23
+    add-t25
     same-length-3
     returns-3
     same-length-4

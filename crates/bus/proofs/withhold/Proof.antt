@@ -8,6 +8,9 @@ use borrow.Author.Needs.{needs}
 use Rattle.bus.proofs.withhold.Statement.{statement}
 use Rattle.bus.proofs.withhold.Tie as tie
 
+cast-if1 : tie.Need-cast-if1
+cast-if1 c = search needs
+
 step-requires : tie.Need-step-requires
 step-requires c κs = search needs
 
@@ -43,6 +46,7 @@ pub withhold-spec : {M : Type 1} → statement M
 withhold-spec =
     tie.close
     (tie.spec
+    cast-if1
     step-requires
     same-length
     returns

@@ -2,7 +2,8 @@ use Rattle.diagram_file.specs.Tables.{countsPut, freshPut}
 use borrow.Author.Needs.{needs}
 use native.Mathlib.Numerals.{add-one}
 use native.Mathlib.Omega.{arith}
-use lib.ListN.{length, getD, set}
+use lib.ListN.{length, set}
+use Rattle.diagram_table.specs.Cells.{countIn}
 use mathlib.Core.List.{List}
 use mathlib.Core.Path.{_≡_, refl, sym, _∙_, ap}
 use Prim.Native.Nat.{ℕ, _+_, _-_, _*_, _≤_}
@@ -13,7 +14,7 @@ none : (rows : ℕ) (table state : List ℕ) → state ≡ countsPut rows 0 tabl
 unfolding countsPut
 none rows table state = refl
 
-turn : (rows item value : ℕ) (table start state next : List ℕ) → state ≡ countsPut rows item table start → value ≡ getD table (576 + item) 0
+turn : (rows item value : ℕ) (table start state next : List ℕ) → state ≡ countsPut rows item table start → value ≡ countIn table item
     → next ≡ set state (3 * rows + item) value → next ≡ countsPut rows (item + 1) table start
 unfolding countsPut
 turn rows item value table start state next e v f =
@@ -40,6 +41,9 @@ loop-holds c = (omega arith, none (c .before .before .before .before .before .be
 
 add-put : tie.Need-add-put Inv-loop μ-loop
 add-put c = search needs
+
+cast-get : tie.Need-cast-get Inv-loop μ-loop
+cast-get c = search needs
 
 add-get : tie.Need-add-get Inv-loop μ-loop
 add-get c = search needs
@@ -75,6 +79,7 @@ put-fresh-spec =
     mul-first
     loop-holds
     add-put
+    cast-get
     add-get
     get-requires
     put-requires-2

@@ -1,5 +1,5 @@
-use Rattle.diagram_step.proofs.Laws.{told-accepted, told-refused, fresh-turned}
-use Rattle.diagram_moves.specs.Files.{fresh-short, fresh-copied}
+use Rattle.diagram_step.proofs.Answered.{told-accepted, told-refused, fresh-turned}
+use Rattle.diagram_moves.specs.FileMoves.{fresh-short, fresh-copied}
 use Rattle.effbd.specs.Moves.{freshDiagram}
 use borrow.Author.Needs.{needs}
 use Rattle.diagram_step.proofs.fresh.Statement.{statement}
@@ -36,7 +36,7 @@ part-copy-start : tie.Need-part-copy-start
 part-copy-start c = search needs
 
 part-copy-end : tie.Need-part-copy-end
-part-copy-end c = let held = c .before .before .before .before .before .before .before .before .parse .ensures .holds (c .before .before .before .before .before .before .if1 .left) .holds in let a = held .fewRows in let b = held .fewItems in let e = c .before .before .before .if2 .left in search needs
+part-copy-end c = let held = c .before .before .before .before .before .before .before .before .parse .ensures .holds (c .before .before .before .before .before .before .if1 .left) .holds in let a = held .records .fewRows in let b = held .records .fewItems in let e = c .before .before .before .if2 .left in search needs
 
 copy-requires : tie.Need-copy-requires
 copy-requires c κs = search needs

@@ -1,6 +1,6 @@
-use Rattle.diagram_step.proofs.Laws.{answered-as, step-turned}
+use Rattle.diagram_step.proofs.Answered.{answered-as, step-turned}
 use Rattle.agreement.specs.ByteLaws.{bytes-are}
-use Rattle.diagram_moves.specs.Files.{step-is}
+use Rattle.diagram_moves.specs.FileMoves.{step-is}
 use native.Mathlib.Omega.{arith}
 use borrow.Author.Needs.{needs}
 use Rattle.diagram_step.proofs.step.Statement.{statement}

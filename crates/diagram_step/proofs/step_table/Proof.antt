@@ -1,4 +1,4 @@
-use Rattle.diagram_step.proofs.Laws.{verdict-accepted, verdict-refused}
+use Rattle.diagram_step.proofs.Answered.{verdict-accepted, verdict-refused}
 use borrow.Author.Needs.{needs}
 use Rattle.diagram_step.proofs.step_table.Statement.{statement}
 use Rattle.diagram_step.proofs.step_table.Tie as tie

@@ -1,6 +1,6 @@
 use mathlib.Core.Path.{sym, ap}
 use Rattle.effbd.specs.Answers.{said}
-use Rattle.effbd_c.specs.Packed.{packed}
+use Rattle.effbd.specs.Answers.{packed}
 use borrow.Author.Needs.{needs}
 use Rattle.effbd_c.proofs.pack.Statement.{statement}
 use Rattle.effbd_c.proofs.pack.Tie as tie

@@ -1,5 +1,6 @@
-use Rattle.effbd.specs.Nets.{netHeadFault}
+use Rattle.net_file.proofs.Turns.{own-length}
 use Rattle.net_file.specs.Contents.{headFine}
+use Rattle.effbd.specs.Nets.{netHeadFault}
 use borrow.Author.Needs.{needs}
 use Rattle.net_file.proofs.head_fault.Statement.{statement}
 use Rattle.net_file.proofs.head_fault.Tie as tie
@@ -10,8 +11,8 @@ word-requires c κs = search needs
 word-requires-2 : tie.Need-word-requires-2
 word-requires-2 c κs = search needs
 
-length-of-requires : tie.Need-length-of-requires
-length-of-requires c κs = search needs
+own-length-requires : tie.Need-own-length-requires
+own-length-requires c κs = search needs
 
 word-requires-3 : tie.Need-word-requires-3
 word-requires-3 c κs = search needs
@@ -27,7 +28,7 @@ record-fault-requires c κs = search needs
 
 returns : tie.Need-returns
 unfolding netHeadFault headFine
-returns c = rw (← c .before .before .before .before .before .before .word .ensures, ← c .before .before .before .before .before .word2 .ensures, ← c .before .before .before .before .length-of .ensures, ← c .before .before .before .word3 .ensures, ← c .before .before .word4 .ensures, ← c .before .head-fine .ensures) (c .record-fault .ensures)
+returns c = rw (← own-length (c .before .before .before .before .before .before .before .before .before .args .net .now) 32 4 _, ← c .before .before .before .before .own-length .ensures, ← c .before .before .before .before .before .before .word .ensures, ← c .before .before .before .before .before .word2 .ensures, ← c .before .before .before .word3 .ensures, ← c .before .before .word4 .ensures, ← c .before .head-fine .ensures) (c .record-fault .ensures)
 
 pub head-fault-spec : {M : Type 1} → statement M
 head-fault-spec =
@@ -35,7 +36,7 @@ head-fault-spec =
     (tie.spec
     word-requires
     word-requires-2
-    length-of-requires
+    own-length-requires
     word-requires-3
     word-requires-4
     head-fine-requires

@@ -1,5 +1,5 @@
 use borrow.Author.Tests.{le-leb, lt-leb}
-use Rattle.net_loops.specs.Loops.{early}
+use Rattle.net_loops.specs.LoopTransitions.{early}
 use Rattle.net_loops.proofs.early.Statement.{statement}
 use Rattle.net_loops.proofs.early.Tie as tie
 

@@ -1,6 +1,6 @@
 use Prim.Native.Nat.{ℕ, _*_}
 use mathlib.Core.Path.{ap}
-use Rattle.net_loops.specs.Loops.{entry}
+use Rattle.net_loops.specs.LoopTransitions.{entry}
 use borrow.Author.Needs.{needs}
 use Rattle.net_loops.proofs.entry.Statement.{statement}
 use Rattle.net_loops.proofs.entry.Tie as tie

@@ -1,8 +1,8 @@
 use Prim.Native.Nat.{_+_, _*_}
 use mathlib.Core.Path.{ap}
-use Rattle.net_loops.specs.Loops.{itTurn, itOpen}
+use Rattle.net_loops.specs.LoopTransitions.{itTurn, itOpen}
 use Rattle.net_records.proofs.Writing.{and-then, same}
-use Rattle.net_loops.proofs.Steps.{second-turn}
+use Rattle.net_loops.proofs.ComputedTransitions.{second-turn}
 use borrow.Author.Needs.{needs}
 use Rattle.net_loops.proofs.it_open.Statement.{statement}
 use Rattle.net_loops.proofs.it_open.Tie as tie

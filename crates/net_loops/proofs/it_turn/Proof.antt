@@ -1,6 +1,7 @@
 use mathlib.Core.Path.{ap}
+use Rattle.effbd.specs.Nets.{giveArc}
 use Rattle.net_records.specs.Records.{arc}
-use Rattle.net_loops.specs.Loops.{itTurn}
+use Rattle.net_loops.specs.LoopTransitions.{itTurn}
 use Rattle.net_records.proofs.Writing.{and-then, same}
 use borrow.Author.Needs.{needs}
 use Rattle.net_loops.proofs.it_turn.Statement.{statement}
@@ -45,7 +46,7 @@ same-length c = search needs
 returns : tie.Need-returns
 unfolding itTurn
 returns c = let a = c .before .before .before .before .before .before .before .before .before .before .before .before .before .before .before .before .before .before .before .before .before .before .before .before .before .before .before .args in
-    and-then (and-then (and-then (and-then (and-then (c .before .before .before .before .before .before .before .before .before .before .before .before .before .before .before .before .before .before .before .before .before .before .transition .ensures) (c .before .before .before .before .before .before .before .before .before .before .before .before .before .before .before .before .before .before .arc .ensures)) (c .before .before .before .before .before .before .before .before .before .before .before .before .before .before .arc2 .ensures)) (same (ap (arc 37 (a .to)) (c .before .before .before .before .before .before .before .before .before .before .before .before .before .before .before .before .before .before .before .before .before .before .before .before .before .early .ensures)) (c .before .before .before .before .before .before .before .before .before .before .arc3 .ensures))) (c .before .before .before .before .before .before .arc4 .ensures)) (same (ap (arc 37 (a .to)) (c .before .before .before .before .before .before .before .before .before .before .before .before .before .before .before .before .before .before .before .before .before .before .before .before .late .ensures)) (c .before .before .arc5 .ensures))
+    and-then (and-then (and-then (and-then (and-then (c .before .before .before .before .before .before .before .before .before .before .before .before .before .before .before .before .before .before .before .before .before .before .transition .ensures) (c .before .before .before .before .before .before .before .before .before .before .before .before .before .before .before .before .before .before .arc .ensures)) (c .before .before .before .before .before .before .before .before .before .before .before .before .before .before .arc2 .ensures)) (same (ap (arc giveArc (a .to)) (c .before .before .before .before .before .before .before .before .before .before .before .before .before .before .before .before .before .before .before .before .before .before .before .before .before .early .ensures)) (c .before .before .before .before .before .before .before .before .before .before .arc3 .ensures))) (c .before .before .before .before .before .before .arc4 .ensures)) (same (ap (arc giveArc (a .to)) (c .before .before .before .before .before .before .before .before .before .before .before .before .before .before .before .before .before .before .before .before .before .before .before .before .late .ensures)) (c .before .before .arc5 .ensures))
 
 pub it-turn-spec : {M : Type 1} → statement M
 it-turn-spec =

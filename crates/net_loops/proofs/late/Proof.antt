@@ -1,5 +1,5 @@
 use borrow.Author.Tests.{le-leb, lt-leb}
-use Rattle.net_loops.specs.Loops.{late}
+use Rattle.net_loops.specs.LoopTransitions.{late}
 use Rattle.net_loops.proofs.late.Statement.{statement}
 use Rattle.net_loops.proofs.late.Tie as tie
 

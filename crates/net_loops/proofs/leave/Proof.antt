@@ -1,6 +1,7 @@
 use mathlib.Core.Path.{ap}
+use Rattle.effbd.specs.Nets.{giveArc}
 use Rattle.net_records.specs.Records.{arc}
-use Rattle.net_loops.specs.Loops.{leave}
+use Rattle.net_loops.specs.LoopTransitions.{leave}
 use Rattle.net_records.proofs.Writing.{and-then, same}
 use borrow.Author.Needs.{needs}
 use Rattle.net_loops.proofs.leave.Statement.{statement}
@@ -54,7 +55,7 @@ same-length c = search needs
 returns : tie.Need-returns
 unfolding leave
 returns c = let a = c .before .before .before .before .before .before .before .before .before .before .before .before .before .before .before .before .before .before .before .before .before .before .before .before .before .before .before .before .args in
-    and-then (and-then (and-then (and-then (and-then (c .before .before .before .before .before .before .before .before .before .before .before .before .before .before .before .before .before .before .before .before .before .before .transition .ensures) (c .before .before .before .before .before .before .before .before .before .before .before .before .before .before .before .before .before .before .arc .ensures)) (c .before .before .before .before .before .before .before .before .before .before .before .before .before .before .pair .ensures)) (same (ap (arc 37 (a .to)) (c .before .before .before .before .before .before .before .before .before .before .before .before .before .before .before .before .before .before .before .before .before .before .before .before .before .early .ensures)) (c .before .before .before .before .before .before .before .before .before .before .arc2 .ensures))) (c .before .before .before .before .before .before .restores .ensures)) (same (ap (arc 37 (a .to)) (c .before .before .before .before .before .before .before .before .before .before .before .before .before .before .before .before .before .before .before .before .before .before .before .before .late .ensures)) (c .before .before .arc3 .ensures))
+    and-then (and-then (and-then (and-then (and-then (c .before .before .before .before .before .before .before .before .before .before .before .before .before .before .before .before .before .before .before .before .before .before .transition .ensures) (c .before .before .before .before .before .before .before .before .before .before .before .before .before .before .before .before .before .before .arc .ensures)) (c .before .before .before .before .before .before .before .before .before .before .before .before .before .before .pair .ensures)) (same (ap (arc giveArc (a .to)) (c .before .before .before .before .before .before .before .before .before .before .before .before .before .before .before .before .before .before .before .before .before .before .before .before .before .early .ensures)) (c .before .before .before .before .before .before .before .before .before .before .arc2 .ensures))) (c .before .before .before .before .before .before .restores .ensures)) (same (ap (arc giveArc (a .to)) (c .before .before .before .before .before .before .before .before .before .before .before .before .before .before .before .before .before .before .before .before .before .before .before .before .late .ensures)) (c .before .before .arc3 .ensures))
 
 pub leave-spec : {M : Type 1} → statement M
 leave-spec =

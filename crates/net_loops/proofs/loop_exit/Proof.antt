@@ -1,5 +1,5 @@
 use Rattle.net_records.proofs.Writing.{same}
-use Rattle.net_loops.proofs.Steps.{exit-turn}
+use Rattle.net_loops.proofs.ComputedTransitions.{exit-turn}
 use borrow.Author.Needs.{needs}
 use Rattle.net_loops.proofs.loop_exit.Statement.{statement}
 use Rattle.net_loops.proofs.loop_exit.Tie as tie

@@ -1,8 +1,9 @@
 use Prim.Native.Nat.{_+_, _*_}
 use mathlib.Core.Path.{ap, sym, _∙_}
 use borrow.Author.Tests.{eq-eqb, ne-eqb}
+use Rattle.effbd.specs.Nets.{giveArc}
 use Rattle.net_records.specs.Records.{arc}
-use Rattle.net_loops.specs.Loops.{restore}
+use Rattle.net_loops.specs.LoopTransitions.{restore}
 use Rattle.net_records.proofs.Writing.{still, same, yes, no}
 use borrow.Author.Needs.{needs}
 use Rattle.net_loops.proofs.restore.Statement.{statement}
@@ -29,7 +30,7 @@ same-length c = search needs
 returns : tie.Need-returns
 unfolding restore
 returns c = let a = c .before .before .before .before .before .before .before .before .before .args in
-    yes _ (eq-eqb _ _ (sym (c .before .before .before .before .before .before .kind .ensures) ∙ c .before .before .before .before .before .if1 .taken)) (same (ap (arc 37 (3 * a .row + 2)) (c .before .before .before .before .cell .ensures)) (c .before .before .arc .ensures))
+    yes _ (eq-eqb _ _ (sym (c .before .before .before .before .before .before .kind .ensures) ∙ c .before .before .before .before .before .if1 .taken)) (same (ap (arc giveArc (3 * a .row + 2)) (c .before .before .before .before .cell .ensures)) (c .before .before .arc .ensures))
 
 returns-2 : tie.Need-returns-2
 unfolding restore

@@ -6,7 +6,7 @@ use lib.ListN.{length, drop, length-set}
 use mathlib.Core.List.{_++_}
 use Rattle.effbd.specs.Ranges.{tabulate}
 use Rattle.net_step.specs.Stepping.{freshWord}
-use Rattle.net_step.proofs.Loops.{front-more, front-all}
+use Rattle.net_step.proofs.StateWalks.{front-more, front-all}
 use Rattle.net_step.proofs.fill.Statement.{statement}
 use Rattle.net_step.proofs.fill.Tie as tie
 

@@ -1,14 +1,13 @@
-use Prim.Native.Nat.{_-_}
-use mathlib.Core.Path.{_≡_, sym, _∙_}
-use lib.ListN.{length, drop}
-use mathlib.Core.List.{_++_}
-use Rattle.effbd.specs.Answers.{accepted, refused}
-use Rattle.effbd.specs.Nets.{giveArc}
-use Rattle.net_walk.specs.declared.Sums.the-variants.{Fit, Over}
-use Rattle.net_step.proofs.Cases.{fire-late, fire-on, mid-is, sums-of, fire-done, turned-away, moved-to}
-use Rattle.net_walk.specs.Walked.{applied}
-use Rattle.net_file.specs.Contents.{transitionIn, transitionsIn}
 use Rattle.net_step.specs.Stepping.{firedWords, clocksBy, keptClock}
+use Rattle.net_file.specs.Contents.{transitionIn, transitionsIn}
+use Rattle.net_walk.specs.Walked.{applied}
+use Rattle.net_step.proofs.Cases.{fire-late, fire-on, mid-is, sums-of, fire-done, turned-away, moved-to}
+use Rattle.effbd.specs.Nets.{giveArc}
+use Rattle.effbd.specs.Answers.{accepted, refused, said}
+use mathlib.Core.List.{_++_}
+use lib.ListN.{length, drop}
+use mathlib.Core.Path.{_≡_, ap, sym, _∙_}
+use Prim.Native.Nat.{_-_}
 use borrow.Author.Needs.{needs}
 use Rattle.net_step.proofs.fire.Statement.{statement}
 use Rattle.net_step.proofs.fire.Tie as tie
@@ -22,11 +21,11 @@ get-requires c κs = search needs
 word-requires : tie.Need-word-requires
 word-requires c κs = search needs
 
-sub-t18 : tie.Need-sub-t18
-sub-t18 c = search needs
+sub-t19 : tie.Need-sub-t19
+sub-t19 c = search needs
 
-cast-t19 : tie.Need-cast-t19
-cast-t19 c = search needs
+cast-t20 : tie.Need-cast-t20
+cast-t20 c = search needs
 
 same-length : tie.Need-same-length
 same-length c = search needs
@@ -54,9 +53,6 @@ sums-fit-requires c κs = search needs
 enum-known-fit : tie.Need-enum-known-fit
 enum-known-fit c = search needs
 
-cast-t28 : tie.Need-cast-t28
-cast-t28 c = search needs
-
 enum-told : tie.Need-enum-told
 enum-told c = search needs
 
@@ -75,10 +71,11 @@ returns-2 c =
     let a = c .before .before .before .before .before .before .before .before .before .before .before .before .before .before .before .before .before .before .before .before .before .before .args in
     let mid = c .before .before .before .before .before .before .before .apply2 .last .0 in
     let arcs = c .before .before .before .before .before .before .before .before .before .before .before .before .before .tail .result .now in
-    let e : firedWords (transitionsIn (a .count) (a .transitions .now)) (a .j) (transitionIn (a .part .now)) (a .marks .now) (drop (length (a .marks .now)) (a .state .now)) ≡ refused 25 (c .before .fit .given .0 .0) =
+    let f = c .before .fit .given .0 in
+    let e : firedWords (transitionsIn (a .count) (a .transitions .now)) (a .j) (transitionIn (a .part .now)) (a .marks .now) (drop (length (a .marks .now)) (a .state .now)) ≡ refused (f .0) (f .1 .0) =
     fire-on (transitionsIn (a .count) (a .transitions .now)) (a .j) (transitionIn (a .part .now)) (a .marks .now) (a .state .now) (length (a .marks .now)) (c .before .before .before .before .before .before .before .before .before .before .before .before .before .before .before .before .get .result) (c .before .before .before .before .before .before .before .before .before .before .before .before .before .before .before .word .result) (c .before .before .before .before .before .before .before .before .before .before .before .before .before .before .before .before .get .ensures) (c .before .before .before .before .before .before .before .before .before .before .before .before .before .before .before .word .ensures) (c .before .before .before .before .before .before .before .before .before .before .before .before .before .before .if1 .left)
-    mid (Over (c .before .fit .given .0 .0)) (mid-is (a .part .now) arcs (a .marks .now) mid (c .before .before .before .before .before .before .before .before .before .before .before .before .before .tail .ensures) (c .before .before .before .before .before .before .before .before .before .before .before .apply .last .0) (c .before .before .before .before .before .before .before .before .before .before .before .apply .ensures) (c .before .before .before .before .before .before .before .apply2 .ensures))
-    (sym (c .before .fit .given .1) ∙ sums-of (a .part .now) arcs (a .marks .now) mid (c .before .before .before .before .before .before .before .before .before .before .before .before .before .tail .ensures) (c .before .before .before .sums-fit .result) (c .before .before .before .sums-fit .ensures)) in
+    mid (refused (f .0) (f .1 .0)) (mid-is (a .part .now) arcs (a .marks .now) mid (c .before .before .before .before .before .before .before .before .before .before .before .before .before .tail .ensures) (c .before .before .before .before .before .before .before .before .before .before .before .apply .last .0) (c .before .before .before .before .before .before .before .before .before .before .before .apply .ensures) (c .before .before .before .before .before .before .before .apply2 .ensures))
+    (sums-of (a .part .now) arcs (a .marks .now) mid (c .before .before .before .before .before .before .before .before .before .before .before .before .before .tail .ensures) (refused (f .0) (f .1 .0)) (ap said (sym (c .before .fit .given .1)) ∙ c .before .before .before .sums-fit .ensures)) in
     turned-away (a .state .now) _ _ _ e
 
 same-length-4 : tie.Need-same-length-4
@@ -96,10 +93,11 @@ returns-3 c =
     let t = transitionIn (a .part .now) in
     let ts = transitionsIn (a .count) (a .transitions .now) in
     let p = length (a .marks .now) in
+    let f = c .before .before .before .before .before .before .before .enum-told .given .0 .0 in
     let e : firedWords ts (a .j) t (a .marks .now) (drop p (a .state .now)) ≡ accepted (applied giveArc (t .arcs) mid ++ clocksBy (keptClock (a .j) mid) 0 ts (drop p (a .state .now))) =
     fire-on ts (a .j) t (a .marks .now) (a .state .now) p (c .before .before .before .before .before .before .before .before .before .before .before .before .before .before .before .before .before .before .before .before .before .before .get .result) (c .before .before .before .before .before .before .before .before .before .before .before .before .before .before .before .before .before .before .before .before .before .word .result) (c .before .before .before .before .before .before .before .before .before .before .before .before .before .before .before .before .before .before .before .before .before .before .get .ensures) (c .before .before .before .before .before .before .before .before .before .before .before .before .before .before .before .before .before .before .before .before .before .word .ensures) (c .before .before .before .before .before .before .before .before .before .before .before .before .before .before .before .before .before .before .before .before .if1 .left)
-    mid Fit (mid-is (a .part .now) arcs (a .marks .now) mid (c .before .before .before .before .before .before .before .before .before .before .before .before .before .before .before .before .before .before .before .tail .ensures) (c .before .before .before .before .before .before .before .before .before .before .before .before .before .before .before .before .before .apply .last .0) (c .before .before .before .before .before .before .before .before .before .before .before .before .before .before .before .before .before .apply .ensures) (c .before .before .before .before .before .before .before .before .before .before .before .before .before .apply2 .ensures))
-    (sym (c .before .before .before .before .before .before .before .enum-told .given .1) ∙ sums-of (a .part .now) arcs (a .marks .now) mid (c .before .before .before .before .before .before .before .before .before .before .before .before .before .before .before .before .before .before .before .tail .ensures) (c .before .before .before .before .before .before .before .before .before .sums-fit .result) (c .before .before .before .before .before .before .before .before .before .sums-fit .ensures)) in
+    mid (accepted f) (mid-is (a .part .now) arcs (a .marks .now) mid (c .before .before .before .before .before .before .before .before .before .before .before .before .before .before .before .before .before .before .before .tail .ensures) (c .before .before .before .before .before .before .before .before .before .before .before .before .before .before .before .before .before .apply .last .0) (c .before .before .before .before .before .before .before .before .before .before .before .before .before .before .before .before .before .apply .ensures) (c .before .before .before .before .before .before .before .before .before .before .before .before .before .apply2 .ensures))
+    (sums-of (a .part .now) arcs (a .marks .now) mid (c .before .before .before .before .before .before .before .before .before .before .before .before .before .before .before .before .before .before .before .tail .ensures) (accepted f) (ap said (sym (c .before .before .before .before .before .before .before .enum-told .given .1)) ∙ c .before .before .before .before .before .before .before .before .before .sums-fit .ensures)) in
     moved-to (a .state .now) _ _ _ e (fire-done (a .part .now) arcs (a .marks .now) mid (c .before .before .before .before .before .before .before .before .before .before .before .before .before .before .before .before .before .before .before .tail .ensures) ts (a .j) p (a .state .now) (c .before .before .before .before .finish .last .1 .0) (c .before .before .before .before .before .before .before .before .before .before .before .before .before .apply2 .kept .0 ∙ c .before .before .before .before .before .before .before .before .before .before .before .before .before .before .before .before .before .apply .kept .0) (c .before .before .before .before .finish .ensures))
 
 pub fire-spec : {M : Type 1} → statement M
@@ -109,8 +107,8 @@ fire-spec =
     add-get
     get-requires
     word-requires
-    sub-t18
-    cast-t19
+    sub-t19
+    cast-t20
     same-length
     returns
     tail-requires
@@ -118,7 +116,6 @@ fire-spec =
     apply-requires-2
     sums-fit-requires
     enum-known-fit
-    cast-t28
     enum-told
     finish-requires
     same-length-2

@@ -1,5 +1,5 @@
-use borrow.Author.Tests.{lt-ltb, le-ltb}
 use Rattle.net_step.specs.Stepping.{freshWord}
+use borrow.Author.Tests.{lt-ltb, le-ltb}
 use borrow.Author.Needs.{needs}
 use Rattle.net_step.proofs.fresh_word.Statement.{statement}
 use Rattle.net_step.proofs.fresh_word.Tie as tie
@@ -9,6 +9,9 @@ mul-word c = search needs
 
 add-word : tie.Need-add-word
 add-word c = search needs
+
+add-word-2 : tie.Need-add-word-2
+add-word-2 c = search needs
 
 word-requires : tie.Need-word-requires
 word-requires c κs = search needs
@@ -22,4 +25,4 @@ unfolding freshWord
 returns-2 c = rw (le-ltb _ _ (c .if1 .left))
 
 pub fresh-word-spec : {M : Type 1} → statement M
-fresh-word-spec = tie.close (tie.spec mul-word add-word word-requires returns returns-2)
+fresh-word-spec = tie.close (tie.spec mul-word add-word add-word-2 word-requires returns returns-2)

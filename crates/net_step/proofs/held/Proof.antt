@@ -6,7 +6,7 @@ use lib.ListN.{drop, getD}
 use native.Mathlib.Nat.{sub-zero}
 use mathlib.Core.List.{List}
 use Rattle.ranges.specs.RangeLaws.{tail-is}
-use Rattle.net_step.proofs.Loops.{held-go, held-stop, held-end}
+use Rattle.net_step.proofs.StateWalks.{held-go, held-stop, held-end}
 use Rattle.net_file.specs.Contents.{transitionsIn, transitionIn}
 use Rattle.net_step.specs.Stepping.{waitHeld, holdsWait}
 use Rattle.net_step.proofs.held.Statement.{statement}

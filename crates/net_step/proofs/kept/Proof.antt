@@ -1,4 +1,4 @@
-use Rattle.net_step.proofs.Loops.{still-zero}
+use Rattle.net_step.proofs.StateWalks.{still-zero}
 use borrow.Author.Tests.{eq-eqb, ne-eqb}
 use Rattle.net_file.specs.Contents.{transitionIn}
 use Rattle.net_step.specs.Stepping.{keptClock}

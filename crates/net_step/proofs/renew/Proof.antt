@@ -3,7 +3,7 @@ use Prim.Native.Nat.{_-_}
 use native.Mathlib.Omega.{arith}
 use mathlib.Core.Path.{_≡_, refl, _∙_}
 use lib.ListN.{length}
-use Rattle.net_step.proofs.Loops.{Written, write-none, write-go, write-end}
+use Rattle.net_step.proofs.StateWalks.{Written, write-none, write-go, write-end}
 use Rattle.net_step.specs.Stepping.{renewedClock}
 use Rattle.net_step.proofs.renew.Statement.{statement}
 use Rattle.net_step.proofs.renew.Tie as tie

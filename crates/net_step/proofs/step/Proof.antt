@@ -1,3 +1,5 @@
+use Rattle.agreement.specs.ByteLaws.{bytes-are}
+use Rattle.effbd.specs.Nets.{mostPlaces}
 use Prim.Native.Nat.{_-_}
 use native.Mathlib.Omega.{arith}
 use mathlib.Core.Path.{_≡_, ap, sym, _∙_}
@@ -81,8 +83,8 @@ returns-3 c =
     let r = read-of (a .net .now) (c .before .before .before .before .before .before .before .before .before .before .before .read3 .given .0 .0) (ap said (sym (c .before .before .before .before .before .before .before .before .before .before .before .read3 .given .1)) ∙ c .before .before .before .before .before .before .before .before .before .before .before .before .before .read .ensures) in
     let p = c .before .before .before .before .before .before .before .before .word .result in
     let w : Words (a .state .now) = record { each = λ i. omega (arith, c .before .before .before .before .before .before .before .before .before .before .before .before .before .before .slice-known .given i) } in
-    let e = sym (step-moves (a .net .now) (a .state .now) (c .before .before .before .before .before .before .before .before .before .before .before .read3 .given .0 .0) r (a .code) (a .argument) p (c .before .before .before .before .before .before .before .word2 .result) (c .before .before .before .before .before .before .tail .result .now) (c .before .before .before .before .before .before .before .before .before .if1 .left) w (c .before .before .before .before .before .before .before .before .word .ensures) (c .before .before .before .before .before .before .before .word2 .ensures) (c .before .before .before .before .before .before .tail .ensures)) in
-    let k : min (p - 0) 208 ≡ p = omega (arith, r .holds .head .places, c .before .before .before .before .before .before .before .before .word .ensures) in
+    let e = sym (step-moves (a .net .now) (a .state .now) (c .before .before .before .before .before .before .before .before .before .before .before .read3 .given .0 .0) r (bytes-are (a .net .now) (λ i. omega (arith, c .before .before .before .before .before .before .before .before .before .before .before .before .before .before .before .shared-slice-known .given i))) (a .code) (a .argument) p (c .before .before .before .before .before .before .before .word2 .result) (c .before .before .before .before .before .before .tail .result .now) (c .before .before .before .before .before .before .before .before .before .if1 .left) w (c .before .before .before .before .before .before .before .before .word .ensures) (c .before .before .before .before .before .before .before .word2 .ensures) (c .before .before .before .before .before .before .tail .ensures)) in
+    let k : min (p - 0) mostPlaces ≡ p = omega (arith, r .holds .head .places, c .before .before .before .before .before .before .before .before .word .ensures) in
     ((rw (length-take, k) at (c .before .before .before .move-by .ensures .says)) ∙ ap returningZero e, (rw (length-take, k) at (c .before .before .before .move-by .ensures .leaves)) ∙ ap (afterwards (a .state .now)) e)
 
 pub step-spec : {M : Type 1} → statement M

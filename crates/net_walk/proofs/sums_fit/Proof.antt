@@ -1,11 +1,11 @@
-use borrow.Author.Needs.{needs}
-use lib.ListN.{length, length-drop}
-use native.Mathlib.Omega.{arith}
-use mathlib.Core.Path.{_≡_, refl, ap, sym, _∙_}
-use Rattle.net_walk.proofs.Turns.{sums-go, sums-stop, sums-end}
-use Rattle.net_walk.specs.Walked.{sums}
-use Rattle.net_file.proofs.Walks.{here-long}
 use Rattle.net_file.specs.Contents.{arcsIn}
+use Rattle.net_file.proofs.Walks.{here-long}
+use Rattle.net_walk.specs.Walked.{sums}
+use Rattle.net_walk.proofs.Turns.{sums-go, sums-stop, sums-end}
+use mathlib.Core.Path.{_≡_, refl, ap, sym, _∙_}
+use native.Mathlib.Omega.{arith}
+use lib.ListN.{length, length-drop}
+use borrow.Author.Needs.{needs}
 use Rattle.net_walk.proofs.sums_fit.Statement.{statement}
 use Rattle.net_walk.proofs.sums_fit.Tie as tie
 
@@ -26,6 +26,9 @@ too-much-requires c κs = search needs
 
 word-requires : tie.Need-word-requires Inv-loop μ-loop
 word-requires c κs = search needs
+
+cast-t8 : tie.Need-cast-t8 Inv-loop μ-loop
+cast-t8 c = search needs
 
 returns : tie.Need-returns Inv-loop μ-loop
 returns c =
@@ -60,6 +63,7 @@ sums-fit-spec =
     arc-here-requires
     too-much-requires
     word-requires
+    cast-t8
     returns
     tail-requires
     loop-less

@@ -1,5 +1,5 @@
-use borrow.Author.Tests.{eq-eqb, ne-eqb}
 use Rattle.net_walk.specs.Walked.{tooMuch}
+use borrow.Author.Tests.{eq-eqb, ne-eqb}
 use borrow.Author.Needs.{needs}
 use Rattle.net_walk.proofs.too_much.Statement.{statement}
 use Rattle.net_walk.proofs.too_much.Tie as tie
@@ -23,11 +23,14 @@ get-requires c κs = search needs
 cast-result : tie.Need-cast-result
 cast-result c = search needs
 
+cast-result-2 : tie.Need-cast-result-2
+cast-result-2 c = search needs
+
 word-requires-3 : tie.Need-word-requires-3
 word-requires-3 c κs = search needs
 
-cast-result-2 : tie.Need-cast-result-2
-cast-result-2 c = search needs
+cast-result-3 : tie.Need-cast-result-3
+cast-result-3 c = search needs
 
 add-result : tie.Need-add-result
 add-result c = search needs
@@ -46,7 +49,8 @@ too-much-spec =
     cast-get
     get-requires
     cast-result
-    word-requires-3
     cast-result-2
+    word-requires-3
+    cast-result-3
     add-result
     returns-2)

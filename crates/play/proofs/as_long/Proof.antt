@@ -19,10 +19,10 @@ enum-told : tie.Need-enum-told
 enum-told c = search needs
 
 returns : tie.Need-returns
-returns c = long-by (readNet (c .before .before .before .before .before .args .net .now)) (c .before .before .before .before .before .args .length) (c .before .size .given .0 .0) (ap said (sym (c .before .size .given .1)) ∙ c .before .before .before .read .ensures)
+returns c = long-by (readNet (c .before .before .before .before .before .args .net .now)) (c .before .before .before .before .before .args .words) (c .before .size .given .0 .0) (ap said (sym (c .before .size .given .1)) ∙ c .before .before .before .read .ensures)
 
 returns-2 : tie.Need-returns-2
-returns-2 c = long-never (readNet (c .before .before .before .before .args .net .now)) (c .before .before .before .before .args .length) (c .enum-told .given .0 .0) (c .enum-told .given .0 .1 .0) (ap said (sym (c .enum-told .given .1)) ∙ c .before .before .read .ensures)
+returns-2 c = long-never (readNet (c .before .before .before .before .args .net .now)) (c .before .before .before .before .args .words) (c .enum-told .given .0 .0) (c .enum-told .given .0 .1 .0) (ap said (sym (c .enum-told .given .1)) ∙ c .before .before .read .ensures)
 
 pub as-long-spec : {M : Type 1} → statement M
 as-long-spec =

@@ -10,8 +10,8 @@ returns c = no-head (c .before .before .args .rest .now) (c .if1 .taken)
 word-requires : tie.Need-word-requires
 word-requires c κs = search needs
 
-cast-length : tie.Need-cast-length
-cast-length c = search needs
+cast-size : tie.Need-cast-size
+cast-size c = search needs
 
 returns-2 : tie.Need-returns-2
 returns-2 c = too-long (c .before .before .before .before .args .rest .now) (c .before .word .result) (c .before .word .ensures) (omega arith) (c .if2 .taken)
@@ -40,7 +40,7 @@ call-length-spec =
     (tie.spec
     returns
     word-requires
-    cast-length
+    cast-size
     returns-2
     word-requires-2
     returns-3

@@ -1,5 +1,6 @@
 use mathlib.Core.Path.{_≡_, refl, _∙_}
-use Rattle.play.proofs.Turns.{found, ended, turned-lent, lent-front, all-made}
+use Rattle.effbd.specs.Answers.{said}
+use Rattle.play.proofs.Turns.{found, ended, turned-lent, all-made}
 use lib.ListN.{length}
 use Rattle.play.proofs.Lists.{Making, making-start, made-all}
 use native.Mathlib.Omega.{arith}
@@ -56,10 +57,12 @@ part-make-call-end : tie.Need-part-make-call-end Inv-loop μ-loop
 part-make-call-end c = let f = found (c .before .before .before .before .before .before .before .loop .calls) (c .before .before .before .before .before .before .before .loop .at) (c .before .before .before .call-length .result) (c .before .before .before .before .before .before .before .loop .inv .0 .within) (c .before .before .before .call-length .ensures) (c .before .before .if1 .left) in omega arith
 
 make-call-requires : tie.Need-make-call-requires Inv-loop μ-loop
-make-call-requires c κs = lent-front (c .before .before .before .before .before .before .before .before .loop .calls) (c .before .before .before .before .before .before .before .before .loop .at) (c .before .before .before .before .call-length .result) (c .before .before .before .before .before .before .before .before .loop .at + c .before .before .before .before .call-length .result - c .before .before .before .before .before .before .before .before .loop .at) (found (c .before .before .before .before .before .before .before .before .loop .calls) (c .before .before .before .before .before .before .before .before .loop .at) (c .before .before .before .before .call-length .result) (c .before .before .before .before .before .before .before .before .loop .inv .0 .within) (c .before .before .before .before .call-length .ensures) (c .before .before .before .if1 .left)) (omega arith)
+make-call-requires c κs = search needs
 
 add-at : tie.Need-add-at Inv-loop μ-loop
-add-at c = let f = found (c .before .before .before .before .before .before .before .before .before .before .before .before .before .before .before .loop .calls) (c .before .before .before .before .before .before .before .before .before .before .before .before .before .before .before .loop .at) (c .before .before .before .before .before .before .before .before .before .before .before .call-length .result) (c .before .before .before .before .before .before .before .before .before .before .before .before .before .before .before .loop .inv .0 .within) (c .before .before .before .before .before .before .before .before .before .before .before .call-length .ensures) (c .before .before .before .before .before .before .before .before .before .before .if1 .left) in omega arith
+add-at c =
+    let l = c .before .before .before .before .before .before .before .before .before .before .before .before .before .before .before .loop in
+    let f = found (l .calls) (l .at) (c .before .before .before .before .before .before .before .before .before .before .before .call-length .result) (l .inv .0 .within) (c .before .before .before .before .before .before .before .before .before .before .before .call-length .ensures) (c .before .before .before .before .before .before .before .before .before .before .if1 .left) in omega arith
 
 sub-left : tie.Need-sub-left Inv-loop μ-loop
 sub-left c = search needs
@@ -68,10 +71,17 @@ loop-less : tie.Need-loop-less Inv-loop μ-loop
 loop-less c = omega arith
 
 loop-again : tie.Need-loop-again Inv-loop μ-loop
-loop-again c = (
-  turned-lent (c .before .before .before .before .before .before .before .before .before .before .before .before .before .before .before .before .before .before .before .before .before .args .file .now) (c .before .before .before .before .before .before .before .before .before .before .before .before .before .before .before .before .before .before .before .before .before .args .net .now) (c .before .before .before .before .before .before .before .before .before .before .before .before .before .before .before .before .before .before .before .before .before .args .station) (record { leader = c .before .before .before .before .before .before .before .before .before .before .before .before .before .before .before .before .before .before .before .before .before .args .leader .now; sent = 0; follower = c .before .before .before .before .before .before .before .before .before .before .before .before .before .before .before .before .before .before .before .before .before .args .follower .now; taken = 0 }) (c .before .before .before .before .before .before .before .before .before .before .before .before .before .before .before .before .before .before .before .before .before .args .calls .now) (c .before .before .before .before .before .before .before .before .before .before .before .before .before .before .before .loop .left) (c .before .before .before .before .before .before .before .before .before .before .before .before .before .before .before .loop .at) (c .before .before .before .before .before .before .before .before .before .before .before .call-length .result) (c .before .before .before .before .before .before .before .before .before .before .before .before .before .before .before .loop .at + c .before .before .before .before .before .before .before .before .before .before .before .call-length .result - c .before .before .before .before .before .before .before .before .before .before .before .before .before .before .before .loop .at) (record { leader = c .before .before .before .before .before .before .before .before .before .before .before .before .before .before .before .loop .leader; sent = c .before .before .before .before .before .before .before .before .before .before .before .before .before .before .before .loop .sent; follower = c .before .before .before .before .before .before .before .before .before .before .before .before .before .before .before .loop .follower; taken = c .before .before .before .before .before .before .before .before .before .before .before .before .before .before .before .loop .taken }) (c .before .before .before .before .before .before .before .before .before .before .before .before .before .before .before .loop .calls) (c .before .before .before .before .before .before .make-call .last .1 .1 .0) (c .before .before .before .before .before .before .make-call .last .1 .1 .1 .0) (c .before .before .before .before .before .before .make-call .last .1 .1 .1 .1 .1 .1 .0) (c .before .before .before .before .before .before .make-call .result .sent) (c .before .before .before .before .before .before .make-call .result .taken) (c .before .before .before .before .before .before .before .before .before .before .before .before .before .before .before .loop .inv .0) (omega arith) (found (c .before .before .before .before .before .before .before .before .before .before .before .before .before .before .before .loop .calls) (c .before .before .before .before .before .before .before .before .before .before .before .before .before .before .before .loop .at) (c .before .before .before .before .before .before .before .before .before .before .before .call-length .result) (c .before .before .before .before .before .before .before .before .before .before .before .before .before .before .before .loop .inv .0 .within) (c .before .before .before .before .before .before .before .before .before .before .before .call-length .ensures) (c .before .before .before .before .before .before .before .before .before .before .if1 .left)) (omega arith) (c .before .before .before .before .before .before .make-call .ensures) (c .before .calls2 .given .0),
-  (c .before .before .before .before .before .leader .given ∙ c .before .before .before .before .before .before .before .before .before .before .before .before .before .before .before .loop .inv .1 .0, (c .before .before .before .follower .given ∙ c .before .before .before .before .before .before .before .before .before .before .before .before .before .before .before .loop .inv .1 .1 .0, c .before .calls2 .given .1 ∙ c .before .before .before .before .before .before .before .before .before .before .before .before .before .before .before .loop .inv .1 .1 .1)),
-)
+loop-again c =
+    let a = c .before .before .before .before .before .before .before .before .before .before .before .before .before .before .before .before .before .before .before .before .before .args in
+    let l = c .before .before .before .before .before .before .before .before .before .before .before .before .before .before .before .loop in
+    let n = c .before .before .before .before .before .before .before .before .before .before .before .call-length .result in
+    let made = c .before .before .before .before .before .before .make-call in (
+      turned-lent (a .file .now) (a .net .now) (a .station) (record { leader = a .leader .now; sent = 0; follower = a .follower .now; taken = 0 }) (a .calls .now) (l .left) (l .at) n (l .at + n - l .at)
+          (record { leader = l .leader; sent = l .sent; follower = l .follower; taken = l .taken }) (l .calls) (made .last .1 .1 .0) (made .last .1 .1 .1 .0) (made .last .1 .1 .1 .1 .1 .1 .0)
+          (said (made .result .answer)) (made .result .counts .sent) (made .result .counts .taken) (l .inv .0) (c .before .before .before .before .before .before .before .before .before .before .before .before .before .before .loop-test .taken) (found (l .calls) (l .at) n (l .inv .0 .within) (c .before .before .before .before .before .before .before .before .before .before .before .call-length .ensures) (c .before .before .before .before .before .before .before .before .before .before .if1 .left))
+          (omega arith) (made .ensures) (c .before .calls2 .given .0),
+      (c .before .before .before .before .before .leader .given ∙ l .inv .1 .0, (c .before .before .before .follower .given ∙ l .inv .1 .1 .0, c .before .calls2 .given .1 ∙ l .inv .1 .1 .1)),
+    )
 
 same-length-4 : tie.Need-same-length-4 Inv-loop μ-loop
 same-length-4 c = c .before .loop .inv .1 .0

@@ -24,18 +24,18 @@ cast-area c = search needs
 
 array-share-prefix-area : tie.Need-array-share-prefix-area
 array-share-prefix-area c =
-    found-net (c .before .before .before .before .before .before .before .before .before .before .args .file .now) (c .before .before .before .before .translate-into .last .1 .0) (c .before .answer2 .given .0 .0)
+    found-net (c .before .before .before .before .before .before .before .before .before .before .args .file .now) _ (c .before .before .before .before .translate-into .last .1 .0) (c .before .answer2 .given .0 .0)
     (ap said (sym (c .before .answer2 .given .1)) ∙ c .before .before .before .before .translate-into .ensures .0) (c .before .before .before .before .translate-into .ensures .1) .0
 
 slice-aggregate-play-net : tie.Need-slice-aggregate-play-net
 slice-aggregate-play-net c =
     sym (length-take-le (c .before .before .answer2 .given .0 .0) (c .before .before .before .before .before .translate-into .last .1 .0)
-    (found-net (c .before .before .before .before .before .before .before .before .before .before .before .args .file .now) (c .before .before .before .before .before .translate-into .last .1 .0) (c .before .before .answer2 .given .0 .0)
+    (found-net (c .before .before .before .before .before .before .before .before .before .before .before .args .file .now) _ (c .before .before .before .before .before .translate-into .last .1 .0) (c .before .before .answer2 .given .0 .0)
     (ap said (sym (c .before .before .answer2 .given .1)) ∙ c .before .before .before .before .before .translate-into .ensures .0) (c .before .before .before .before .before .translate-into .ensures .1) .0))
 
 play-net-requires : tie.Need-play-net-requires
 play-net-requires c κs =
-    found-net (c .before .before .before .before .before .before .before .before .before .before .before .before .before .before .args .file .now) (c .before .before .before .before .before .before .before .before .translate-into .last .1 .0) (c .before .before .before .before .before .answer2 .given .0 .0)
+    found-net (c .before .before .before .before .before .before .before .before .before .before .before .before .before .before .args .file .now) _ (c .before .before .before .before .before .before .before .before .translate-into .last .1 .0) (c .before .before .before .before .before .answer2 .given .0 .0)
     (ap said (sym (c .before .before .before .before .before .answer2 .given .1)) ∙ c .before .before .before .before .before .before .before .before .translate-into .ensures .0) (c .before .before .before .before .before .before .before .before .translate-into .ensures .1) .1
 
 returns : tie.Need-returns

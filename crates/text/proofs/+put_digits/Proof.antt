@@ -6,7 +6,7 @@ use borrow.Fn.Kinds.{In, Out}
 use borrow.Fn.PlainCycle.{Measures, is, falls, and}
 use Rattle.effbd.specs.Annex.{digits}
 use Rattle.text.specs.LaidLaws.{still, same, and-then}
-use Rattle.text.proofs.Laws.{no-digits, one-digit, more-digits}
+use Rattle.text.proofs.LettersAndDigits.{no-digits, one-digit, more-digits}
 use Rattle.text.proofs.put_digits.Reads as put-digits
 use Rattle.text.proofs.put_digits.Kinds as put-digits-kinds
 use Rattle.text.proofs.+put_digits.Lts-put_digits as put-digits-lts

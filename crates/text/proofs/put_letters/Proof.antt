@@ -1,6 +1,6 @@
 use mathlib.Core.Path.{refl}
 use Rattle.text.specs.LaidLaws.{laid-length, still}
-use Rattle.text.proofs.Laws.{letter, all-letters}
+use Rattle.text.proofs.LettersAndDigits.{letter, all-letters}
 use Prim.Native.Nat.{_≤_, _-_}
 use lib.ListN.{length, take}
 use borrow.Author.Needs.{needs}

@@ -1,5 +1,5 @@
 use Rattle.text.specs.LaidLaws.{and-then, same}
-use Rattle.text.proofs.Laws.{line-of}
+use Rattle.text.proofs.LettersAndDigits.{line-of}
 use borrow.Author.Needs.{needs}
 use Rattle.text.proofs.put_line.Statement.{statement}
 use Rattle.text.proofs.put_line.Tie as tie

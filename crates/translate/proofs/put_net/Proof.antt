@@ -1,4 +1,4 @@
-use Rattle.translate.specs.Whole.{netRecords}
+use Rattle.translate.specs.NetRecords.{netRecords}
 use Rattle.net_records.proofs.Writing.{and-then}
 use borrow.Author.Needs.{needs}
 use Rattle.translate.proofs.put_net.Statement.{statement}

@@ -1,4 +1,4 @@
-use Rattle.translate.proofs.Fits.{turned-away}
+use Rattle.translate.proofs.AnswerAndArea.{turned-away}
 use borrow.Author.Needs.{needs}
 use Rattle.translate.proofs.translate.Statement.{statement}
 use Rattle.translate.proofs.translate.Tie as tie

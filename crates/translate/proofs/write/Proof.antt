@@ -1,6 +1,6 @@
 use native.Mathlib.Omega.{arith}
 use Rattle.agreement.specs.ByteLaws.{bytes-are}
-use Rattle.translate.proofs.Fits.{never-longer}
+use Rattle.translate.proofs.AnswerAndArea.{never-longer}
 use borrow.Author.Needs.{needs}
 use Rattle.translate.proofs.write.Statement.{statement}
 use Rattle.translate.proofs.write.Tie as tie

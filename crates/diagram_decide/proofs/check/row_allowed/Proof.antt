@@ -2,7 +2,7 @@ use mathlib.Core.Path.{sym, _∙_}
 use borrow.Author.Tests.{not-true, not-false}
 use borrow.Author.Needs.{needs}
 use Rattle.diagram_moves.specs.Decisions.{rowAllowed}
-use Rattle.diagram_decide.proofs.Laws.{rest-allowed}
+use Rattle.diagram_decide.proofs.RowsChecked.{rest-allowed}
 use Rattle.diagram_decide.proofs.check.row_allowed.Statement.{statement}
 use Rattle.diagram_decide.proofs.check.row_allowed.Tie as tie
 

@@ -1,5 +1,5 @@
-use Rattle.diagram_decide.proofs.Laws.{done-start, done-from}
-use Rattle.diagram_moves.specs.Loops.{all-more, all-less}
+use Rattle.diagram_decide.proofs.RowsChecked.{done-start, done-from}
+use Rattle.diagram_moves.specs.RowStores.{all-more, all-less}
 use Rattle.diagram_moves.specs.Decisions.{doneFrom, allDoneTo}
 use Rattle.ranges.specs.RangeLaws.{all-fail}
 use Rattle.effbd.specs.Ranges.{allBelow}

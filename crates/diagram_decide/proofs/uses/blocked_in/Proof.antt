@@ -1,21 +1,21 @@
-use Rattle.diagram_decide.proofs.Laws.{blocked-start, blocked-hit, blocked-miss, blocked-none}
+use mathlib.Core.Path.{_≡_, refl, _∙_}
+use lib.ListN.{length}
 use Rattle.diagram_moves.specs.Decisions.{blockedItem}
-use Rattle.effbd.specs.Diagrams.{usesAt}
-use mathlib.Core.Path.{_≡_, _∙_, ap}
-use Prim.Native.Nat.{_≤_, _+_, _-_}
-use native.Mathlib.Omega.{arith}
+use Rattle.diagram_table.specs.Cells.{usesOf}
+use Rattle.diagram_table.proofs.UsesWalked.{uses-fall}
+use Rattle.diagram_decide.proofs.UsesBlocked.{blocked-hit, blocked-miss, blocked-none}
 use borrow.Author.Needs.{needs}
 use Rattle.diagram_decide.proofs.uses.blocked_in.Statement.{statement}
 use Rattle.diagram_decide.proofs.uses.blocked_in.Tie as tie
 
 abbrev Inv-loop : tie.InvT-loop
-Inv-loop uses number rows items state giving rest₀ use-number₀ rest use-number = (use-number ≤ number) × (blockedItem giving rows items state (usesAt (number - use-number) rest) ≡ blockedItem giving rows items state (usesAt number uses))
+Inv-loop uses rows items state giving rest₀ rest = blockedItem giving rows items state (usesOf rest) ≡ blockedItem giving rows items state (usesOf uses)
 
 abbrev μ-loop : tie.MeasureT-loop
-μ-loop uses number rows items state giving rest₀ use-number₀ rest use-number = number - use-number
+μ-loop uses rows items state giving rest₀ rest = length rest
 
 loop-holds : tie.Need-loop-holds Inv-loop μ-loop
-loop-holds c = (search needs, blocked-start (c .before .before .args .giving) (c .before .before .args .rows) (c .before .before .args .items) (c .before .before .args .state .now) (c .before .before .args .number) (c .before .before .args .uses .now))
+loop-holds c = refl
 
 word-requires : tie.Need-word-requires Inv-loop μ-loop
 word-requires c κs = search needs
@@ -33,22 +33,23 @@ exceeds-requires : tie.Need-exceeds-requires Inv-loop μ-loop
 exceeds-requires c κs = search needs
 
 returns : tie.Need-returns Inv-loop μ-loop
-returns c = blocked-hit (c .before .before .before .before .before .before .before .before .before .args .giving) (c .before .before .before .before .before .before .before .before .before .args .rows) (c .before .before .before .before .before .before .before .before .before .args .items) (c .before .before .before .before .before .before .before .before .before .args .state .now) (c .before .before .before .before .before .before .before .before .before .args .number) (c .before .before .before .before .before .before .loop .use-number) (c .before .before .before .before .before .before .loop .rest .now) (omega arith) _ _ _ _ (c .before .before .before .before .word .ensures) (c .before .before .count .ensures) (c .before .before .before .amount .ensures) (c .before .exceeds .ensures) (c .if1 .taken) ∙ c .before .before .before .before .before .before .loop .inv .1
+returns c =
+    let a = c .before .before .before .before .before .before .before .before .before .args in let l = c .before .before .before .before .before .before .loop in
+    blocked-hit (a .giving) (a .rows) (a .items) (a .state .now) (l .rest .now) (c .before .before .before .before .before .loop-test .taken) _ _ _ _ (c .before .before .before .before .word .ensures) (c .before .before .count .ensures) (c .before .before .before .amount .ensures) (c .before .exceeds .ensures) (c .if1 .taken) ∙ l .inv
 
 tail-requires : tie.Need-tail-requires Inv-loop μ-loop
 tail-requires c κs = search needs
 
-add-use-number : tie.Need-add-use-number Inv-loop μ-loop
-add-use-number c = search needs
-
 loop-less : tie.Need-loop-less Inv-loop μ-loop
-loop-less c = search needs
+loop-less c = uses-fall (c .before .before .before .before .before .before .before .loop .rest .now) (c .tail .result .now) (c .before .before .before .before .before .before .loop-test .taken) (c .tail .ensures)
 
 loop-again : tie.Need-loop-again Inv-loop μ-loop
-loop-again c = (omega arith, ap (λ (l : _). blockedItem (c .before .before .before .before .before .before .before .before .before .before .args .giving) (c .before .before .before .before .before .before .before .before .before .before .args .rows) (c .before .before .before .before .before .before .before .before .before .before .args .items) (c .before .before .before .before .before .before .before .before .before .before .args .state .now) (usesAt (c .before .before .before .before .before .before .before .before .before .before .args .number - (c .before .before .before .before .before .before .before .loop .use-number + 1)) l)) (c .tail .ensures) ∙ (blocked-miss (c .before .before .before .before .before .before .before .before .before .before .args .giving) (c .before .before .before .before .before .before .before .before .before .before .args .rows) (c .before .before .before .before .before .before .before .before .before .before .args .items) (c .before .before .before .before .before .before .before .before .before .before .args .state .now) (c .before .before .before .before .before .before .before .before .before .before .args .number) (c .before .before .before .before .before .before .before .loop .use-number) (c .before .before .before .before .before .before .before .loop .rest .now) (omega arith) _ _ _ _ (c .before .before .before .before .before .word .ensures) (c .before .before .before .count .ensures) (c .before .before .before .before .amount .ensures) (c .before .before .exceeds .ensures) (c .before .if1 .left) ∙ c .before .before .before .before .before .before .before .loop .inv .1))
+loop-again c =
+    let a = c .before .before .before .before .before .before .before .before .before .before .args in let l = c .before .before .before .before .before .before .before .loop in
+    blocked-miss (a .giving) (a .rows) (a .items) (a .state .now) (l .rest .now) (c .before .before .before .before .before .before .loop-test .taken) _ _ _ _ (c .before .before .before .before .before .word .ensures) (c .before .before .before .count .ensures) (c .before .before .before .before .amount .ensures) (c .before .before .exceeds .ensures) (c .tail .result .now) (c .tail .ensures) (c .before .if1 .left) ∙ l .inv
 
 returns-2 : tie.Need-returns-2 Inv-loop μ-loop
-returns-2 c = blocked-none (c .before .before .before .before .args .giving) (c .before .before .before .before .args .rows) (c .before .before .before .before .args .items) (c .before .before .before .before .args .state .now) (c .before .before .before .before .args .number) (c .before .loop .use-number) (c .before .loop .rest .now) (omega arith) ∙ c .before .loop .inv .1
+returns-2 c = let a = c .before .before .before .before .args in let l = c .before .loop in blocked-none (a .giving) (a .rows) (a .items) (a .state .now) (l .rest .now) (c .loop-test .left) ∙ l .inv
 
 pub blocked-in-spec : {M : Type 1} → statement M
 blocked-in-spec =
@@ -64,7 +65,6 @@ blocked-in-spec =
     exceeds-requires
     returns
     tail-requires
-    add-use-number
     loop-less
     loop-again
     returns-2)

@@ -1,4 +1,4 @@
-use Rattle.diagram_moves.specs.Loops.{all-more, all-less}
+use Rattle.diagram_moves.specs.RowStores.{all-more, all-less}
 use Rattle.diagram_moves.specs.Decisions.{rowFree}
 use Rattle.ranges.specs.RangeLaws.{all-fail}
 use Rattle.effbd.specs.Ranges.{allBelow}

@@ -4,6 +4,9 @@ use borrow.Author.Needs.{needs}
 use Rattle.diagram_file.proofs.Diagram.fresh.Statement.{statement}
 use Rattle.diagram_file.proofs.Diagram.fresh.Tie as tie
 
+cast-put-fresh : tie.Need-cast-put-fresh
+cast-put-fresh c = search needs
+
 sub-put-fresh : tie.Need-sub-put-fresh
 sub-put-fresh c = search needs
 
@@ -21,4 +24,4 @@ returns c = let d = c .before .before .before .before .before .before .args .t1 
 
 pub fresh-spec : {M : Type 1} → statement M
 fresh-spec =
-    tie.close (tie.spec sub-put-fresh part-state-start part-state-end put-fresh-requires returns)
+    tie.close (tie.spec cast-put-fresh sub-put-fresh part-state-start part-state-end put-fresh-requires returns)

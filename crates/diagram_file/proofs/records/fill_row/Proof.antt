@@ -1,4 +1,4 @@
-use Rattle.diagram_file.proofs.Fields.{function-row, function-long, limit-row, limit-long, other-row, other-long}
+use Rattle.diagram_file.proofs.Fields.{base-at, behind-at, fields-at, function-row, other-row}
 use borrow.Author.Needs.{needs}
 use Rattle.diagram_file.proofs.records.fill_row.Statement.{statement}
 use Rattle.diagram_file.proofs.records.fill_row.Tie as tie
@@ -6,20 +6,32 @@ use Rattle.diagram_file.proofs.records.fill_row.Tie as tie
 word-requires : tie.Need-word-requires
 word-requires c κs = search needs
 
+field-count-requires : tie.Need-field-count-requires
+field-count-requires c κs = search needs
+
+field-requires : tie.Need-field-requires
+field-requires c κs = search needs
+
+field-requires-2 : tie.Need-field-requires-2
+field-requires-2 c κs = search needs
+
 word-requires-2 : tie.Need-word-requires-2
 word-requires-2 c κs = search needs
 
-word-requires-3 : tie.Need-word-requires-3
-word-requires-3 c κs = search needs
-
-word-requires-4 : tie.Need-word-requires-4
-word-requires-4 c κs = search needs
+base-length-requires : tie.Need-base-length-requires
+base-length-requires c κs = search needs
 
 use-count-requires : tie.Need-use-count-requires
 use-count-requires c κs = search needs
 
-add-put-row : tie.Need-add-put-row
-add-put-row c = search needs
+behind-fields-requires : tie.Need-behind-fields-requires
+behind-fields-requires c κs = search needs
+
+cast-offset : tie.Need-cast-offset
+cast-offset c = search needs
+
+add-offset : tie.Need-add-offset
+add-offset c = search needs
 
 cast-put-row : tie.Need-cast-put-row
 cast-put-row c = search needs
@@ -27,68 +39,45 @@ cast-put-row c = search needs
 put-row-requires : tie.Need-put-row-requires
 put-row-requires c κs = search needs
 
-word-requires-5 : tie.Need-word-requires-5
-word-requires-5 c κs = search needs
-
 put-row-requires-2 : tie.Need-put-row-requires-2
 put-row-requires-2 c κs = search needs
-
-length-of-requires : tie.Need-length-of-requires
-length-of-requires c κs = search needs
-
-put-row-requires-3 : tie.Need-put-row-requires-3
-put-row-requires-3 c κs = search needs
-
-length-of-requires-2 : tie.Need-length-of-requires-2
-length-of-requires-2 c κs = search needs
 
 same-length : tie.Need-same-length
 same-length c = search needs
 
 returns : tie.Need-returns
-returns c = let a = c .before .before .before .before .before .before .before .before .before .before .before .before .args in (
-  function-long (a .bytes .now) (c .before .before .before .before .before .before .before .before .before .word .ensures) (c .before .before .before .before .before .before .before .before .match .keys1) (c .before .before .before .before .before .word4 .ensures),
-  function-row (a .row) (a .at) (a .bytes .now) (a .table .now) (c .before .before .before .before .before .before .before .before .before .word .ensures) (c .before .before .before .before .before .before .before .before .match .keys1) (c .before .before .before .before .before .before .before .word2 .ensures) (c .before .before .before .before .before .before .word3 .ensures) (c .before .before .before .before .before .word4 .ensures) (c .before .before .before .before .use-count .ensures) (c .before .before .put-row .ensures),
-)
+returns c =
+    let a = c .before .before .before .before .before .before .before .before .before .before .before .before .before .before .before .before .args in let k = c .before .before .before .before .before .before .before .before .before .before .before .before .before .before .before .before .pre .1 .1 in
+    function-row (a .row) (a .at) (a .bytes .now) (a .table .now) (c .before .before .before .before .before .before .before .before .before .before .before .before .word .ensures) (fields-at (a .entries .now) (c .before .before .before .before .before .before .before .before .before .before .before .before .word .result) k (c .before .before .before .before .before .before .before .before .before .before .before .field-count .ensures .0)) (c .before .before .before .before .before .before .before .before .before .before .field .ensures) (c .before .before .before .before .before .before .before .before .before .field2 .ensures)
+    (c .before .before .before .before .before .before .before .before .if1 .taken) (c .before .before .before .before .before .before .before .word2 .ensures) (base-at (a .entries .now) (c .before .before .before .before .before .before .before .before .before .before .before .before .word .result) k (c .before .before .before .before .before .before .base-length .ensures)) (c .before .before .before .before .before .use-count .ensures) (behind-at (a .entries .now) (c .before .before .before .before .before .before .before .before .before .before .before .before .word .result) k (c .before .before .before .before .behind-fields .ensures .0)) (c .before .before .put-row .ensures)
 
 same-length-2 : tie.Need-same-length-2
 same-length-2 c = search needs
 
 returns-2 : tie.Need-returns-2
-returns-2 c = let a = c .before .before .before .before .before .before .before .before .before .before .args in (
-  limit-long (a .bytes .now) (c .before .before .before .before .before .before .before .word .ensures) (c .before .before .before .before .before .before .match .keys2) (c .length-of .ensures),
-  limit-row (a .row) (a .at) (a .bytes .now) (a .table .now) (c .before .before .before .before .before .before .before .word .ensures) (c .before .before .before .before .before .before .match .keys2) (c .before .before .before .before .word5 .ensures) (c .before .before .before .put-row2 .ensures),
-)
-
-same-length-3 : tie.Need-same-length-3
-same-length-3 c = search needs
-
-returns-3 : tie.Need-returns-3
-returns-3 c = let a = c .before .before .before .before .before .before .before .before .before .args in (
-  other-long (a .bytes .now) (c .before .before .before .before .before .before .word .ensures) (c .before .before .before .before .before .match .rest .0 .1) (c .before .before .before .before .before .match .rest .1) (c .length-of2 .ensures),
-  other-row (a .row) (a .at) (a .bytes .now) (a .table .now) (c .before .before .before .before .before .before .word .ensures) (c .before .before .before .before .before .match .rest .0 .1) (c .before .before .before .before .before .match .rest .1) (c .before .before .before .put-row3 .ensures),
-)
+returns-2 c =
+    let a = c .before .before .before .before .before .before .before .before .before .before .before .before .args in
+    other-row (a .row) (a .at) (a .bytes .now) (a .table .now) (c .before .before .before .before .before .before .before .before .word .ensures) (fields-at (a .entries .now) (c .before .before .before .before .before .before .before .before .word .result) (c .before .before .before .before .before .before .before .before .before .before .before .before .pre .1 .1) (c .before .before .before .before .before .before .before .field-count .ensures .0)) (c .before .before .before .before .before .before .field .ensures) (c .before .before .before .before .before .field2 .ensures)
+    (c .before .before .before .before .if1 .left) (c .before .before .put-row2 .ensures)
 
 pub fill-row-spec : {M : Type 1} → statement M
 fill-row-spec =
     tie.close
     (tie.spec
     word-requires
+    field-count-requires
+    field-requires
+    field-requires-2
     word-requires-2
-    word-requires-3
-    word-requires-4
+    base-length-requires
     use-count-requires
-    add-put-row
+    behind-fields-requires
+    cast-offset
+    add-offset
     cast-put-row
     put-row-requires
-    word-requires-5
     put-row-requires-2
-    length-of-requires
-    put-row-requires-3
-    length-of-requires-2
     same-length
     returns
     same-length-2
-    returns-2
-    same-length-3
-    returns-3)
+    returns-2)

@@ -1,7 +1,7 @@
-use Rattle.diagram_file.proofs.Fields.{function-bad, function-good}
-use mathlib.Core.Path.{ap, _∙_}
-use native.Mathlib.Omega.{arith}
 use lib.ListN.{length, length-drop}
+use native.Mathlib.Omega.{arith}
+use mathlib.Core.Path.{ap, _∙_}
+use Rattle.diagram_file.proofs.Fields.{function-bad, function-good}
 use borrow.Author.Needs.{needs}
 use Rattle.diagram_file.proofs.records.function_fine.Statement.{statement}
 use Rattle.diagram_file.proofs.records.function_fine.Tie as tie
@@ -13,7 +13,7 @@ word-requires-2 : tie.Need-word-requires-2
 word-requires-2 c κs = search needs
 
 returns : tie.Need-returns
-returns c = function-bad (c .before .before .before .before .args .items) (c .before .before .before .before .args .bytes .now) (c .before .before .word .result) (c .before .word2 .result) (c .before .before .word .ensures) (c .before .word2 .ensures) (c .if1 .taken)
+returns c = let a = c .before .before .before .before .args in function-bad (a .items) (a .bytes .now) (a .base) (a .behind) (c .before .before .word .result) (c .before .word2 .result) (c .before .before .word .ensures) (c .before .word2 .ensures) (c .if1 .taken)
 
 tail-requires : tie.Need-tail-requires
 tail-requires c κs = search needs
@@ -26,13 +26,15 @@ use-count-requires c κs = search needs
 
 uses-fine-requires : tie.Need-uses-fine-requires
 uses-fine-requires c κs =
-    let b = c .before .before .before .before .before .before .before .args .bytes .now in
-    let t = ap length (c .before .before .tail .ensures) ∙ length-drop 8 b in
+    let a = c .before .before .before .before .before .before .before .args in
+    let t = ap length (c .before .before .tail .ensures) ∙ length-drop (a .behind) (a .bytes .now) in
     let h = c .before .before .before .before .before .before .before .pre in
-    omega (arith, t, h, c .before .word3 .ensures, c .use-count .ensures)
+    omega (arith, t, h .0, h .1, c .before .word3 .ensures, c .use-count .ensures)
 
 returns-2 : tie.Need-returns-2
-returns-2 c = function-good (c .before .before .before .before .before .before .before .before .args .items) (c .before .before .before .before .before .before .before .before .args .bytes .now) (c .before .before .before .before .before .before .word .result) (c .before .before .before .before .before .word2 .result) (c .before .before .word3 .result) (c .before .use-count .result) (c .before .before .before .tail .result .now) (c .uses-fine .result) (c .before .before .before .before .before .before .word .ensures) (c .before .before .before .before .before .word2 .ensures) (c .before .before .before .before .if1 .left) (c .before .before .before .tail .ensures) (c .before .before .word3 .ensures) (c .before .use-count .ensures) (c .uses-fine .ensures)
+returns-2 c =
+    let a = c .before .before .before .before .before .before .before .before .args in
+    function-good (a .items) (a .bytes .now) (a .base) (a .behind) (c .before .before .before .before .before .before .word .result) (c .before .before .before .before .before .word2 .result) (c .before .before .word3 .result) (c .before .use-count .result) (c .before .before .before .tail .result .now) (c .uses-fine .result) (c .before .before .before .before .before .before .word .ensures) (c .before .before .before .before .before .word2 .ensures) (c .before .before .before .before .if1 .left) (c .before .before .before .tail .ensures) (c .before .before .word3 .ensures) (c .before .use-count .ensures) (c .uses-fine .ensures)
 
 pub function-fine-spec : {M : Type 1} → statement M
 function-fine-spec =

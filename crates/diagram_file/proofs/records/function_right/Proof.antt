@@ -1,7 +1,20 @@
-use Rattle.diagram_file.specs.Fields.{functionRight}
 use borrow.Author.Tests.{le-leb, lt-leb, eq-eqb, ne-eqb}
+use Rattle.diagram_file.specs.Fields.{functionRight}
+use borrow.Author.Needs.{needs}
 use Rattle.diagram_file.proofs.records.function_right.Statement.{statement}
 use Rattle.diagram_file.proofs.records.function_right.Tie as tie
+
+cast-if2 : tie.Need-cast-if2
+cast-if2 c = search needs
+
+rem-if2 : tie.Need-rem-if2
+rem-if2 c = search needs
+
+cast-result : tie.Need-cast-result
+cast-result c = search needs
+
+div-result : tie.Need-div-result
+div-result c = search needs
 
 returns : tie.Need-returns
 unfolding functionRight
@@ -16,4 +29,5 @@ unfolding functionRight
 returns-3 c = simp (lt-leb _ _ (c .if1 .left))
 
 pub function-right-spec : {M : Type 1} → statement M
-function-right-spec = tie.close (tie.spec returns returns-2 returns-3)
+function-right-spec =
+    tie.close (tie.spec cast-if2 rem-if2 cast-result div-result returns returns-2 returns-3)

@@ -1,8 +1,8 @@
-use mathlib.Core.Path.{refl}
-use native.Mathlib.Omega.{arith}
-use lib.ListN.{length-set}
-use Rattle.diagram_file.specs.Cells.{putAll}
 use Rattle.diagram_file.specs.Reading.{putRow}
+use Rattle.diagram_file.specs.Cells.{putAll}
+use lib.ListN.{length-set}
+use native.Mathlib.Omega.{arith}
+use mathlib.Core.Path.{refl}
 use borrow.Author.Needs.{needs}
 use Rattle.diagram_file.proofs.records.put_row.Statement.{statement}
 use Rattle.diagram_file.proofs.records.put_row.Tie as tie
@@ -13,6 +13,9 @@ mul-table c = search needs
 slice-write-table : tie.Need-slice-write-table
 slice-write-table c = search needs
 
+cast-table : tie.Need-cast-table
+cast-table c = search needs
+
 add-table : tie.Need-add-table
 add-table c = search needs
 
@@ -21,6 +24,9 @@ mul-table-2 c = search needs
 
 slice-write-table-2 : tie.Need-slice-write-table-2
 slice-write-table-2 c = simp length-set (omega (arith, c .pre))
+
+cast-table-2 : tie.Need-cast-table-2
+cast-table-2 c = search needs
 
 add-table-2 : tie.Need-add-table-2
 add-table-2 c = search needs
@@ -31,6 +37,9 @@ mul-table-3 c = search needs
 slice-write-table-3 : tie.Need-slice-write-table-3
 slice-write-table-3 c = simp length-set (omega (arith, c .pre))
 
+cast-table-3 : tie.Need-cast-table-3
+cast-table-3 c = search needs
+
 add-table-3 : tie.Need-add-table-3
 add-table-3 c = search needs
 
@@ -39,6 +48,9 @@ mul-table-4 c = search needs
 
 slice-write-table-4 : tie.Need-slice-write-table-4
 slice-write-table-4 c = simp length-set (omega (arith, c .pre))
+
+cast-table-4 : tie.Need-cast-table-4
+cast-table-4 c = search needs
 
 add-table-4 : tie.Need-add-table-4
 add-table-4 c = search needs
@@ -62,15 +74,19 @@ put-row-spec =
     (tie.spec
     mul-table
     slice-write-table
+    cast-table
     add-table
     mul-table-2
     slice-write-table-2
+    cast-table-2
     add-table-2
     mul-table-3
     slice-write-table-3
+    cast-table-3
     add-table-3
     mul-table-4
     slice-write-table-4
+    cast-table-4
     add-table-4
     mul-table-5
     slice-write-table-5

@@ -46,6 +46,9 @@ cast-own c = search needs
 around-of-requires-2 : tie.Need-around-of-requires-2
 around-of-requires-2 c κs = search needs
 
+cast-put : tie.Need-cast-put
+cast-put c = search needs
+
 add-put : tie.Need-add-put
 add-put c = search needs
 
@@ -101,6 +104,7 @@ follow-spec =
     enum-told-3
     cast-own
     around-of-requires-2
+    cast-put
     add-put
     put-requires
     enum-told-4

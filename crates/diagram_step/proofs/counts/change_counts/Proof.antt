@@ -1,20 +1,14 @@
-use Rattle.diagram_table.specs.Cells.{usesIn}
-use mathlib.Core.Path.{_∙_}
+use mathlib.Core.Path.{_∙_, ap}
+use mathlib.Core.List.{List}
+use Prim.Native.Nat.{ℕ}
+use Rattle.diagram_table.specs.Cells.{usesOf}
+use Rattle.diagram_moves.specs.Changes.{countsChanged}
 use borrow.Author.Needs.{needs}
 use Rattle.diagram_step.proofs.counts.change_counts.Statement.{statement}
 use Rattle.diagram_step.proofs.counts.change_counts.Tie as tie
 
-cell-requires : tie.Need-cell-requires
-cell-requires c κs = search needs
-
-cell-requires-2 : tie.Need-cell-requires-2
-cell-requires-2 c κs = search needs
-
-cast-tail : tie.Need-cast-tail
-cast-tail c = search needs
-
-tail-requires : tie.Need-tail-requires
-tail-requires c κs = search needs
+uses-requires : tie.Need-uses-requires
+uses-requires c κs = search needs
 
 change-uses-requires : tie.Need-change-uses-requires
 change-uses-requires c κs = search needs
@@ -23,17 +17,10 @@ same-length : tie.Need-same-length
 same-length c = search needs
 
 returns : tie.Need-returns
-unfolding usesIn
-returns c = c .before .before .change-uses .ensures ∙ rw (c .before .before .before .before .tail .ensures, c .before .before .before .before .before .before .cell .ensures, c .before .before .before .before .before .cell2 .ensures)
+returns c =
+    let a = c .before .before .before .before .before .before .before .before .args in
+    c .before .before .change-uses .ensures ∙ ap (λ (l : List ℕ). countsChanged (a .giving) (a .rows) (usesOf l) (a .state .now)) (c .before .before .before .before .uses .ensures)
 
 pub change-counts-spec : {M : Type 1} → statement M
 change-counts-spec =
-    tie.close
-    (tie.spec
-    cell-requires
-    cell-requires-2
-    cast-tail
-    tail-requires
-    change-uses-requires
-    same-length
-    returns)
+    tie.close (tie.spec uses-requires change-uses-requires same-length returns)

@@ -1,22 +1,21 @@
-use Rattle.diagram_step.proofs.Laws.{change-start, change-more, change-end}
-use Rattle.diagram_moves.specs.Changes.{countsChanged}
-use Rattle.effbd.specs.Diagrams.{usesAt}
-use lib.ListN.{length}
 use mathlib.Core.Path.{_≡_, refl, _∙_}
-use Prim.Native.Nat.{_≤_, _-_}
-use native.Mathlib.Omega.{arith}
+use lib.ListN.{length}
+use Rattle.diagram_moves.specs.Changes.{countsChanged}
+use Rattle.diagram_table.specs.Cells.{usesOf}
+use Rattle.diagram_table.proofs.UsesWalked.{uses-fall}
+use Rattle.diagram_step.proofs.CountsChanged.{change-more, change-end}
 use borrow.Author.Needs.{needs}
 use Rattle.diagram_step.proofs.counts.change_uses.Statement.{statement}
 use Rattle.diagram_step.proofs.counts.change_uses.Tie as tie
 
 abbrev Inv-loop : tie.InvT-loop
-Inv-loop uses number rows state₀ giving rest₀ use-number₀ state rest use-number = (use-number ≤ number) × (length state ≡ length state₀) × (countsChanged giving rows (usesAt (number - use-number) rest) state ≡ countsChanged giving rows (usesAt number uses) state₀)
+Inv-loop uses rows state₀ giving rest₀ state rest = (length state ≡ length state₀) × (countsChanged giving rows (usesOf rest) state ≡ countsChanged giving rows (usesOf uses) state₀)
 
 abbrev μ-loop : tie.MeasureT-loop
-μ-loop uses number rows state₀ giving rest₀ use-number₀ state rest use-number = number - use-number
+μ-loop uses rows state₀ giving rest₀ state rest = length rest
 
 loop-holds : tie.Need-loop-holds Inv-loop μ-loop
-loop-holds c = (search needs, refl, change-start (c .before .before .args .giving) (c .before .before .args .rows) (c .before .before .args .number) (c .before .before .args .uses .now) (c .before .before .args .state .now))
+loop-holds c = (refl, refl)
 
 word-requires : tie.Need-word-requires Inv-loop μ-loop
 word-requires c κs = search needs
@@ -48,20 +47,21 @@ put-requires c κs = search needs
 tail-requires : tie.Need-tail-requires Inv-loop μ-loop
 tail-requires c κs = search needs
 
-add-use-number : tie.Need-add-use-number Inv-loop μ-loop
-add-use-number c = search needs
-
 loop-less : tie.Need-loop-less Inv-loop μ-loop
-loop-less c = search needs
+loop-less c = uses-fall (c .before .before .before .before .before .before .before .before .before .before .before .loop .rest .now) (c .tail .result .now) (c .before .before .before .before .before .before .before .before .before .before .loop-test .taken) (c .tail .ensures)
 
 loop-again : tie.Need-loop-again Inv-loop μ-loop
-loop-again c = (omega arith, c .before .before .before .put .kept .0 ∙ c .before .before .before .before .before .before .before .before .before .before .before .loop .inv .1, change-more (c .before .before .before .before .before .before .before .before .before .before .before .before .before .before .args .giving) (c .before .before .before .before .before .before .before .before .before .before .before .before .before .before .args .rows) (c .before .before .before .before .before .before .before .before .before .before .before .before .before .before .args .number) (c .before .before .before .before .before .before .before .before .before .before .before .loop .use-number) (c .before .before .before .before .before .before .before .before .before .before .before .loop .rest .now) (c .before .before .before .before .before .before .before .before .before .before .before .loop .state) (omega arith) _ _ _ _ _ _ (c .before .before .before .before .before .before .before .before .before .word .ensures) (c .before .before .before .before .before .before .count .ensures) (c .before .before .before .before .before .before .before .before .amount .ensures) (c .before .before .before .before .changed .ensures) (c .before .before .before .put .ensures) (c .tail .ensures) ∙ c .before .before .before .before .before .before .before .before .before .before .before .loop .inv .2)
+loop-again c =
+    let a = c .before .before .before .before .before .before .before .before .before .before .before .before .before .before .args in let l = c .before .before .before .before .before .before .before .before .before .before .before .loop in (
+      c .before .before .before .put .kept .0 ∙ l .inv .0,
+      change-more (a .giving) (a .rows) (l .rest .now) (l .state) (c .before .before .before .before .before .before .before .before .before .before .loop-test .taken) _ _ _ _ _ _ (c .before .before .before .before .before .before .before .before .before .word .ensures) (c .before .before .before .before .before .before .count .ensures) (c .before .before .before .before .before .before .before .before .amount .ensures) (c .before .before .before .before .changed .ensures) (c .before .before .before .put .ensures) (c .tail .ensures) ∙ l .inv .1,
+    )
 
 same-length : tie.Need-same-length Inv-loop μ-loop
 same-length c = search needs
 
 returns : tie.Need-returns Inv-loop μ-loop
-returns c = change-end (c .before .before .before .before .args .giving) (c .before .before .before .before .args .rows) (c .before .before .before .before .args .number) (c .before .loop .use-number) (c .before .loop .rest .now) (c .before .loop .state) (omega arith) ∙ c .before .loop .inv .2
+returns c = let a = c .before .before .before .before .args in let l = c .before .loop in change-end (a .giving) (a .rows) (l .rest .now) (l .state) (c .loop-test .left) ∙ l .inv .1
 
 pub change-uses-spec : {M : Type 1} → statement M
 change-uses-spec =
@@ -80,7 +80,6 @@ change-uses-spec =
     changed-requires
     put-requires
     tail-requires
-    add-use-number
     loop-less
     loop-again
     same-length

@@ -1,5 +1,5 @@
 use Rattle.diagram_moves.specs.Changes.{tickTurn, fold}
-use Rattle.diagram_moves.specs.Loops.{fold-more, fold-end}
+use Rattle.diagram_moves.specs.RowStores.{fold-more, fold-end}
 use lib.ListN.{length}
 use mathlib.Core.Path.{_≡_, refl, _∙_}
 use Prim.Native.Nat.{_≤_, _-_}

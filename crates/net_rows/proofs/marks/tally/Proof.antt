@@ -2,7 +2,7 @@ use Prim.Native.Nat.{_-_, _*_, _≤_}
 use mathlib.Core.Path.{_≡_, refl, ap, _∙_}
 use native.Mathlib.Omega.{arith}
 use Rattle.net_rows.specs.Marks.{tally}
-use Rattle.net_rows.proofs.Steps.{tally-turn}
+use Rattle.net_rows.proofs.ComputedRecords.{tally-turn}
 use borrow.Author.Needs.{needs}
 use Rattle.net_rows.proofs.marks.tally.Statement.{statement}
 use Rattle.net_rows.proofs.marks.tally.Tie as tie

@@ -1,3 +1,4 @@
+use Rattle.effbd.specs.Nets.{takeArc, giveArc}
 use Prim.Native.Nat.{ℕ}
 use mathlib.Core.Path.{ap}
 use Rattle.net_records.specs.Records.{arc}
@@ -31,7 +32,7 @@ same-length c = search needs
 returns : tie.Need-returns
 unfolding andClose
 returns c = let a = c .before .before .before .before .before .before .before .before .before .before .before .before .before .before .before .before .args in
-    and-then (and-then (c .before .before .before .before .before .before .before .before .before .before .transition .ensures) (same (ap (λ (o : ℕ). branchArcs (a .table .now) o 35) (c .before .before .before .before .before .before .before .before .before .before .before .before .before .cell .ensures)) (c .before .before .before .before .before .before .branch-arcs .ensures))) (same (ap (λ (p : ℕ). arc 37 p 1) (c .before .before .before .before .before .before .before .before .before .before .before .before .entry .ensures)) (c .before .before .arc .ensures))
+    and-then (and-then (c .before .before .before .before .before .before .before .before .before .before .transition .ensures) (same (ap (λ (o : ℕ). branchArcs (a .table .now) o takeArc) (c .before .before .before .before .before .before .before .before .before .before .before .before .before .cell .ensures)) (c .before .before .before .before .before .before .branch-arcs .ensures))) (same (ap (λ (p : ℕ). arc giveArc p 1) (c .before .before .before .before .before .before .before .before .before .before .before .before .entry .ensures)) (c .before .before .arc .ensures))
 
 pub and-close-spec : {M : Type 1} → statement M
 and-close-spec =

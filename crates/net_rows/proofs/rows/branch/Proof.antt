@@ -1,5 +1,10 @@
-use Rattle.net_records.proofs.Writing.{still, same}
-use Rattle.net_rows.proofs.Steps.{branch-token, branch-none}
+use Prim.Native.Nat.{_+_}
+use mathlib.Core.Path.{refl}
+use borrow.Author.Tests.{eq-eqb, ne-eqb}
+use Rattle.net_loops.specs.LoopTransitions.{entry}
+use Rattle.net_rows.specs.Rows.{orToken}
+use Rattle.net_records.proofs.Writing.{still, same, yes, no}
+use Rattle.net_rows.proofs.ComputedRecords.{branch-token}
 use borrow.Author.Needs.{needs}
 use Rattle.net_rows.proofs.rows.branch.Statement.{statement}
 use Rattle.net_rows.proofs.rows.branch.Tie as tie
@@ -32,12 +37,14 @@ same-length : tie.Need-same-length
 same-length c = search needs
 
 returns : tie.Need-returns
+unfolding orToken
 returns c = let a = c .before .before .before .before .before .before .before .before .before .before .args in
-    same (branch-token (a .table .now) (a .row) (c .before .before .before .before .before .before .before .cell .result) (c .before .before .before .before .before .before .kind .result) (c .before .before .before .before .entry .result) (c .before .before .before .before .before .before .before .cell .ensures) (c .before .before .before .before .before .before .kind .ensures) (c .before .before .before .before .before .if1 .taken) (c .before .before .before .before .entry .ensures)) (c .before .before .token .ensures)
+    same (branch-token (a .table .now) (a .row) (c .before .before .before .before .before .before .before .cell .result) (c .before .before .before .before .before .before .kind .result) (c .before .before .before .before .entry .result) (c .before .before .before .before .before .before .before .cell .ensures) (c .before .before .before .before .before .before .kind .ensures) (c .before .before .before .before .entry .ensures)) (yes _ (eq-eqb _ _ (c .before .before .before .before .before .if1 .taken)) (c .before .before .token .ensures))
 
 returns-2 : tie.Need-returns-2
+unfolding orToken
 returns-2 c = let a = c .before .before .before .before .before .args in
-    same (branch-none (a .table .now) (a .row) (c .before .before .cell .result) (c .before .kind .result) (c .before .before .cell .ensures) (c .before .kind .ensures) (c .if1 .left)) (still (a .area .now) (a .at))
+    same (branch-token (a .table .now) (a .row) (c .before .before .cell .result) (c .before .kind .result) (entry (a .table .now) (a .row + 1)) (c .before .before .cell .ensures) (c .before .kind .ensures) refl) (no _ (ne-eqb _ _ (c .if1 .left)) (still (a .area .now) (a .at)))
 
 pub branch-spec : {M : Type 1} → statement M
 branch-spec =

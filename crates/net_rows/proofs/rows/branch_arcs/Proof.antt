@@ -3,7 +3,7 @@ use mathlib.Core.Path.{ap}
 use native.Mathlib.Omega.{arith}
 use Rattle.net_rows.specs.Rows.{branchArc, walk, branchArcs}
 use Rattle.net_records.proofs.Writing.{same, wrote-length}
-use Rattle.net_rows.proofs.Walks.{behind, Walking, walk-start, walk-again, walk-done}
+use Rattle.net_rows.proofs.ConstructWalks.{behind, Walking, walk-start, walk-again, walk-done}
 use borrow.Author.Needs.{needs}
 use Rattle.net_rows.proofs.rows.branch_arcs.Statement.{statement}
 use Rattle.net_rows.proofs.rows.branch_arcs.Tie as tie
@@ -41,7 +41,7 @@ loop-again c = let a = c .before .before .before .before .before .before .before
     rw (c .behind .ensures) (walk-again (a .table .now) closed f (l .row) (c .before .before .before .before .before .loop-test .taken) (l .inv) (c .before .before .before .branch-arc .ensures))
 
 same-length : tie.Need-same-length Inv-loop μ-loop
-same-length c = wrote-length (c .before .loop .inv .wrote)
+same-length c = wrote-length (c .before .loop .inv .underway .wrote)
 
 returns : tie.Need-returns Inv-loop μ-loop
 unfolding branchArcs

@@ -1,8 +1,9 @@
-use Prim.Native.Nat.{ℕ}
-use mathlib.Core.Path.{ap, ap₂}
-use Rattle.net_records.specs.Records.{transition, arc}
-use Rattle.net_rows.specs.Rows.{functionEnd}
 use Rattle.net_records.proofs.Writing.{and-then, same}
+use Rattle.net_rows.specs.Rows.{functionEnd}
+use Rattle.net_records.specs.Records.{transition, arc}
+use Rattle.effbd.specs.Nets.{giveArc}
+use mathlib.Core.Path.{ap, ap₂}
+use Prim.Native.Nat.{ℕ}
 use borrow.Author.Needs.{needs}
 use Rattle.net_rows.proofs.rows.function_end.Statement.{statement}
 use Rattle.net_rows.proofs.rows.function_end.Tie as tie
@@ -42,8 +43,7 @@ same-length c = search needs
 
 returns : tie.Need-returns
 unfolding functionEnd
-returns c = let a = c .before .before .before .before .before .before .before .before .before .before .before .before .before .before .before .before .before .before .before .before .before .before .args in
-    and-then (and-then (and-then (same (ap₂ (transition (a .row)) (c .before .before .before .before .before .before .before .before .before .before .before .before .before .before .before .before .before .before .cell .ensures) (c .before .before .before .before .before .before .before .before .before .before .before .before .before .before .before .before .before .cell2 .ensures)) (c .before .before .before .before .before .before .before .before .before .before .before .before .before .before .transition .ensures)) (c .before .before .before .before .before .before .before .before .before .before .arc .ensures)) (same (ap (λ (p : ℕ). arc 37 p 1) (c .before .before .before .before .before .before .before .before .before .before .before .before .before .before .before .before .entry .ensures)) (c .before .before .before .before .before .before .arc2 .ensures))) (c .before .before .use-arcs .ensures)
+returns c = and-then (and-then (and-then (same (ap₂ (transition (c .before .before .before .before .before .before .before .before .before .before .before .before .before .before .before .before .before .before .before .before .before .before .args .row)) (c .before .before .before .before .before .before .before .before .before .before .before .before .before .before .before .before .before .before .cell .ensures) (c .before .before .before .before .before .before .before .before .before .before .before .before .before .before .before .before .before .cell2 .ensures)) (c .before .before .before .before .before .before .before .before .before .before .before .before .before .before .transition .ensures)) (c .before .before .before .before .before .before .before .before .before .before .arc .ensures)) (same (ap (λ (p : ℕ). arc giveArc p 1) (c .before .before .before .before .before .before .before .before .before .before .before .before .before .before .before .before .entry .ensures)) (c .before .before .before .before .before .before .arc2 .ensures))) (c .before .before .use-arcs .ensures)
 
 pub function-end-spec : {M : Type 1} → statement M
 function-end-spec =

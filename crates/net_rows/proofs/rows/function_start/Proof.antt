@@ -1,5 +1,5 @@
-use Rattle.net_rows.specs.Rows.{functionStart}
 use Rattle.net_records.proofs.Writing.{and-then}
+use Rattle.net_rows.specs.Rows.{functionStart}
 use borrow.Author.Needs.{needs}
 use Rattle.net_rows.proofs.rows.function_start.Statement.{statement}
 use Rattle.net_rows.proofs.rows.function_start.Tie as tie

@@ -1,7 +1,7 @@
 use mathlib.Core.Path.{ap, sym, _∙_}
 use Rattle.net_rows.specs.Rows.{rowAs, rowRecords}
 use Rattle.net_records.proofs.Writing.{still, same}
-use Rattle.net_rows.proofs.Steps.{no-row}
+use Rattle.net_rows.proofs.ComputedRecords.{no-row}
 use borrow.Author.Needs.{needs}
 use Rattle.net_rows.proofs.rows.row_transitions.Statement.{statement}
 use Rattle.net_rows.proofs.rows.row_transitions.Tie as tie

@@ -1,63 +1,34 @@
-use Prim.Native.Nat.{_-_, _≤_}
-use mathlib.Core.Path.{_≡_, ap}
-use native.Mathlib.Omega.{arith}
-use Rattle.net_records.specs.Writing.{Wrote, runs}
-use Rattle.diagram_table.specs.Cells.{usesNumberIn}
-use Rattle.net_rows.specs.Rows.{useArc, useArcs}
-use Rattle.net_records.proofs.Writing.{still, again, same, wrote-length}
-use Rattle.net_rows.proofs.Steps.{use-turn}
+use Rattle.net_rows.proofs.UseArcs.{use-turn, uses-ended}
+use Rattle.net_rows.proofs.Underway.{Underway, begun, further, finished}
+use Rattle.net_records.proofs.Writing.{wrote-length}
+use Rattle.net_rows.specs.Rows.{useArcs}
+use Rattle.diagram_table.specs.Cells.{usesOf}
+use lib.ListN.{length}
+use Rattle.diagram_table.proofs.UsesWalked.{uses-fall}
 use borrow.Author.Needs.{needs}
 use Rattle.net_rows.proofs.rows.use_arcs.Statement.{statement}
 use Rattle.net_rows.proofs.rows.use_arcs.Tie as tie
 
 abbrev Inv-loop : tie.InvT-loop
-Inv-loop table file rows row kind field area₀ at from number counts next₀ k₀ area next k = (k ≤ number) × Wrote area₀ next₀ area next (runs (useArc table file rows row kind field) k)
+Inv-loop uses rows kind area₀ at counts field next₀ rest₀ area next rest = Underway (useArcs rows kind (usesOf uses)) (useArcs rows kind (usesOf rest)) area₀ next₀ area next
 
 abbrev μ-loop : tie.MeasureT-loop
-μ-loop table file rows row kind field area₀ at from number counts next₀ k₀ area next k = number - k
-
-cell-requires : tie.Need-cell-requires Inv-loop μ-loop
-cell-requires c κs = search needs
-
-cast-from : tie.Need-cast-from Inv-loop μ-loop
-cast-from c = search needs
-
-cell-requires-2 : tie.Need-cell-requires-2 Inv-loop μ-loop
-cell-requires-2 c κs = search needs
+μ-loop uses rows kind area₀ at counts field next₀ rest₀ area next rest = length rest
 
 mul-counts : tie.Need-mul-counts Inv-loop μ-loop
 mul-counts c = search needs
 
+weight-at-requires : tie.Need-weight-at-requires Inv-loop μ-loop
+weight-at-requires c κs = search needs
+
 loop-holds : tie.Need-loop-holds Inv-loop μ-loop
-unfolding runs
-loop-holds c = (search needs, still (c .before .before .before .before .before .args .area .now) (c .before .before .before .before .before .args .at))
-
-cast-word : tie.Need-cast-word Inv-loop μ-loop
-cast-word c = search needs
-
-mul-word : tie.Need-mul-word Inv-loop μ-loop
-mul-word c = search needs
-
-add-word : tie.Need-add-word Inv-loop μ-loop
-add-word c = search needs
+loop-holds c = begun _ (c .before .before .before .args .area .now) (c .before .before .before .args .at)
 
 word-requires : tie.Need-word-requires Inv-loop μ-loop
 word-requires c κs = search needs
 
 cast-item : tie.Need-cast-item Inv-loop μ-loop
 cast-item c = search needs
-
-cast-word-2 : tie.Need-cast-word-2 Inv-loop μ-loop
-cast-word-2 c = search needs
-
-mul-word-2 : tie.Need-mul-word-2 Inv-loop μ-loop
-mul-word-2 c = search needs
-
-add-word-2 : tie.Need-add-word-2 Inv-loop μ-loop
-add-word-2 c = search needs
-
-add-word-3 : tie.Need-add-word-3 Inv-loop μ-loop
-add-word-3 c = search needs
 
 word-requires-2 : tie.Need-word-requires-2 Inv-loop μ-loop
 word-requires-2 c κs = search needs
@@ -68,26 +39,22 @@ add-arc c = search needs
 arc-requires : tie.Need-arc-requires Inv-loop μ-loop
 arc-requires c κs = search needs
 
-add-k : tie.Need-add-k Inv-loop μ-loop
-add-k c = search needs
+tail-requires : tie.Need-tail-requires Inv-loop μ-loop
+tail-requires c κs = search needs
 
 loop-less : tie.Need-loop-less Inv-loop μ-loop
-loop-less c = search needs
+loop-less c = uses-fall (c .before .before .before .before .before .before .before .before .loop .rest .now) (c .tail .result .now) (c .before .before .before .before .before .before .before .loop-test .taken) (c .tail .ensures)
 
 loop-again : tie.Need-loop-again Inv-loop μ-loop
-loop-again c = let a = c .before .before .before .before .before .before .before .before .before .before .before .before .before .args in
-    let l = c .before .before .before .before .before .before .before .loop in
-    (omega arith, again (useArc (a .table .now) (a .file .now) (a .rows) (a .row) (a .kind) (a .field)) (l .k) (l .inv .1) (same (use-turn (a .table .now) (a .file .now) (a .rows) (a .row) (a .kind) (a .field) (l .k) (c .before .before .before .before .before .before .before .before .before .cell .result) (c .before .before .before .before .before .word .result) (c .before .before .before .before .word2 .result) (c .before .before .before .before .before .before .before .before .before .cell .ensures) (c .before .before .before .before .before .word .ensures) (c .before .before .before .before .word2 .ensures)) (c .before .before .arc .ensures)))
+loop-again c =
+    let a = c .before .before .before .before .before .before .before .before .before .before .before .before .args in
+    further (use-turn (a .rows) (a .kind) (c .before .before .before .before .before .before .before .before .loop .rest .now) (c .tail .result .now) (c .before .before .before .before .before .before .word .result) (c .before .before .before .before .before .before .before .before .before .weight-at .result) (c .before .before .before .before .before .word2 .result) (c .before .before .before .before .before .before .before .loop-test .taken) (c .before .before .before .before .before .before .word .ensures) (c .before .before .before .before .before .before .before .before .before .weight-at .ensures) (c .before .before .before .before .before .word2 .ensures) (c .tail .ensures)) (c .before .before .before .before .before .before .before .before .loop .inv) (c .before .before .before .arc .ensures)
 
 same-length : tie.Need-same-length Inv-loop μ-loop
-same-length c = wrote-length (c .before .loop .inv .1)
+same-length c = wrote-length (c .before .loop .inv .wrote)
 
 returns : tie.Need-returns Inv-loop μ-loop
-unfolding useArcs
-returns c = let a = c .before .before .before .before .before .before .before .args in
-    let l = c .before .loop in
-    let e : l .k ≡ usesNumberIn (a .table .now) (a .row) = omega (arith, c .before .before .cell2 .ensures) in
-    same (ap (runs (useArc (a .table .now) (a .file .now) (a .rows) (a .row) (a .kind) (a .field))) e) (l .inv .1)
+returns c = let a = c .before .before .before .before .before .args in finished (uses-ended (a .rows) (a .kind) (c .before .loop .rest .now) (c .loop-test .left)) (c .before .loop .inv)
 
 pub use-arcs-spec : {M : Type 1} → statement M
 use-arcs-spec =
@@ -95,24 +62,15 @@ use-arcs-spec =
     (tie.spec
     Inv-loop
     μ-loop
-    cell-requires
-    cast-from
-    cell-requires-2
     mul-counts
+    weight-at-requires
     loop-holds
-    cast-word
-    mul-word
-    add-word
     word-requires
     cast-item
-    cast-word-2
-    mul-word-2
-    add-word-2
-    add-word-3
     word-requires-2
     add-arc
     arc-requires
-    add-k
+    tail-requires
     loop-less
     loop-again
     same-length

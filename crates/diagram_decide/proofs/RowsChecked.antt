@@ -1,0 +1,36 @@
+-- Rows of a state: one at rest passes the check, the BRANCH rows of an AND are done one after another.
+use Prim.Native.Nat.{ℕ, _-_, _≤_}
+use mathlib.Core.Path.{_≡_, refl, sym}
+use mathlib.Core.Bool.{Bool, true, false, cond, _&&_}
+use mathlib.Core.List.{List}
+use native.Mathlib.Omega.{arith}
+use lib.Dec.{eqb}
+use borrow.Author.Tests.{lt-ltb, le-ltb, le-leb, eqb-true}
+use Rattle.effbd.specs.Ranges.{allBelow}
+use Rattle.ranges.specs.Tests.{and-left, and-right, and-intro}
+use Rattle.ranges.specs.RangeLaws.{all-intro}
+use Rattle.diagram_table.specs.Cells.{kindIn, firstIn}
+use Rattle.diagram_moves.specs.Decisions.{activityAllowed, turnsAllowed, clockAllowed, doneAt, doneFrom}
+
+-- a row at rest passes, whatever its kind
+always : (b : Bool) {x y : Bool} → x ≡ true → y ≡ true → cond b x y ≡ true
+always true p q = p
+always false p q = q
+
+pub rest-allowed : (table : List ℕ) (r a n c : ℕ) → (eqb a 0 && (eqb n 0 && eqb c 0)) ≡ true → (activityAllowed table r a && (turnsAllowed table r n && clockAllowed table r a c)) ≡ true
+unfolding activityAllowed turnsAllowed clockAllowed
+rest-allowed table r a n c h =
+    rw (eqb-true a 0 (and-left (eqb a 0) _ h), eqb-true n 0 (and-left (eqb n 0) _ (and-right (eqb a 0) _ h)), eqb-true c 0 (and-right (eqb n 0) _ (and-right (eqb a 0) _ h)))
+    (and-intro (always (k 16) refl (always (k 18) refl (always (k 19) refl refl))) (and-intro (always (k 22) (le-leb 0 (firstIn table r) (omega arith)) refl) refl))
+  where
+    k : ℕ → Bool
+    k n = eqb (kindIn table r) n
+
+-- before row o nothing is asked
+pub done-start : (table l : List ℕ) (o : ℕ) → allBelow o (doneFrom table l o) ≡ true
+unfolding doneFrom
+done-start table l o = all-intro o (doneFrom table l o) (λ i b. rw (lt-ltb i o b))
+
+pub done-from : (table l : List ℕ) (o b : ℕ) (t : Bool) → o ≤ b → t ≡ doneAt table l o b → doneFrom table l o b ≡ t
+unfolding doneFrom
+done-from table l o b t h e = rw (le-ltb b o h) (sym e)

@@ -1,0 +1,278 @@
+-- The check of a state, waits, and a whole move over the table and the state's words are the diagram's.
+use Prim.Native.Nat.{ℕ, suc, _+_, _≤_, _<_}
+use mathlib.Core.Path.{_≡_, refl, sym, _∙_, ap}
+use mathlib.Core.Bool.{Bool, true, false, not, cond, _&&_, _||_}
+use mathlib.Core.List.{List}
+use native.Mathlib.Numerals.{add-one}
+use native.Mathlib.Omega.{arith}
+use lib.ListN.{length, set, List·getD-eq-default}
+use lib.Dec.{leb, ltb, eqb}
+use borrow.Author.Tests.{ltb-true, ltb-false, eqb-true, eq-eqb, not-true}
+use Rattle.effbd.specs.Ranges.{allBelow, only, within}
+use Rattle.effbd.specs.Answers.{accepted, refused}
+use Rattle.effbd.specs.Diagrams.{Diagram, Kind, Row, function, and-open, branch, and-close, or-open, or-close, it-open, it-close, lp-open, lp-close, loop-exit, end, plain, numberOf, sameKind, row, rowCount, countTotal, kind, isKind}
+use Rattle.effbd.specs.Nesting.{owner, close, branchOf, loop, isClose}
+use Rattle.effbd.specs.Layout.{places}
+use Rattle.effbd.specs.States.{State, turnsAt, stateOf, enteredAs, enteredRow, activate, enter, branchEntries, makeIdle, clearRows, setTurns, activityFine, rowPasses, statePasses}
+use Rattle.effbd.specs.Moves.{mostWord, moveOf, passTicks, enough, allDone, ifReady, stepAs, step, holdsAs, wait, move, wordsOutcome, moveWords, checkedMove}
+use Rattle.diagram_table.specs.Held.{Holds, HoldsUses}
+use Rattle.diagram_file.proofs.HeldCells.{owner-in}
+use Rattle.ranges.specs.Tests.{decide, clash, and-left, or-false-right}
+use Rattle.ranges.specs.RangeLaws.{all-elim, all-ext}
+use Rattle.agreement.specs.Basics.{kind-in, not-kind}
+use Rattle.agreement.specs.Structure.{opens, Laws}
+use Rattle.agreement.specs.NestingLaws.{laws}
+use Rattle.agreement.specs.AcceptedFiles.{Held}
+use Rattle.diagram_table.specs.Cells.{kindIn, ownerIn, closeIn}
+use Rattle.diagram_moves.specs.Decisions.{added, activityAllowed, turnsAllowed, clockAllowed, rowAllowed, stateAllowed, readyVerdict, branchVerdict, closeVerdict, rowVerdict, functionHolds, rowHolds, rowFree, waitVerdict, codeVerdict, moveVerdict}
+use Rattle.diagram_moves.specs.Changes.{fold, rowSet, tickTurn, tokenPassed, branchesTurned, itOpenChange, exitChange, entered, rowChange, moveChange, outcomeOf}
+use Rattle.diagram_moves.specs.Stores.{Reads, like, reads-words, words-read, set-turns}
+use Rattle.diagram_moves.specs.RowStores.{tick-fold}
+use Rattle.agreement.specs.Reach.{next-in, close-in, opened-by}
+use Rattle.diagram_moves.specs.TokenMoves.{number-is, idle-reads, enter-reads, pass-reads, ready-is, all-done-is, idle-branches, open-branches, clear-reads}
+use Rattle.diagram_moves.specs.FunctionMoves.{Small, whole-sum, enough-is, function-is}
+
+or-nil : (e : Bool) → e ≡ e || false
+or-nil true = refl
+or-nil false = refl
+
+cond-and : (b h : Bool) → cond b h false ≡ b && h
+cond-and true h = refl
+cond-and false h = refl
+
+yes-no : (b : Bool) → cond b true false ≡ b
+yes-no true = refl
+yes-no false = refl
+
+cond-or : (b h : Bool) → cond b true h ≡ b || h
+cond-or true h = refl
+cond-or false h = refl
+
+holds-shape : (a : ℕ) (e h : Bool) → cond (eqb a 1) e (cond (eqb a 2) h false) ≡ (eqb a 1 && e) || (eqb a 2 && h)
+holds-shape a e h = decide (eqb a 1) (λ y. let z : a ≡ 1 = eqb-true a 1 y in rw z (or-nil e)) (λ y. rw y (cond-and (eqb a 2) h))
+
+-- only a FUNCTION runs
+runs-only : (d : Diagram) (k : Kind) (ofAnd : Bool) → activityFine d k ofAnd 2 ≡ true → k ≡ function
+runs-only d function ofAnd h = refl
+runs-only d and-open ofAnd h = clash h refl
+runs-only d branch true h = clash h refl
+runs-only d branch false h = clash h refl
+runs-only d and-close ofAnd h = clash h refl
+runs-only d or-open ofAnd h = clash h refl
+runs-only d or-close ofAnd h = clash h refl
+runs-only d it-open ofAnd h = clash h refl
+runs-only d it-close ofAnd h = clash h refl
+runs-only d lp-open ofAnd h = clash h refl
+runs-only d lp-close ofAnd h = clash h refl
+runs-only d loop-exit ofAnd h = clash h refl
+runs-only d end ofAnd h = clash h refl
+
+activity-shape : (d : Diagram) (k : Kind) (ofAnd : Bool) (a : ℕ)
+    → cond (eqb (numberOf k) 16) (leb a 2) (cond (eqb (numberOf k) 18) (cond (eqb a 0) true (cond ofAnd (eqb a 3) false)) (cond (eqb (numberOf k) 19) (eqb a 0) (leb a 1))) ≡ activityFine d k ofAnd a
+activity-shape d function ofAnd a = refl
+activity-shape d and-open ofAnd a = refl
+activity-shape d branch true a = cond-or (eqb a 0) (eqb a 3)
+activity-shape d branch false a = yes-no (eqb a 0)
+activity-shape d and-close ofAnd a = refl
+activity-shape d or-open ofAnd a = refl
+activity-shape d or-close ofAnd a = refl
+activity-shape d it-open ofAnd a = refl
+activity-shape d it-close ofAnd a = refl
+activity-shape d lp-open ofAnd a = refl
+activity-shape d lp-close ofAnd a = refl
+activity-shape d loop-exit ofAnd a = refl
+activity-shape d end ofAnd a = refl
+
+module _ (d : Diagram) (H : Held d) (table : List ℕ) (h : Holds d (rowCount d) (countTotal d) table) (file : List ℕ) (u : HoldsUses file d table)
+    (l : List ℕ) (s : State) (e : Reads d l s) where
+  row-allowed : (q : ℕ) → q < rowCount d → rowAllowed table l q ≡ rowPasses d s q
+  unfolding rowAllowed activityAllowed turnsAllowed clockAllowed
+  row-allowed q b = rw (
+    e .activity q b,
+    e .turns q b,
+    e .clock q b,
+    h .owners q b,
+    h .records .kinds q b,
+    h .records .kinds (owner d q) (owner-in d (rowCount d) (countTotal d) table h q b),
+    h .records .firsts q b,
+    h .records .seconds q b,
+    activity-shape d (kind d q) (isKind d and-open (owner d q)) (s .activity q),
+  )
+
+  pub passes-is : allBelow (rowCount d) (rowAllowed table l) ≡ statePasses d s
+  passes-is = all-ext (rowCount d) (rowAllowed table l) (rowPasses d s) row-allowed
+
+  -- an AND close is the close of its owner
+  closing : (r : ℕ) → kind d r ≡ and-close → isClose d r ≡ true
+  closing r k = rw k
+
+  module _ (n : ℕ) where
+    row-holds-as : (k : Kind) (q : ℕ) → q < rowCount d → kind d q ≡ k → rowHolds table (rowCount d) (countTotal d) file l n q ≡ holdsAs d k q n s
+    unfolding rowHolds functionHolds
+    row-holds-as function q b k = rw (number-is d (H .acc) table h q function b k, e .activity q b, e .clock q b, h .records .seconds q b, enough-is d H table h file u l s e q b k)
+        (holds-shape (s .activity q) (enough d q s) (ltb (row d q .second) (s .clock q + n)))
+    row-holds-as and-open q b k = rw (number-is d (H .acc) table h q and-open b k, e .activity q b) (yes-no (eqb (s .activity q) 1))
+    row-holds-as branch q b k = rw (number-is d (H .acc) table h q branch b k, e .activity q b) (yes-no (eqb (s .activity q) 1))
+    row-holds-as and-close q b k = rw (number-is d (H .acc) table h q and-close b k, e .activity q b, h .owners q b, all-done-is d (H .acc) table h (owner d q) q (closing q k) refl b l s e)
+        (cond-or (eqb (s .activity q) 1) (allDone d (owner d q) s))
+    row-holds-as or-open q b k = rw (number-is d (H .acc) table h q or-open b k, e .activity q b) (yes-no (eqb (s .activity q) 1))
+    row-holds-as or-close q b k = rw (number-is d (H .acc) table h q or-close b k, e .activity q b) (yes-no (eqb (s .activity q) 1))
+    row-holds-as it-open q b k = rw (number-is d (H .acc) table h q it-open b k, e .activity q b) (yes-no (eqb (s .activity q) 1))
+    row-holds-as it-close q b k = rw (number-is d (H .acc) table h q it-close b k, e .activity q b) (yes-no (eqb (s .activity q) 1))
+    row-holds-as lp-open q b k = rw (number-is d (H .acc) table h q lp-open b k, e .activity q b) (yes-no (eqb (s .activity q) 1))
+    row-holds-as lp-close q b k = rw (number-is d (H .acc) table h q lp-close b k, e .activity q b) (yes-no (eqb (s .activity q) 1))
+    row-holds-as loop-exit q b k = rw (number-is d (H .acc) table h q loop-exit b k, e .activity q b) (yes-no (eqb (s .activity q) 1))
+    row-holds-as end q b k = rw (number-is d (H .acc) table h q end b k)
+
+    unheld : Bool
+    unheld = allBelow (rowCount d) (λ q. not (holdsAs d (kind d q) q n s))
+
+    free-is : allBelow (rowCount d) (rowFree table (rowCount d) (countTotal d) file l n) ≡ unheld
+    unfolding unheld rowFree
+    free-is = all-ext (rowCount d) _ _ (λ q b. ap not (row-holds-as (kind d q) q b refl))
+
+    module _ (passes : statePasses d s ≡ true) where
+      -- no clock of a wait that is not held passes 16 bits
+      in-time : unheld ≡ true → (q : ℕ) → q < rowCount d → s .activity q ≡ 2 → s .clock q + n ≤ mostWord
+      unfolding unheld
+      in-time f q b a =
+          let p : activityFine d (kind d q) (isKind d and-open (owner d q)) (s .activity q) ≡ true = and-left _ _ (all-elim (rowCount d) (rowPasses d s) passes q b) in
+          let k : kind d q ≡ function = runs-only d (kind d q) (isKind d and-open (owner d q)) (rw (← a) p) in
+          let g : holdsAs d function q n s ≡ false = ap (λ (j : Kind). holdsAs d j q n s) (sym k) ∙ not-true (holdsAs d (kind d q) q n s) (all-elim (rowCount d) (λ q. not (holdsAs d (kind d q) q n s)) f q b) in
+          let i : (eqb (s .activity q) 2 && ltb (row d q .second) (s .clock q + n)) ≡ false = or-false-right (eqb (s .activity q) 1 && enough d q s) _ g in
+          let j : ltb (row d q .second) (s .clock q + n) ≡ false = ap (λ (x : Bool). x && ltb (row d q .second) (s .clock q + n)) (sym (eq-eqb (s .activity q) 2 a)) ∙ i in
+          let z = ltb-false (row d q .second) (s .clock q + n) j in omega (arith, H .each q .second)
+
+      ticked : unheld ≡ true → Reads d (fold (rowCount d) (tickTurn n) l) (passTicks n s)
+      unfolding tickTurn
+      ticked f = like d (tick-fold d (λ x. added x n) l s e (tickTurn n) (λ b m c. refl))
+          (record {
+            activity = λ q c. refl;
+            turns = λ q c. refl;
+            count = λ k c. refl;
+            clock = λ q c. decide (eqb (s .activity q) 2) (λ y. rw y (whole-sum (s .clock q) n (in-time f q c (eqb-true (s .activity q) 2 y)))) (λ y. rw y);
+          })
+
+      pub wait-is : outcomeOf (waitVerdict table (rowCount d) (countTotal d) file l n) (fold (rowCount d) (tickTurn n) l) ≡ wordsOutcome d (wait d n s)
+      unfolding waitVerdict wordsOutcome unheld
+      wait-is = rw free-is (decide (eqb n 0) (λ y. rw y) (λ y. rw y (decide unheld
+          (λ z. rw z (ap accepted (reads-words d (fold (rowCount d) (tickTurn n) l) (passTicks n s) (ticked z)))) (λ z. rw z))))
+
+  -- a step of row r, by its kind
+  module _ (small : Small l) (r : ℕ) (b : r < rowCount d) where
+    law : Laws d
+    law = laws d (H .acc)
+
+    number : (k : Kind) → kind d r ≡ k → kindIn table r ≡ numberOf k
+    number k f = number-is d (H .acc) table h r k b f
+
+    next : (k : Kind) → kind d r ≡ k → sameKind k end ≡ false → suc r < rowCount d
+    next k f n = next-in d (H .acc) r (not-kind d r f end n)
+
+    -- its open opens a construct, whose close is not the last row
+    opening : (q : ℕ) (k : Kind) → kind d q ≡ k → (sameKind k and-open || (sameKind k or-open || (sameKind k it-open || sameKind k lp-open))) ≡ true → opens d q ≡ true
+    opening q k f o = ap (λ (j : Kind). sameKind j and-open || (sameKind j or-open || (sameKind j it-open || sameKind j lp-open))) f ∙ o
+
+    past : (q : ℕ) → opens d q ≡ true → suc (close d q) < rowCount d
+    past q o = close-in d (H .acc) q o
+
+    -- LP open, OR close: the token goes on to the next row
+    on : (k : Kind) → kind d r ≡ k → sameKind k end ≡ false → outcomeOf (readyVerdict l r r) (tokenPassed table r (r + 1) l) ≡ wordsOutcome d (ifReady d r r s (enter d (suc r) (makeIdle (only r) s)))
+    on k f n = rw (add-one r) (ready-is d (H .acc) table h l _ s (enter d (suc r) (makeIdle (only r) s)) r r b e
+        (pass-reads d (H .acc) table h l s r (suc r) b (next k f n) e))
+
+    -- IT close, LP close: "their open becomes ready", which is entering it
+    back : (k : Kind) → kind d (owner d r) ≡ k → enteredAs d k (isKind d and-open (owner d (owner d r))) (owner d r) ≡ owner d r
+        → outcomeOf (readyVerdict l r r) (tokenPassed table r (ownerIn table r) l) ≡ wordsOutcome d (ifReady d r r s (activate d (only (owner d r)) (makeIdle (only r) s)))
+    back k f same = rw (h .owners r b) (ready-is d (H .acc) table h l _ s (enter d (owner d r) (makeIdle (only r) s)) r r b e
+        (pass-reads d (H .acc) table h l s r (owner d r) b (owner-in d (rowCount d) (countTotal d) table h r b) e)
+        ∙ ap (λ (q : ℕ). wordsOutcome d (ifReady d r r s (activate d (only q) (makeIdle (only r) s)))) itself)
+      where
+        itself : enteredRow d (owner d r) ≡ owner d r
+        itself = unfold enteredRow in ap (λ (j : Kind). enteredAs d j (isKind d and-open (owner d (owner d r))) (owner d r)) f ∙ same
+
+    and-open-is : kind d r ≡ and-open → outcomeOf (readyVerdict l r r) (branchesTurned table true r (closeIn table r) (rowSet r 0 l)) ≡ wordsOutcome d (stepAs d and-open r s)
+    and-open-is f =
+        let o = opening r and-open f refl in let w = law .shut r o in let p = past r o in
+        rw (h .closes r b) (ready-is d (H .acc) table h l _ s (activate d (branchEntries d r) (makeIdle (only r) s)) r r b e
+        (open-branches d (H .acc) table h r (close d r) (w .0) (w .1) (omega arith) (rowSet r 0 l) (makeIdle (only r) s) (idle-reads d (H .acc) table h l s r b e)))
+
+    branch-step-is : kind d r ≡ branch → outcomeOf (branchVerdict table l r) (tokenPassed table (ownerIn table r) (r + 1) l) ≡ wordsOutcome d (stepAs d branch r s)
+    unfolding branchVerdict wordsOutcome
+    branch-step-is f = let o = owner-in d (rowCount d) (countTotal d) table h r b in
+        rw (h .owners r b, h .records .kinds (owner d r) o, add-one r) (decide (isKind d or-open (owner d r))
+        (λ y. rw y (ready-is d (H .acc) table h l _ s (enter d (suc r) (makeIdle (only (owner d r)) s)) (owner d r) r o e
+        (pass-reads d (H .acc) table h l s (owner d r) (suc r) o (next branch f refl) e)))
+        (λ y. rw y))
+
+    and-close-is : kind d r ≡ and-close → outcomeOf (closeVerdict table l r) (entered table (r + 1) (branchesTurned table false (ownerIn table r) r l)) ≡ wordsOutcome d (stepAs d and-close r s)
+    unfolding closeVerdict wordsOutcome
+    and-close-is f = rw (h .owners r b, all-done-is d (H .acc) table h (owner d r) r (closing r f) refl b l s e, add-one r) (decide (allDone d (owner d r) s)
+        (λ y. rw y (ap accepted (reads-words d _ (enter d (suc r) (makeIdle (branchOf d (owner d r)) s))
+        (enter-reads d (H .acc) table h _ (makeIdle (branchOf d (owner d r)) s) (suc r) (next and-close f refl)
+        (idle-branches d (H .acc) table h (owner d r) r (closing r f) refl b l s e)))))
+        (λ y. rw y))
+
+    it-open-is : kind d r ≡ it-open → outcomeOf (readyVerdict l r r) (itOpenChange table r l) ≡ wordsOutcome d (stepAs d it-open r s)
+    unfolding itOpenChange
+    it-open-is f = let p = past r (opening r it-open f refl) in
+        rw (e .turns r b, h .records .firsts r b, h .closes r b, add-one r, add-one (close d r), add-one (s .turns r)) (decide (ltb (s .turns r) (row d r .first))
+        (λ y. rw y (turned (suc (s .turns r)) (suc r) (next it-open f refl)))
+        (λ y. rw y (turned 0 (suc (close d r)) p)))
+      where
+        turned : (n q : ℕ) → q < rowCount d → outcomeOf (readyVerdict l r r) (tokenPassed table r q (set l (turnsAt r) n)) ≡ wordsOutcome d (ifReady d r r s (enter d q (setTurns r n (makeIdle (only r) s))))
+        turned n q c = ready-is d (H .acc) table h l _ s (enter d q (setTurns r n (makeIdle (only r) s))) r r b e
+            (pass-reads d (H .acc) table h (set l (turnsAt r) n) (setTurns r n s) r q b c (set-turns d n l s r b e))
+
+    exit-is : kind d r ≡ loop-exit → outcomeOf (readyVerdict l r r) (exitChange table r l) ≡ wordsOutcome d (stepAs d loop-exit r s)
+    unfolding exitChange
+    exit-is f =
+        let k = law .looped r f .0 in let p = past (loop d r) (opening (loop d r) lp-open k refl) in
+        let i = kind-in d (loop d r) (not-kind d (loop d r) k end refl) in
+        rw (h .loops r b, h .closes (loop d r) i, add-one (close d (loop d r)))
+        (ready-is d (H .acc) table h l _ s (enter d (suc (close d (loop d r))) (clearRows (within (loop d r) (close d (loop d r))) s)) r r b e
+        (enter-reads d (H .acc) table h _ (clearRows (within (loop d r) (close d (loop d r))) s) (suc (close d (loop d r))) p
+        (clear-reads d (H .acc) table h l s (loop d r) (close d (loop d r)) (omega arith) e)))
+
+    row-as : (k : Kind) → kind d r ≡ k → outcomeOf (rowVerdict table (rowCount d) (countTotal d) file l r) (rowChange table (rowCount d) file r l) ≡ wordsOutcome d (stepAs d k r s)
+    unfolding rowVerdict rowChange wordsOutcome
+    row-as function f = rw (number function f) (function-is d H table h file u l s e r b f small (next function f refl))
+    row-as and-open f = rw (number and-open f) (and-open-is f)
+    row-as branch f = rw (number branch f) (branch-step-is f)
+    row-as and-close f = rw (number and-close f) (and-close-is f)
+    row-as or-open f = rw (number or-open f)
+    row-as or-close f = rw (number or-close f) (on or-close f refl)
+    row-as it-open f = rw (number it-open f) (it-open-is f)
+    row-as it-close f = rw (number it-close f) (back it-open (opened-by d (H .acc) it-close it-open r f refl refl) refl)
+    row-as lp-open f = rw (number lp-open f) (on lp-open f refl)
+    row-as lp-close f = rw (number lp-close f) (back lp-open (opened-by d (H .acc) lp-close lp-open r f refl refl) refl)
+    row-as loop-exit f = rw (number loop-exit f) (exit-is f)
+    row-as end f = rw (number end f)
+
+  -- a number that no row has
+  beyond : (x : ℕ) → rowCount d ≤ x → refused 22 x ≡ wordsOutcome d (step d x s)
+  unfolding wordsOutcome
+  beyond x c = ap (λ (w : Row). wordsOutcome d (stepAs d (w .kind) x s)) (sym (List·getD-eq-default (d .rows) (plain end) c))
+
+  code-is : Small l → statePasses d s ≡ true → (code x : ℕ)
+      → outcomeOf (codeVerdict table (rowCount d) (countTotal d) file l code x) (moveChange table (rowCount d) file code x l) ≡ wordsOutcome d (move d (moveOf code x) s)
+  unfolding codeVerdict moveChange moveOf wordsOutcome
+  code-is small p code x = decide (eqb code 1)
+      (λ y. rw y (decide (ltb x (rowCount d))
+      (λ z. rw z (row-as small x (ltb-true x (rowCount d) z) (kind d x) refl))
+      (λ z. rw z (beyond x (ltb-false x (rowCount d) z)))))
+      (λ y. rw y (decide (eqb code 2) (λ z. rw z (wait-is x p)) (λ z. rw z)))
+
+-- THEOREM: the verdict and the stores are the checked move of the diagram that the table holds
+pub move-is : (file : List ℕ) (d : Diagram) (rows items : ℕ) (table l : List ℕ) → Held d → Holds d rows items table → HoldsUses file d table → Small l → (code x : ℕ)
+    → outcomeOf (moveVerdict table rows items file l code x) (moveChange table rows file code x l) ≡ checkedMove d (moveOf code x) l
+move-is file d rows items table l H h u small code x =
+    rw (h .records .rowsAre, h .records .itemsAre) (whole (rw (h .records .rowsAre, h .records .itemsAre) at h))
+  where
+    whole : Holds d (rowCount d) (countTotal d) table
+        → outcomeOf (moveVerdict table (rowCount d) (countTotal d) file l code x) (moveChange table (rowCount d) file code x l) ≡ checkedMove d (moveOf code x) l
+    whole g = unfold moveVerdict stateAllowed checkedMove moveWords in decide (eqb (length l) (places d))
+        (λ y. let e = words-read d l (eqb-true (length l) (places d) y) in
+        rw (y, passes-is d H table g file u l (stateOf d l) e) (decide (statePasses d (stateOf d l))
+        (λ z. rw z (code-is d H table g file u l (stateOf d l) e small z code x)) (λ z. rw z)))
+        (λ y. rw y)

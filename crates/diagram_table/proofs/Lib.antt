@@ -1,0 +1,2 @@
+pub mod UsesCut
+pub mod UsesWalked

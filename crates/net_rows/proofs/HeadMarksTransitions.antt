@@ -1,0 +1,127 @@
+-- THEOREM (head-is, marks-are, transitions-are): the head, the marks and the transitions over the table are the records of the diagram's net.
+use Prim.Native.Nat.{ℕ, zero, suc, _+_, _*_, _%_, _≤_, _<_, zero-le}
+use mathlib.Core.Path.{_≡_, refl, ap, ap₂, sym, _∙_}
+use mathlib.Core.Bool.{cond}
+use mathlib.Core.List.{List, [], _∷_, _++_, map, map-append, append-assoc}
+use native.Mathlib.Omega.{arith}
+use lib.ListN.{length, getD, length-append}
+use Rattle.effbd.specs.Ranges.{only, tabulate}
+use Rattle.effbd.specs.Diagrams.{Kind, function, and-open, branch, and-close, or-open, or-close, it-open, it-close, lp-open, lp-close, loop-exit, end, Diagram, mostRows, numberOf, rowCount, countTotal, kind, isKind, turnLimit}
+use Rattle.effbd.specs.Layout.{places, placeOf}
+use Rattle.effbd.specs.Nesting.{owner}
+use Rattle.effbd.specs.States.{enteredRow}
+use Rattle.effbd.specs.Nets.{Transition, takeArc, giveArc, mostPlaces, mostTransitions}
+use Rattle.effbd.specs.Patterns.{Pattern, noPattern, Name, names, patterns, patternsAs, arcsOf, rangesFrom, transitionOf, freshMark, netOf}
+use Rattle.ranges.specs.Tests.{decide}
+use Rattle.ranges.specs.RangeLaws.{length-tab}
+use Rattle.agreement.specs.AcceptedFiles.{Held}
+use Rattle.agreement.specs.Numbering.{length-map}
+use Rattle.agreement.specs.NetSteps.{many-marks}
+use Rattle.diagram_table.specs.Cells.{enteredIn}
+use Rattle.diagram_table.specs.Held.{Holds, HoldsUses}
+use Rattle.diagram_file.proofs.HeldCells.{in-rows, kind-cell, owner-kind, entered-cell}
+use Rattle.net_records.specs.Writing.{Records, runs}
+use Rattle.net_records.specs.Records.{pair, transition, mark}
+use Rattle.net_rows.specs.Rows.{rowRecords}
+use Rattle.net_rows.specs.Marks.{netHead, firstMark, remaining, rowMarks, itemMark, ownNumber, branchNumber, numberAs, tally}
+use Rattle.net_records.proofs.Runs.{runs-same, runs-front}
+use Rattle.net_records.proofs.Nets.{arcRecord, markRecord, transitionRecord, transitionRecords, records-append}
+use Rattle.net_loops.proofs.Weights.{arcs-run, weights, by-rows}
+use Rattle.net_loops.proofs.PatternRecords.{clears, patternRecords, allPatterns}
+use Rattle.net_rows.proofs.RowRecords.{row-is}
+
+marks-run : (n : ℕ) (f : ℕ → ℕ) → map markRecord (tabulate n f) ≡ runs (λ p. mark (f p)) n
+unfolding markRecord mark runs
+marks-run zero f = refl
+marks-run (suc n) f = ap (λ (l : Records). markRecord (f 0) ∷ l) (marks-run n (λ i. f (suc i))) ∙ sym (runs-front (λ p. mark (f p)) n)
+
+module _ (d : Diagram) (few : places d ≤ mostPlaces) where
+  -- the transition of a pattern
+  made : ℕ → Pattern → Transition
+  made r p = record {
+    label = r;
+    earliest = p .earliest;
+    latest = p .latest;
+    arcs = arcsOf takeArc (places d) (λ i. p .take (placeOf d i)) ++ (rangesFrom (places d) 0 (λ i. p .clear (placeOf d i)) ++ arcsOf giveArc (places d) (λ i. p .give (placeOf d i)));
+  }
+
+  pattern-records : (r : ℕ) (p : Pattern) → r < mostRows → transitionRecord (made r p) ∷ map arcRecord (made r p .arcs) ≡ patternRecords d r p
+  unfolding made transitionRecord patternRecords transition weights clears
+  pattern-records r p l = let e : r % 65536 ≡ r = omega arith in
+      rw (e, map-append, map-append, arcs-run takeArc (places d) (λ i. p .take (placeOf d i)) (omega arith), arcs-run giveArc (places d) (λ i. p .give (placeOf d i)) (omega arith))
+
+  row-patterns : (ps : List Pattern) (r : ℕ) (f : ℕ → Name d) → r < mostRows → ((i : ℕ) → transitionOf d (f i) ≡ made r (getD ps i noPattern))
+      → transitionRecords (map (transitionOf d) (tabulate (length ps) f)) ≡ allPatterns d r ps
+  unfolding transitionRecords allPatterns
+  row-patterns [] r f l h = refl
+  row-patterns (p ∷ ps) r f l h = ap (λ (t : Transition). (transitionRecord t ∷ map arcRecord (t .arcs)) ++ transitionRecords (map (transitionOf d) (tabulate (length ps) (λ i. f (suc i))))) (h 0)
+      ∙ ap₂ _++_ (pattern-records r p l) (row-patterns ps r (λ i. f (suc i)) l (λ i. h (suc i)))
+
+  all-patterns : (n : ℕ) → n ≤ mostRows → transitionRecords (map (transitionOf d) (names d n)) ≡ runs (λ r. allPatterns d r (patterns d r)) n
+  unfolding names runs transitionRecords transitionOf made
+  all-patterns zero l = refl
+  all-patterns (suc n) l = ap transitionRecords (map-append (transitionOf d) (names d n) (tabulate (length (patterns d n)) (λ i. record { label = n; index = i })))
+      ∙ (records-append (map (transitionOf d) (names d n)) (map (transitionOf d) (tabulate (length (patterns d n)) (λ i. record { label = n; index = i })))
+      ∙ ap₂ _++_ (all-patterns n (omega arith)) (row-patterns (patterns d n) n (λ i. record { label = n; index = i }) (omega arith) (λ i. refl)))
+
+word-mod : (n : ℕ) → n < 65536 → n % 65536 ≡ n
+word-mod n l = omega arith
+
+module _ (d : Diagram) where
+  numberBy : (k : Kind) (r : ℕ) → (length (patternsAs d k r) ≡ numberAs (numberOf (kind d (owner d r))) (numberOf k)) × (length (patternsAs d k r) ≤ 2)
+  unfolding numberAs ownNumber branchNumber
+  numberBy function r = (refl, omega arith)
+  numberBy and-open r = (refl, omega arith)
+  numberBy branch r = decide (isKind d or-open (owner d r)) (λ e. rw e (refl, omega arith)) (λ e. rw e (refl, omega arith))
+  numberBy and-close r = (refl, omega arith)
+  numberBy or-open r = (refl, omega arith)
+  numberBy or-close r = (refl, omega arith)
+  numberBy it-open r = (refl, omega arith)
+  numberBy it-close r = (refl, omega arith)
+  numberBy lp-open r = (refl, omega arith)
+  numberBy lp-close r = (refl, omega arith)
+  numberBy loop-exit r = (refl, omega arith)
+  numberBy end r = (refl, omega arith)
+
+module _ (d : Diagram) (rows items : ℕ) (table file : List ℕ) (h : Holds d rows items table) (u : HoldsUses file d table) (held : Held d) where
+  few : places d ≤ mostPlaces
+  few = let a = held .rows in let b = held .items in omega arith
+
+  counted : (n : ℕ) → n ≤ rowCount d → (tally table n ≡ length (names d n)) × (length (names d n) ≤ 2 * n)
+  unfolding tally names
+  counted zero l = (refl, zero-le)
+  counted (suc n) l =
+      let i = counted n (omega arith) in
+      let b = numberBy d (kind d n) n in
+      let e : length (names d n ++ tabulate (length (patterns d n)) (λ i. record { label = n; index = i })) ≡ length (names d n) + length (patterns d n) =
+      length-append (names d n) (tabulate (length (patterns d n)) (λ i. record { label = n; index = i })) ∙ ap (λ (x : ℕ). length (names d n) + x) (length-tab {A = Name d} (length (patterns d n)) (λ i. record { label = n; index = i })) in
+      (rw (e, owner-kind d rows items table h n l, kind-cell d rows items table h n l) (ap₂ _+_ (i .0) (sym (b .0))), (let x = i .1 in let y = b .1 in omega arith))
+
+  pub head-is : (8 ∷ netHead ∷ length (netOf d .marks) ∷ length (netOf d .transitions) ∷ []) ∷ [] ≡ pair netHead (3 * rows + items) (tally table rows)
+  unfolding pair
+  head-is =
+      let c = counted (rowCount d) (omega arith) in
+      let t : length (netOf d .transitions) ≡ length (names d (rowCount d)) = unfold netOf in length-map (transitionOf d) (names d (rowCount d)) in
+      let a = h .records .rowsAre in let b = h .records .itemsAre in let f = few in let k = c .1 in let g = h .records .fewRows in
+      let p : 3 * rows + items ≡ places d = ap₂ (λ (x y : ℕ). 3 * x + y) a b in
+      let e₁ : (3 * rows + items) % 65536 ≡ places d = ap (λ (x : ℕ). x % 65536) p ∙ word-mod (places d) (omega arith) in
+      let w : tally table rows ≡ length (names d (rowCount d)) = ap (tally table) a ∙ c .0 in
+      let small : length (names d (rowCount d)) ≤ mostTransitions = omega arith in
+      let e₂ : tally table rows % 65536 ≡ length (names d (rowCount d)) = ap (λ (x : ℕ). x % 65536) w ∙ word-mod (length (names d (rowCount d))) (omega arith) in
+      rw (many-marks d, t, e₁, e₂)
+
+  pub marks-are : map markRecord (netOf d .marks) ≡ runs (rowMarks table (enteredIn table 0)) rows ++ runs (itemMark table) items
+  unfolding netOf itemMark
+  marks-are = marks-run (places d) (λ p. freshMark d (placeOf d p)) ∙ (by-rows d (λ p w. mark w) (freshMark d) ∙ ap₂ _++_
+      (runs-same _ _ (rowCount d) row ∙ ap (runs (rowMarks table (enteredIn table 0))) (sym (h .records .rowsAre)))
+      (runs-same _ _ (countTotal d) (λ k l. ap mark (sym (h .records .counts k (let e = h .records .itemsAre in omega arith)))) ∙ ap (runs (itemMark table)) (sym (h .records .itemsAre))))
+    where
+      row : (q : ℕ) → q < rowCount d → mark (cond (only (enteredRow d 0) q) 1 0) ++ (mark 0 ++ mark (cond (isKind d it-open q) (turnLimit d q) 0)) ≡ rowMarks table (enteredIn table 0) q
+      row q l = unfold rowMarks firstMark remaining in
+          rw (entered-cell d rows items table h 0 (omega arith), kind-cell d rows items table h q l, h .records .firsts q (in-rows d rows items table h q l))
+          (sym (append-assoc (mark (cond (only (enteredRow d 0) q) 1 0)) (mark 0) (mark (cond (isKind d it-open q) (turnLimit d q) 0))))
+
+  pub transitions-are : transitionRecords (netOf d .transitions) ≡ runs (rowRecords table file rows) rows
+  unfolding netOf
+  transitions-are = all-patterns d few (rowCount d) (held .rows)
+      ∙ (runs-same _ _ (rowCount d) (λ r l. sym (row-is d rows items table file h u held r l)) ∙ ap (runs (rowRecords table file rows)) (sym (h .records .rowsAre)))

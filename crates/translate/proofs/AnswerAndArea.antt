@@ -1,0 +1,106 @@
+-- Where a net fits, the area holds its bytes and the next offset is their number; the answer and the area that a translation leaves.
+use Prim.Native.Nat.{ℕ, _+_, _≤_, _<_}
+use mathlib.Core.Path.{_≡_, refl, ap, ap₂, _∙_}
+use mathlib.Core.Logic.{_≢_}
+use mathlib.Core.Bool.{true}
+use mathlib.Core.List.{List, [], _∷_, _++_}
+use native.Mathlib.Omega.{arith}
+use native.Mathlib.Nat.{zero-add}
+use lib.ListN.{length, drop}
+use lib.Seq.{sets, sets-eq}
+use borrow.Author.Tests.{lt-ltb, le-ltb}
+use Rattle.effbd.specs.Answers.{Outcome, accepted, refused}
+use Rattle.effbd.specs.Records.{areBytes}
+use Rattle.effbd.specs.Nets.{netBytes}
+use Rattle.effbd.specs.Patterns.{netOf, translatedAs, translated}
+use Rattle.agreement.specs.AcceptedFiles.{Held, held}
+use Rattle.effbd.specs.Diagrams.{Diagram as Read}
+use Rattle.effbd.specs.Nesting.{readDiagram}
+use Rattle.diagram_file.specs.declared.Diagram.{Diagram}
+use Rattle.diagram_table.specs.Held.{HoldsFile}
+use Rattle.diagram_file.specs.Tables.{Parsed, refusalNumber, refusalValue}
+use Rattle.net_records.specs.Writing.{Records, flat, offsetLimit, Wrote}
+use Rattle.net_records.proofs.Writing.{wrote-length}
+use Rattle.net_records.proofs.Bytes.{reach-fits, laid-fits}
+use Rattle.translate.specs.NetRecords.{netRecords, longestNet}
+use Rattle.translate.proofs.NetBytes.{net-is}
+use Rattle.translate.proofs.Sizes.{net-small}
+
+-- the refusal of a short area
+abbrev areaShort : ℕ
+areaShort = 10
+
+-- where an empty part of an area was written, nothing is altered
+pub nothing-written : (area : List ℕ) {after : List ℕ} {next : ℕ} {records : Records} → Wrote [] 0 after next records → after ++ area ≡ area
+nothing-written area {after} w = go after (wrote-length w)
+  where
+    go : (l : List ℕ) → length l ≡ 0 → l ++ area ≡ area
+    go [] e = refl
+    go (x ∷ l) e = absurd (omega arith)
+
+-- an accepted file, its diagram's table
+module _ (file : List ℕ) (rows items : ℕ) (table : List ℕ) (h : HoldsFile file rows items table) (bytes : areBytes file ≡ true) where
+  net : List ℕ
+  net = netBytes (netOf (h .diagram))
+
+  sound : Held (h .diagram)
+  sound = held file (h .diagram) bytes (h .read)
+
+  is-net : flat (netRecords table file rows items) ≡ net
+  unfolding net
+  is-net = net-is (h .diagram) rows items table file (h .holds) (h .uses) sound
+
+  small : length net ≤ longestNet
+  unfolding net
+  small = net-small (h .diagram) rows items table file (h .holds) (h .uses) sound
+
+  fits : 0 + length (flat (netRecords table file rows items)) ≤ offsetLimit
+  fits = rw is-net (let s = small in omega arith)
+
+  -- no net is longer
+  pub never-longer : length (flat (netRecords table file rows items)) ≤ longestNet
+  never-longer = rw is-net small
+
+  -- the writer's result is the net's length, and fits an answer
+  pub measure : {before after : List ℕ} {next : ℕ} → Wrote before 0 after next (netRecords table file rows items)
+      → next ≡ length (flat (netRecords table file rows items))
+  measure w = w .reached ∙ (reach-fits (netRecords table file rows items) 0 fits ∙ zero-add _)
+
+  pub measured : {before after : List ℕ} {next : ℕ} → Wrote before 0 after next (netRecords table file rows items) → next ≤ longestNet
+  measured w = let e = measure w in let s = never-longer in omega arith
+
+  -- a short area, an empty part of which was written
+  pub too-short : (area : List ℕ) {after : List ℕ} {next : ℕ} → Wrote [] 0 after next (netRecords table file rows items) → length area < next
+      → (refused areaShort next ≡ translated file area .answer) × (after ++ area ≡ translated file area .area)
+  unfolding translated net
+  too-short area {next = next} w l = let e : next ≡ length (netBytes (netOf (h .diagram))) = measure w ∙ ap length is-net in
+      rw (nothing-written area w, h .read, lt-ltb (length area) (length (netBytes (netOf (h .diagram)))) (omega arith)) (ap (refused areaShort) e, refl)
+
+  -- and one that is long enough
+  pub room-left : (area : List ℕ) {after : List ℕ} {next : ℕ} → Wrote [] 0 after next (netRecords table file rows items) → next ≤ length area
+      → length (flat (netRecords table file rows items)) ≤ length (after ++ area)
+  room-left area w l = let e = measure w in rw (nothing-written area w) (omega arith)
+
+  -- an area that has room
+  pub long-enough : {area after : List ℕ} {next : ℕ} → length (flat (netRecords table file rows items)) ≤ length area
+      → Wrote area 0 after next (netRecords table file rows items) → (accepted next ≡ translated file area .answer) × (after ≡ translated file area .area)
+  unfolding translated net
+  long-enough {area = area} {after} {next} l w =
+      let n = room in rw (h .read, le-ltb (length area) (length (netBytes (netOf (h .diagram)))) n) (ap accepted (measure w ∙ ap length is-net), content)
+    where
+      room : length net ≤ length area
+      room = rw (← is-net) l
+
+      content : after ≡ net ++ drop (length net) area
+      content = w .area ∙ (laid-fits (netRecords table file rows items) area 0 fits ∙ (ap (sets area 0) is-net
+          ∙ (sets-eq net area 0 (omega (arith, room)) ∙ ap (λ (k : ℕ). net ++ drop k area) (zero-add (length net)))))
+
+-- a refused file
+pub turned-away : (file area : List ℕ) (p : Diagram) → Parsed file p → p .number ≢ 0
+    → (refused (p .number) (p .value) ≡ translated file area .answer) × (area ≡ translated file area .area)
+unfolding translated
+turned-away file area p h n = go (readDiagram file) (h .number) (h .value)
+  where
+    go : (o : Outcome Read) → p .number ≡ refusalNumber o → p .value ≡ refusalValue o → (refused (p .number) (p .value) ≡ translatedAs o area .answer) × (area ≡ translatedAs o area .area)
+    go (accepted d) e f = absurd (n e)
+    go (refused number value) e f = (ap₂ refused e f, refl)

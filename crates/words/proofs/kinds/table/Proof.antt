@@ -1,0 +1,10 @@
+use Rattle.words.proofs.KindTable.{cells, table-right}
+use Rattle.words.proofs.kinds.table.Statement.{statement}
+use Rattle.words.proofs.kinds.table.Tie as tie
+
+returns : tie.Need-returns
+unfolding cells
+returns c = table-right
+
+pub table-spec : {M : Type 1} → statement M
+table-spec = tie.close (tie.spec returns)
