@@ -1,9 +1,19 @@
 /* Flow diagrams, their nets and both bus ends: the proved functions, for C.
  *
- * Link target/staticlib/libeffbd_c.a (rt staticlib effbd_c). A list is a pointer and its number of ELEMENTS: bytes of files, areas and
- * telegrams, 16-bit words of states. An answer is number * 2^32 + value; the number is 0 where the call was accepted, else the refusal of
- * document 01's table, whose value is then "Returned". A refusal alters nothing that was lent.
- * Lists that are lent to one call must not overlap where one of them is written.
+ * Link target/staticlib/libeffbd_c.a, which `rt staticlib effbd_c` writes (x86-64). bindings/c/example.c has a whole program.
+ *
+ * Lists. A list is a pointer and its number of ELEMENTS: bytes of files, areas and telegrams, 16-bit words of states (aligned as uint16_t).
+ * Any bytes, words and numbers may be given. An empty list may be (NULL, 0): nothing is read or written through its pointer. Lists that are
+ * lent to one call must not overlap where one of them is written. No call keeps a pointer, allocates, or has memory of its own.
+ *
+ * Answers. An answer is number * 2^32 + value. Number 0: accepted. Else it is a refusal of document 01's table, the value is what the table
+ * returns with it, and nothing that was lent is altered.
+ *
+ *     uint64_t answer = effbd_step(file, file_count, state, state_count, EFFBD_WAIT, 20);
+ *     if (effbd_number(answer) == EFFBD_WAIT_HELD) { .. a step is due before time may pass .. }
+ *
+ * Order of refusals. A file is looked at first (1 to 9), then the number of words of a state (20), its words (20), the move (21 to 26), the
+ * leader's count (27), the area (10). The follower looks at the telegram (30 to 33) before all of these.
  */
 #ifndef EFFBD_H
 #define EFFBD_H
@@ -15,65 +25,123 @@
 extern "C" {
 #endif
 
-/* A diagram file. Accepted: the number of words of its state, 3N + M. */
-uint64_t effbd_read(const uint8_t *file, size_t file_count);
+/* Move codes; any other is refused with EFFBD_CODE_OFF. */
+#define EFFBD_STEP 1 /* of a row or label */
+#define EFFBD_WAIT 2 /* of 1 to 65,535 ticks of 0.1 s */
 
-/* The fresh state of a diagram. Accepted: 0. */
-uint64_t effbd_fresh(const uint8_t *file, size_t file_count, uint16_t *state, size_t state_count);
+/* What to lend where nothing was read yet. */
+#define EFFBD_MOST_ROWS 64              /* of a diagram */
+#define EFFBD_MOST_ITEMS 16             /* of a diagram */
+#define EFFBD_MOST_PLACES 208           /* of a net */
+#define EFFBD_MOST_TRANSITIONS 128      /* of a net */
+#define EFFBD_MOST_STATE_WORDS 208      /* of a diagram: 3 for each row, 1 for each item */
+#define EFFBD_MOST_NET_STATE_WORDS 336  /* of a net: 1 for each place, 1 for each transition */
+#define EFFBD_NET_ROOM 65536            /* bytes that have room for the net of any diagram */
+#define EFFBD_TELEGRAM_LENGTH 14        /* bytes */
 
-/* Code 1 steps row `argument`, code 2 waits `argument` ticks. Accepted: 0. */
-uint64_t effbd_step(const uint8_t *file, size_t file_count, uint16_t *state, size_t state_count, uint16_t code, uint16_t argument);
+/* The refusals' numbers. */
+#define EFFBD_ACCEPTED 0
+enum effbd_refusal {
+    EFFBD_CUT_SHORT = 1,
+    EFFBD_KIND_NOT_DUE = 2,
+    EFFBD_LENGTH_WRONG = 3,
+    EFFBD_HEAD_VALUE_OFF = 4,
+    EFFBD_FIELD_OFF = 5,
+    EFFBD_BYTES_AFTER_LAST = 6,
+    EFFBD_NESTING_BROKEN = 7,
+    EFFBD_LOOP_EXIT_MISPLACED = 8,
+    EFFBD_TOO_MANY_OPEN = 9,
+    EFFBD_AREA_SHORT = 10,
+    EFFBD_STATE_OFF = 20,
+    EFFBD_CODE_OFF = 21,
+    EFFBD_NOT_STANDING = 22,
+    EFFBD_ITEM_SHORT = 23,
+    EFFBD_TICKS_LACKING = 24,
+    EFFBD_SUM_TOO_LARGE = 25,
+    EFFBD_WAIT_HELD = 26,
+    EFFBD_COUNT_FULL = 27,
+    EFFBD_NO_TELEGRAM = 30,
+    EFFBD_OTHER_STATION = 31,
+    EFFBD_NUMBER_PAST = 32,
+    EFFBD_NUMBER_AHEAD = 33,
+};
 
-/* The net of a diagram, into the first bytes of an area. Accepted: the net's length. */
-uint64_t effbd_translate(const uint8_t *file, size_t file_count, uint8_t *area, size_t area_count);
-
-/* A net file. Accepted: the number of words of its state, places and transitions. */
-uint64_t tpn_read(const uint8_t *net, size_t net_count);
-
-/* The fresh state of a net. Accepted: 0. */
-uint64_t tpn_fresh(const uint8_t *net, size_t net_count, uint16_t *state, size_t state_count);
-
-/* Code 1 steps label `argument`, code 2 waits `argument` ticks. Accepted: 0. */
-uint64_t tpn_step(const uint8_t *net, size_t net_count, uint16_t *state, size_t state_count, uint16_t code, uint16_t argument);
-
-/* The leader: a move that is accepted is written as a telegram into the first 14 bytes of the area. Accepted: the new count. */
-uint64_t leader_offer(const uint8_t *file, size_t file_count, uint16_t *state, size_t state_count, uint32_t count, uint16_t station,
-                      uint16_t code, uint16_t argument, uint8_t *area, size_t area_count);
-
-/* The follower: bytes that came over the bus. Accepted: the new count. */
-uint64_t follower_take(const uint8_t *net, size_t net_count, uint16_t *state, size_t state_count, uint32_t count, uint16_t station,
-                       const uint8_t *telegram, size_t telegram_count);
-
-/* Number (0: accepted) and value of an answer. */
+/* Number (EFFBD_ACCEPTED or a refusal) and value of an answer. */
 static inline uint32_t effbd_number(uint64_t answer) { return (uint32_t)(answer >> 32); }
 static inline uint32_t effbd_value(uint64_t answer) { return (uint32_t)answer; }
 
-/* A refusal's number in words. */
+/* A diagram file. Accepted: the number of words of its state, 3N + M. */
+uint64_t effbd_read(const uint8_t *file, size_t file_count);
+
+/* The part of a diagram file that has the uses of FUNCTION row `row`, 6 bytes a use (item, take, give). Never refuses: answers
+ * start * 2^32 + size, in bytes; see effbd_uses_start and effbd_uses_size. A FUNCTION without uses has size 0 at the start where its uses
+ * would stand. A refused file, a row of another kind and a row that the file does not have: start 0, size 0. */
+uint64_t effbd_uses(const uint8_t *file, size_t file_count, uint16_t row);
+
+static inline uint32_t effbd_uses_start(uint64_t part) { return (uint32_t)(part >> 32); }
+static inline uint32_t effbd_uses_size(uint64_t part) { return (uint32_t)part; }
+
+/* The fresh state of a diagram, into all words of `state`, whatever they were. Accepted: 0.
+ * EFFBD_STATE_OFF where state_count is not the number of words that effbd_read answers. */
+uint64_t effbd_fresh(const uint8_t *file, size_t file_count, uint16_t *state, size_t state_count);
+
+/* EFFBD_STEP steps row `argument`, EFFBD_WAIT waits `argument` ticks; the state becomes the one after the move. Accepted: 0.
+ * EFFBD_STATE_OFF where state_count is not the number of words that effbd_read answers, or where the words are no state of this diagram. */
+uint64_t effbd_step(const uint8_t *file, size_t file_count, uint16_t *state, size_t state_count, uint16_t code, uint16_t argument);
+
+/* The net of a diagram, into the first bytes of an area; those beyond the net keep their values. Accepted: the net's length.
+ * EFFBD_AREA_SHORT returns the bytes needed, so that an area (NULL, 0) asks for them. */
+uint64_t effbd_translate(const uint8_t *file, size_t file_count, uint8_t *area, size_t area_count);
+
+/* A net file: just the net's bytes, without the rest of the area. Accepted: the number of words of its state, places and transitions. */
+uint64_t tpn_read(const uint8_t *net, size_t net_count);
+
+/* The fresh state of a net, into all words of `state`, whatever they were. Accepted: 0.
+ * EFFBD_STATE_OFF where state_count is not the number of words that tpn_read answers. */
+uint64_t tpn_fresh(const uint8_t *net, size_t net_count, uint16_t *state, size_t state_count);
+
+/* EFFBD_STEP steps label `argument`, EFFBD_WAIT waits `argument` ticks; the state becomes the one after the move. Accepted: 0.
+ * EFFBD_STATE_OFF where state_count is not the number of words that tpn_read answers; any words of that number are a state of the net. */
+uint64_t tpn_step(const uint8_t *net, size_t net_count, uint16_t *state, size_t state_count, uint16_t code, uint16_t argument);
+
+/* The leader: makes the move as effbd_step does, with its refusals, and writes its telegram, numbered count + 1, into the first
+ * EFFBD_TELEGRAM_LENGTH bytes of the area; those beyond keep their values. Accepted: the new count, count + 1.
+ * EFFBD_COUNT_FULL where count is 4,294,967,295, EFFBD_AREA_SHORT where the area has fewer bytes; the move is then not made. */
+uint64_t leader_offer(const uint8_t *file, size_t file_count, uint16_t *state, size_t state_count, uint32_t count, uint16_t station,
+                      uint16_t code, uint16_t argument, uint8_t *area, size_t area_count);
+
+/* The follower: bytes that came over the bus. A telegram of this station numbered count + 1 makes its move as tpn_step does, with its
+ * refusals. Accepted: the new count, count + 1. Other bytes are refused before net and state are looked at: EFFBD_NO_TELEGRAM also where
+ * telegram_count is not EFFBD_TELEGRAM_LENGTH, EFFBD_OTHER_STATION, EFFBD_NUMBER_PAST (a repeat), EFFBD_NUMBER_AHEAD (one was lost). */
+uint64_t follower_take(const uint8_t *net, size_t net_count, uint16_t *state, size_t state_count, uint32_t count, uint16_t station,
+                       const uint8_t *telegram, size_t telegram_count);
+
+/* The number of an answer in words. */
 static inline const char *effbd_words(uint32_t number) {
     switch (number) {
-    case 0: return "accepted";
-    case 1: return "cut short";
-    case 2: return "kind not due here";
-    case 3: return "length wrong for kind";
-    case 4: return "head value off";
-    case 5: return "field off";
-    case 6: return "bytes after the last record";
-    case 7: return "nesting broken";
-    case 8: return "LE misplaced";
-    case 9: return "a 13th open";
-    case 10: return "area too short";
-    case 20: return "state off";
-    case 21: return "no move";
-    case 22: return "step not standing";
-    case 23: return "item short";
-    case 24: return "ticks lacking";
-    case 25: return "sum above 65,535";
-    case 26: return "wait held";
-    case 27: return "leader's count full";
-    case 30: return "no telegram";
-    case 31: return "other station";
-    case 32: return "number at or below count";
-    case 33: return "number above count + 1";
+    case EFFBD_ACCEPTED: return "accepted";
+    case EFFBD_CUT_SHORT: return "cut short";
+    case EFFBD_KIND_NOT_DUE: return "kind not due here";
+    case EFFBD_LENGTH_WRONG: return "length wrong for kind";
+    case EFFBD_HEAD_VALUE_OFF: return "head value off";
+    case EFFBD_FIELD_OFF: return "field off";
+    case EFFBD_BYTES_AFTER_LAST: return "bytes after the last record";
+    case EFFBD_NESTING_BROKEN: return "nesting broken";
+    case EFFBD_LOOP_EXIT_MISPLACED: return "LE misplaced";
+    case EFFBD_TOO_MANY_OPEN: return "a 13th open";
+    case EFFBD_AREA_SHORT: return "area too short";
+    case EFFBD_STATE_OFF: return "state off";
+    case EFFBD_CODE_OFF: return "no move";
+    case EFFBD_NOT_STANDING: return "step not standing";
+    case EFFBD_ITEM_SHORT: return "item short";
+    case EFFBD_TICKS_LACKING: return "ticks lacking";
+    case EFFBD_SUM_TOO_LARGE: return "sum above 65,535";
+    case EFFBD_WAIT_HELD: return "wait held";
+    case EFFBD_COUNT_FULL: return "leader's count full";
+    case EFFBD_NO_TELEGRAM: return "no telegram";
+    case EFFBD_OTHER_STATION: return "other station";
+    case EFFBD_NUMBER_PAST: return "number at or below count";
+    case EFFBD_NUMBER_AHEAD: return "number above count + 1";
     default: return "no number of the table";
     }
 }

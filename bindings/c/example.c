@@ -1,24 +1,70 @@
-/* Example A of document 01 from C: its net's length, one move over the bus, and a wait that is held. */
+/* Example A of document 01 from C: the net in an area of just its length, a move over the bus, and what a caller does where it is turned away. */
 #include "effbd.h"
 #include <stdio.h>
+#include <stdlib.h>
 
-static void say(const char *what, uint64_t answer) {
-    printf("%s: %s, %u\n", what, effbd_words(effbd_number(answer)), effbd_value(answer));
+#define STATION 9
+
+/* Says the answer; its value where it was accepted or refused with `foreseen`. Any other refusal ends the program. */
+static uint32_t value_of(const char *what, uint64_t answer, uint32_t foreseen) {
+    uint32_t number = effbd_number(answer);
+    printf("%s: %s, %u\n", what, effbd_words(number), effbd_value(answer));
+    if (number != EFFBD_ACCEPTED && number != foreseen) {
+        exit(EXIT_FAILURE);
+    }
+    return effbd_value(answer);
+}
+
+/* Memory for so many elements. */
+static void *room(size_t elements, size_t size) {
+    void *memory = calloc(elements, size);
+    if (memory == NULL) {
+        exit(EXIT_FAILURE);
+    }
+    return memory;
 }
 
 int main(void) {
     static const uint8_t file[34] = {10, 0, 1, 0, 1, 0, 2, 0, 1, 0, 6, 0, 2, 0, 3, 0, 14, 0, 16, 0, 2, 0, 5, 0, 0, 0, 1, 0, 0, 0, 4, 0, 27, 0};
-    static uint8_t net[65536];
-    uint16_t leader[7], follower[9];
-    uint8_t telegram[14];
-    uint64_t length = effbd_translate(file, sizeof file, net, sizeof net);
-    say("translate", length);
-    say("fresh diagram", effbd_fresh(file, sizeof file, leader, 7));
-    say("fresh net", tpn_fresh(net, effbd_value(length), follower, 9));
-    say("offer step 0", leader_offer(file, sizeof file, leader, 7, 0, 9, 1, 0, telegram, sizeof telegram));
-    say("take it", follower_take(net, effbd_value(length), follower, 9, 0, 9, telegram, sizeof telegram));
-    say("take it again", follower_take(net, effbd_value(length), follower, 9, 1, 9, telegram, sizeof telegram));
-    say("wait 6", effbd_step(file, sizeof file, leader, 7, 2, 6));
-    say("wait 6 of the net", tpn_step(net, effbd_value(length), follower, 9, 2, 6));
-    return 0;
+
+    uint64_t part = effbd_uses(file, sizeof file, 0);
+    printf("uses of row 0: %u bytes from %u on\n", effbd_uses_size(part), effbd_uses_start(part));
+
+    /* No area yet: the refusal says how many bytes to lend. */
+    size_t length = value_of("translate into nothing", effbd_translate(file, sizeof file, NULL, 0), EFFBD_AREA_SHORT);
+    uint8_t *net = room(length, sizeof *net);
+    value_of("translate", effbd_translate(file, sizeof file, net, length), EFFBD_ACCEPTED);
+
+    size_t leader_words = value_of("read the diagram", effbd_read(file, sizeof file), EFFBD_ACCEPTED);
+    size_t follower_words = value_of("read the net", tpn_read(net, length), EFFBD_ACCEPTED);
+    uint16_t *leader = room(leader_words, sizeof *leader);
+    uint16_t *follower = room(follower_words, sizeof *follower);
+    value_of("fresh diagram", effbd_fresh(file, sizeof file, leader, leader_words), EFFBD_ACCEPTED);
+    value_of("fresh net", tpn_fresh(net, length, follower, follower_words), EFFBD_ACCEPTED);
+
+    uint8_t telegram[EFFBD_TELEGRAM_LENGTH];
+    uint64_t offered = leader_offer(file, sizeof file, leader, leader_words, 0, STATION, EFFBD_STEP, 0, telegram, sizeof telegram);
+    value_of("offer step 0", offered, EFFBD_ACCEPTED);
+    uint64_t taken = follower_take(net, length, follower, follower_words, 0, STATION, telegram, sizeof telegram);
+    uint32_t count = value_of("take it", taken, EFFBD_ACCEPTED);
+
+    /* The bus repeats it: the refusal's value is the follower's count, which stays. */
+    taken = follower_take(net, length, follower, follower_words, count, STATION, telegram, sizeof telegram);
+    count = value_of("take it again", taken, EFFBD_NUMBER_PAST);
+    printf("taken so far: %u\n", count);
+
+    /* Too long a wait is held; as many ticks as lack to the earliest end are not. */
+    uint64_t waited = effbd_step(file, sizeof file, leader, leader_words, EFFBD_WAIT, 6);
+    value_of("wait 6", waited, EFFBD_WAIT_HELD);
+    if (effbd_number(waited) == EFFBD_WAIT_HELD) {
+        uint32_t lacking = value_of("step 0", effbd_step(file, sizeof file, leader, leader_words, EFFBD_STEP, 0), EFFBD_TICKS_LACKING);
+        value_of("wait that long", effbd_step(file, sizeof file, leader, leader_words, EFFBD_WAIT, (uint16_t)lacking), EFFBD_ACCEPTED);
+        value_of("step 0", effbd_step(file, sizeof file, leader, leader_words, EFFBD_STEP, 0), EFFBD_ACCEPTED);
+    }
+    value_of("wait 6 of the net", tpn_step(net, length, follower, follower_words, EFFBD_WAIT, 6), EFFBD_WAIT_HELD);
+
+    free(follower);
+    free(leader);
+    free(net);
+    return EXIT_SUCCESS;
 }

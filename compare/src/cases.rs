@@ -1,7 +1,8 @@
 //! One case of each kind, made from random numbers.
 
-use crate::guard::lend;
-use crate::told;
+use crate::calls::{self, equal, hex, End};
+use crate::met::Met;
+use crate::Verdict;
 use model::bus::Telegram;
 use model::generate::{
     bus_list, damaged_diagram, damaged_net, diagram, foreign_net, net_state, odd_state,
@@ -9,30 +10,25 @@ use model::generate::{
 };
 use model::history::{moves_to_try, net_of, Call, History};
 
-/// What a case found: nothing, or how the two differ.
-pub type Verdict = Result<(), String>;
-
-const STATION: u16 = 9;
-
-/// Each kind of case with its name.
-pub const KINDS: [(&str, fn(&mut Random) -> Verdict); 6] = [
-    ("diagram files and translation", diagram_file),
-    ("steps of diagrams", diagram_steps),
-    ("net files", net_file),
-    ("steps of nets", net_steps),
-    ("both bus ends", bus_ends),
-    ("lists of calls", call_list),
-];
-
-fn equal<T: PartialEq + std::fmt::Debug>(what: &str, model: &T, proved: &T) -> Verdict {
-    if model == proved {
-        Ok(())
-    } else {
-        Err(format!(
-            "{what}: the model has {model:?}, the proved function {proved:?}"
-        ))
-    }
+/// A kind of case.
+pub struct Kind {
+    pub name: &'static str,
+    pub case: fn(&mut Random, &mut Met) -> Verdict,
 }
+
+const fn kind(name: &'static str, case: fn(&mut Random, &mut Met) -> Verdict) -> Kind {
+    Kind { name, case }
+}
+
+pub const KINDS: [Kind; 7] = [
+    kind("diagram files and translation", diagram_file),
+    kind("uses of rows", uses_of_rows),
+    kind("steps of diagrams", diagram_steps),
+    kind("net files", net_file),
+    kind("steps of nets", net_steps),
+    kind("both bus ends", bus_ends),
+    kind("lists of calls", call_list),
+];
 
 /// A file: accepted, damaged, or any bytes.
 fn any_diagram(random: &mut Random) -> Vec<u8> {
@@ -43,6 +39,15 @@ fn any_diagram(random: &mut Random) -> Vec<u8> {
             let length = random.below(200);
             random.bytes(length)
         }
+    }
+}
+
+/// A file that is mostly accepted.
+fn likely_diagram(random: &mut Random) -> Vec<u8> {
+    if random.chance(90) {
+        diagram(random)
+    } else {
+        any_diagram(random)
     }
 }
 
@@ -58,16 +63,34 @@ fn any_net(random: &mut Random) -> Vec<u8> {
     }
 }
 
-/// An area of any bytes, its length near `needed` or far from it.
-fn any_area(random: &mut Random, needed: usize) -> Vec<u8> {
-    let length = match random.below(6) {
+/// The length of an area, near `needed` or far from it.
+fn any_area_length(random: &mut Random, needed: usize) -> usize {
+    match random.below(6) {
         0 => needed.saturating_sub(1),
         1 => needed,
         2 => needed + 1,
         3 => random.below(needed + 1),
         _ => needed + random.below(40),
-    };
-    random.bytes(length)
+    }
+}
+
+/// The length of an area for a net: the translator goes another way from 65,535 bytes on.
+fn any_net_area_length(random: &mut Random, needed: usize) -> usize {
+    match random.below(16) {
+        0 => 65_534,
+        1 => 65_535,
+        2 => 65_536,
+        3 => 65_536 + random.below(400_000),
+        _ => any_area_length(random, needed),
+    }
+}
+
+/// An area of any bytes, eight from each draw.
+fn any_area(random: &mut Random, length: usize) -> Vec<u8> {
+    let words = (0..length.div_ceil(8)).map(|_| random.draw().to_le_bytes());
+    let mut area: Vec<u8> = words.flatten().collect();
+    area.truncate(length);
+    area
 }
 
 /// A number of words that is right, or one off.
@@ -80,28 +103,29 @@ fn any_length(random: &mut Random, right: usize) -> usize {
     }
 }
 
-fn diagram_file(random: &mut Random) -> Verdict {
+fn diagram_file(random: &mut Random, met: &mut Met) -> Verdict {
     let file = any_diagram(random);
-    equal(
-        "read a diagram",
-        &told(model::diagram::read(&file)),
-        &effbd::read_diagram(&file),
-    )?;
+    calls::read_diagram(met, &file)?;
     let needed = net_of(&file).map_or(20, |net| net.len());
-    let area = any_area(random, needed);
-    let mut expected = area.clone();
-    let answer = told(model::translate::translate(&file, &mut expected));
-    let (found, after) = lend(&area, 0xA5, |lent| effbd::translate(&file, lent))?;
-    equal("translate", &answer, &found)?;
-    equal("the area of a translation", &expected, &after)?;
+    let length = any_net_area_length(random, needed);
+    calls::translate(met, &file, &any_area(random, length))?;
     let words = model::diagram::read(&file).unwrap_or(7) as usize;
     let length = any_length(random, words);
-    let state = net_state(random, length);
-    let mut expected = state.clone();
-    let answer = told(model::diagram_step::fresh(&file, &mut expected));
-    let (found, after) = lend(&state, 0xA5A5, |lent| effbd::fresh_diagram(&file, lent))?;
-    equal("fresh diagram", &answer, &found)?;
-    equal("the fresh state of a diagram", &expected, &after)
+    calls::fresh_diagram(met, &file, &net_state(random, length))
+}
+
+/// Every row, some that the file does not have, and any.
+fn uses_of_rows(random: &mut Random, _: &mut Met) -> Verdict {
+    let file = if random.chance(70) {
+        diagram(random)
+    } else {
+        any_diagram(random)
+    };
+    let rows = model::diagram::parse(&file).map_or(8, |diagram| diagram.rows.len() as u16);
+    for row in (0..rows + 2).chain([63, 64, 65, 65_535, random.word()]) {
+        calls::uses(&file, row)?;
+    }
+    Ok(())
 }
 
 /// A state of a diagram: reached, passing 20, odd, or any words.
@@ -126,64 +150,23 @@ fn moves(random: &mut Random, file: &[u8], state: &[u16]) -> Vec<(u16, u16)> {
     moves
 }
 
-fn diagram_step(file: &[u8], state: &[u16], code: u16, argument: u16) -> Verdict {
-    let mut expected = state.to_vec();
-    let answer = told(model::diagram_step::step(
-        file,
-        &mut expected,
-        code,
-        argument,
-    ));
-    let (found, after) = lend(state, 0xA5A5, |lent| {
-        effbd::step_diagram(file, lent, code, argument)
-    })?;
-    equal("step of a diagram", &answer, &found)?;
-    equal("the state after a diagram's step", &expected, &after)
-}
-
-fn diagram_steps(random: &mut Random) -> Verdict {
-    let file = if random.chance(90) {
-        diagram(random)
-    } else {
-        any_diagram(random)
-    };
+fn diagram_steps(random: &mut Random, met: &mut Met) -> Verdict {
+    let file = likely_diagram(random);
     let state = any_state(random, &file);
     for (code, argument) in moves(random, &file, &state) {
-        diagram_step(&file, &state, code, argument).map_err(|why| {
-            format!("{why}; file {file:?}, state {state:?}, move {code} {argument}")
-        })?;
+        calls::step_diagram(met, &file, &state, code, argument)?;
     }
     Ok(())
 }
 
-fn net_file(random: &mut Random) -> Verdict {
+fn net_file(random: &mut Random, met: &mut Met) -> Verdict {
     let net = any_net(random);
-    equal(
-        "read a net",
-        &told(model::net::read(&net)),
-        &effbd::read_net(&net),
-    )
-    .map_err(|why| format!("{why}; net {net:?}"))?;
+    calls::read_net(met, &net)?;
     let length = any_length(random, model::net::read(&net).unwrap_or(5) as usize);
-    let state = net_state(random, length);
-    let mut expected = state.clone();
-    let answer = told(model::net_step::fresh(&net, &mut expected));
-    let (found, after) = lend(&state, 0xA5A5, |lent| effbd::fresh_net(&net, lent))?;
-    equal("fresh net", &answer, &found)?;
-    equal("the fresh state of a net", &expected, &after)
+    calls::fresh_net(met, &net, &net_state(random, length))
 }
 
-fn net_step(net: &[u8], state: &[u16], code: u16, argument: u16) -> Verdict {
-    let mut expected = state.to_vec();
-    let answer = told(model::net_step::step(net, &mut expected, code, argument));
-    let (found, after) = lend(state, 0xA5A5, |lent| {
-        effbd::step_net(net, lent, code, argument)
-    })?;
-    equal("step of a net", &answer, &found)?;
-    equal("the state after a net's step", &expected, &after)
-}
-
-fn net_steps(random: &mut Random) -> Verdict {
+fn net_steps(random: &mut Random, met: &mut Met) -> Verdict {
     let net = any_net(random);
     let length = any_length(random, model::net::read(&net).unwrap_or(5) as usize);
     let mut state = net_state(random, length);
@@ -198,9 +181,7 @@ fn net_steps(random: &mut Random) -> Verdict {
         } else {
             random.word()
         };
-        net_step(&net, &state, code, argument).map_err(|why| {
-            format!("{why}; net {net:?}, state {state:?}, move {code} {argument}")
-        })?;
+        calls::step_net(met, &net, &state, code, argument)?;
         let _ = model::net_step::step(&net, &mut state, code, argument);
     }
     Ok(())
@@ -215,56 +196,19 @@ fn any_count(random: &mut Random) -> u32 {
     }
 }
 
-fn offer(file: &[u8], state: &[u16], count: u32, code: u16, argument: u16, area: &[u8]) -> Verdict {
-    let (mut expected, mut expected_area) = (state.to_vec(), area.to_vec());
-    let answer = told(model::bus::offer(
-        file,
-        &mut expected,
-        count,
-        STATION,
-        code,
-        argument,
-        &mut expected_area,
-    ));
-    let (inner, after) = lend(state, 0xA5A5, |state| {
-        lend(area, 0xA5, |area| {
-            effbd::offer(file, state, count, STATION, code, argument, area)
-        })
-    })?;
-    let (found, after_area) = inner?;
-    equal("offer", &answer, &found)?;
-    equal("the leader's state", &expected, &after)?;
-    equal("the leader's area", &expected_area, &after_area)
-}
-
-fn take(net: &[u8], state: &[u16], count: u32, telegram: &[u8]) -> Verdict {
-    let mut expected = state.to_vec();
-    let answer = told(model::bus::take(
-        net,
-        &mut expected,
-        count,
-        STATION,
-        telegram,
-    ));
-    let (found, after) = lend(state, 0xA5A5, |lent| {
-        effbd::take(net, lent, count, STATION, telegram)
-    })?;
-    equal("take", &answer, &found)?;
-    equal("the follower's state", &expected, &after)
-}
-
 /// The telegram that is due, or one that is off in one place.
-fn any_telegram(random: &mut Random, count: u32, code: u16, argument: u16) -> Vec<u8> {
+fn any_telegram(random: &mut Random, end: End, (code, argument): (u16, u16)) -> Vec<u8> {
     let number = match random.below(6) {
-        0 => count,
-        1 => count.wrapping_add(2),
+        0 => end.count,
+        1 => end.count.wrapping_add(2),
         2 => random.draw() as u32,
-        _ => count.wrapping_add(1),
+        _ => end.count.wrapping_add(1),
     };
-    let station = if random.chance(85) {
-        STATION
-    } else {
-        random.word()
+    let station = match random.below(20) {
+        0 => random.word(),
+        1 => end.station.swap_bytes(),
+        2 => end.station ^ (1 << random.below(16)),
+        _ => end.station,
     };
     let mut bytes = Telegram {
         number,
@@ -285,12 +229,8 @@ fn any_telegram(random: &mut Random, count: u32, code: u16, argument: u16) -> Ve
     bytes
 }
 
-fn bus_ends(random: &mut Random) -> Verdict {
-    let file = if random.chance(90) {
-        diagram(random)
-    } else {
-        any_diagram(random)
-    };
+fn bus_ends(random: &mut Random, met: &mut Met) -> Verdict {
+    let file = likely_diagram(random);
     let state = any_state(random, &file);
     let net = if random.chance(80) {
         net_of(&file).unwrap_or_default()
@@ -298,16 +238,16 @@ fn bus_ends(random: &mut Random) -> Verdict {
         any_net(random)
     };
     let marks = model::image::image(&file, &state).unwrap_or_default();
-    for (code, argument) in moves(random, &file, &state) {
-        let count = any_count(random);
-        let area = any_area(random, 14);
-        offer(&file, &state, count, code, argument, &area).map_err(|why| {
-            format!("{why}; file {file:?}, state {state:?}, move {code} {argument}, count {count}")
-        })?;
-        let telegram = any_telegram(random, count, code, argument);
-        take(&net, &marks, count, &telegram).map_err(|why| {
-            format!("{why}; net {net:?}, state {marks:?}, count {count}, bytes {telegram:?}")
-        })?;
+    for made in moves(random, &file, &state) {
+        let end = End {
+            count: any_count(random),
+            station: random.word(),
+        };
+        let length = any_area_length(random, 14);
+        let area = any_area(random, length);
+        calls::offer(met, &file, &state, end, made, &area)?;
+        let telegram = any_telegram(random, end, made);
+        calls::take(met, &net, &marks, end, &telegram)?;
     }
     Ok(())
 }
@@ -330,73 +270,74 @@ fn areas_due(calls: &[Call], history: &History) -> Vec<Vec<u8>> {
     areas
 }
 
-/// A list of calls on both ends, the proved ones beside the model's; and demand 3 on the model's history.
-fn call_list(random: &mut Random) -> Verdict {
+/// A list of calls on both ends, held against the model's history: demand 3 of the proved functions.
+fn call_list(random: &mut Random, met: &mut Met) -> Verdict {
     let file = diagram(random);
-    let net = net_of(&file).map_err(|refusal| format!("{refusal:?}"))?;
-    let calls = bus_list(random, &file, STATION, 40);
-    let words = |answer: model::Answer| {
-        answer
-            .map(|count| vec![0u16; count as usize])
-            .map_err(|refusal| format!("{refusal:?}"))
-    };
-    let mut leader = words(model::diagram::read(&file))?;
-    let mut follower = words(model::net::read(&net))?;
+    let station = random.word();
+    let list = bus_list(random, &file, station, 40);
+    play(met, &file, station, &list).map_err(|why| {
+        let calls: Vec<String> = list.iter().map(spelled).collect();
+        let calls = calls.join("\n");
+        format!("{why}\nfile {}, station {station}\n{calls}", hex(&file))
+    })
+}
+
+fn spelled(call: &Call) -> String {
+    match call {
+        Call::Offer {
+            code,
+            argument,
+            area,
+        } => format!("offer {code} {argument} area {}", hex(area)),
+        Call::Hand { bytes } => format!("hand {}", hex(bytes)),
+    }
+}
+
+fn play(met: &mut Met, file: &[u8], station: u16, list: &[Call]) -> Verdict {
+    let refused = |refusal: model::Refusal| format!("the model refuses: {refusal:?}");
+    let net = net_of(file).map_err(refused)?;
+    let mut leader = vec![0; model::diagram::read(file).map_err(refused)? as usize];
+    let mut follower = vec![0; model::net::read(&net).map_err(refused)? as usize];
     let (mut sent, mut taken) = (0, 0);
-    equal(
-        "fresh leader",
-        &Ok(0),
-        &effbd::fresh_diagram(&file, &mut leader),
-    )?;
-    equal(
-        "fresh follower",
-        &Ok(0),
-        &effbd::fresh_net(&net, &mut follower),
-    )?;
+    let fresh = effbd::fresh_diagram(file, &mut leader);
+    equal("fresh leader", &Ok(0), &fresh)?;
+    let fresh = effbd::fresh_net(&net, &mut follower);
+    equal("fresh follower", &Ok(0), &fresh)?;
     let (mut seen, mut areas) = (Vec::new(), Vec::new());
-    for call in &calls {
-        match call {
+    for call in list {
+        let answer = match call {
             Call::Offer {
                 code,
                 argument,
                 area,
             } => {
                 let mut lent = area.clone();
-                let answer = effbd::offer(
-                    &file,
-                    &mut leader,
-                    sent,
-                    STATION,
-                    *code,
-                    *argument,
-                    &mut lent,
-                );
+                let state = &mut leader;
+                let answer = effbd::offer(file, state, sent, station, *code, *argument, &mut lent);
                 sent = answer.unwrap_or(sent);
-                seen.push(answer.is_ok());
                 areas.push(lent);
+                answer
             }
             Call::Hand { bytes } => {
-                let answer = effbd::take(&net, &mut follower, taken, STATION, bytes);
+                let answer = effbd::take(&net, &mut follower, taken, station, bytes);
                 taken = answer.unwrap_or(taken);
-                seen.push(answer.is_ok());
+                answer
             }
-        }
+        };
+        met.note(answer);
+        seen.push(answer.is_ok());
     }
-    let history = model::history::history(&file, STATION, &calls)
-        .map_err(|refusal| format!("{refusal:?}"))?;
+    let history = model::history::history(file, station, list).map_err(refused)?;
+    let due = areas_due(list, &history);
     equal("accepted and taken, call by call", &history.counted, &seen)?;
-    equal(
-        "the areas of the offers",
-        &areas_due(&calls, &history),
-        &areas,
-    )?;
-    equal("the leader's last state", &history.last().to_vec(), &leader)?;
+    equal("the areas of the offers", &due, &areas)?;
+    equal("the leader's last state", &history.last(), &&leader[..])?;
     equal("the leader's count", &history.added(), &sent)?;
     equal("the follower's count", &history.taken, &taken)?;
     let due = history
         .states
         .get(taken as usize)
-        .and_then(|state| model::image::image(&file, state))
+        .and_then(|state| model::image::image(file, state))
         .unwrap_or_default();
     equal("the follower's state", &due, &follower)
 }

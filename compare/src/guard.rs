@@ -8,10 +8,9 @@ pub fn lend<T: Copy + PartialEq, A>(
     guard: T,
     call: impl FnOnce(&mut [T]) -> A,
 ) -> Result<(A, Vec<T>), String> {
-    let mut memory = vec![guard; WIDTH];
-    memory.extend_from_slice(content);
-    memory.extend(std::iter::repeat(guard).take(WIDTH));
     let end = WIDTH + content.len();
+    let mut memory = vec![guard; end + WIDTH];
+    memory[WIDTH..end].copy_from_slice(content);
     let answer = call(&mut memory[WIDTH..end]);
     let untouched = memory[..WIDTH]
         .iter()

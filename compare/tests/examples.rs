@@ -4,13 +4,10 @@
 use compare::told;
 use effbd::{
     fresh_diagram, fresh_net, read_diagram, read_net, step_diagram, step_net, take, translate,
-    Answer, Refusal,
+    Answer, Refusal, STEP, WAIT,
 };
 use model::bus::Telegram;
 use model::examples;
-
-const STEP: u16 = 1;
-const WAIT: u16 = 2;
 
 fn refused(number: u32, value: u32) -> Answer {
     Err(Refusal { number, value })

@@ -148,6 +148,12 @@ pub fn uses(file: &[u8], row: u16) -> &[u8] {
     }
 }
 
+/// Start and size of the uses of one row, in bytes of the file.
+pub fn uses_place(file: &[u8], row: u16) -> (usize, usize) {
+    let part = uses(file, row);
+    (part.as_ptr().addr() - file.as_ptr().addr(), part.len())
+}
+
 /// Head, items, rows, nothing behind them; then the nesting of the rows.
 pub fn parse(file: &[u8]) -> Result<Diagram<'_>, Refusal> {
     let mut reader = Reader::new(file);

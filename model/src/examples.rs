@@ -70,3 +70,11 @@ pub fn item_given_one(count: u16) -> Vec<u8> {
     let function = function_record(0, 0, &[[0, 0, 1]]);
     file(&[count], &[function, record(END, &[])])
 }
+
+/// The longest net has 63 FUNCTIONs that take and give all 16 items.
+pub fn longest_net() -> Vec<u8> {
+    let uses: Vec<[u16; 3]> = (0..16).map(|item| [item, 1, 1]).collect();
+    let mut rows = vec![function_record(0, 0, &uses); 63];
+    rows.push(record(END, &[]));
+    file(&[1; 16], &rows)
+}

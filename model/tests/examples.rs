@@ -231,13 +231,9 @@ fn rows_64_and_65() {
     assert_eq!(diagram::read(&head_says_64), refused(6, 10 + 64 * 8));
 }
 
-/// The longest net: 63 FUNCTIONs that take and give all 16 items.
 #[test]
 fn longest_net() {
-    let uses: Vec<[u16; 3]> = (0..16).map(|item| [item, 1, 1]).collect();
-    let mut rows = vec![function_record(0, 0, &uses); 63];
-    rows.push(record(END, &[]));
-    let net = net_of(&file(&[1; 16], &rows));
+    let net = net_of(&examples::longest_net());
     assert_eq!(net.len(), 20_660);
     assert_eq!(net::read(&net), Ok(208 + 126));
 }
@@ -449,7 +445,10 @@ fn uses_are_parts_of_the_file() {
     for other_row in [2, 3, 65_535] {
         let other = diagram::uses(&bytes, other_row);
         assert_eq!(other.as_ptr_range(), part(0, 0));
+        assert_eq!(diagram::uses_place(&bytes, other_row), (0, 0));
     }
+    assert_eq!(diagram::uses_place(&bytes, 0), (30, 12));
+    assert_eq!(diagram::uses_place(&bytes, 1), (50, 0));
     let refused_file = &bytes[..bytes.len() - 1];
     let nothing = diagram::uses(refused_file, 0);
     assert_eq!(nothing.as_ptr_range(), part(0, 0));

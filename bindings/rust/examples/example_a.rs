@@ -1,12 +1,16 @@
 //! Example A of document 01 from Rust: a move over the bus, and what is turned away.
 
-use effbd::{fresh_diagram, fresh_net, offer, read_diagram, read_net, step_diagram, take, translate, Refusal};
+use effbd::{
+    fresh_diagram, fresh_net, move_diagram, offer_move, read_diagram, read_net, take, translate,
+    Move, Refusal, NET_ROOM, TELEGRAM_LENGTH,
+};
 
 fn main() -> Result<(), Refusal> {
     let file = [
-        10, 0, 1, 0, 1, 0, 2, 0, 1, 0, 6, 0, 2, 0, 3, 0, 14, 0, 16, 0, 2, 0, 5, 0, 0, 0, 1, 0, 0, 0, 4, 0, 27, 0,
+        10, 0, 1, 0, 1, 0, 2, 0, 1, 0, 6, 0, 2, 0, 3, 0, 14, 0, 16, 0, 2, 0, 5, 0, 0, 0, 1, 0, 0,
+        0, 4, 0, 27, 0,
     ];
-    let mut area = vec![0; 65_536];
+    let mut area = vec![0; NET_ROOM];
     let length = translate(&file, &mut area)? as usize;
     let net = &area[..length];
     let mut leader = vec![0; read_diagram(&file)? as usize];
@@ -15,14 +19,17 @@ fn main() -> Result<(), Refusal> {
     fresh_net(net, &mut follower)?;
 
     let station = 9;
-    let mut telegram = [0; 14];
-    let sent = offer(&file, &mut leader, 0, station, 1, 0, &mut telegram)?;
+    let mut telegram = [0; TELEGRAM_LENGTH];
+    let sent = offer_move(&file, &mut leader, 0, station, Move::Step(0), &mut telegram)?;
     let taken = take(net, &mut follower, 0, station, &telegram)?;
     println!("net {length} bytes, {sent} sent, {taken} taken");
     println!("diagram {leader:?}, net {follower:?}");
 
     // The same telegram again, and an end that comes too early.
-    for refused in [take(net, &mut follower, taken, station, &telegram), step_diagram(&file, &mut leader, 1, 0)] {
+    for refused in [
+        take(net, &mut follower, taken, station, &telegram),
+        move_diagram(&file, &mut leader, Move::Step(0)),
+    ] {
         match refused {
             Ok(value) => println!("accepted: {value}"),
             Err(refusal) => println!("refused: {refusal}"),

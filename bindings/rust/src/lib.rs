@@ -3,48 +3,161 @@
 //! Each function takes whatever bytes, numbers and lent memory it is given, and answers with a value or with a numbered [`Refusal`] of
 //! document 01's table. A refusal alters nothing that was lent. What each call promises is proved in the Rattle crate that has it
 //! (`crates/*/src`); this file only passes lists on as pointer and number of elements.
+//!
+//! A file is looked at first (refusals 1 to 9), then a state (20), the move (21 to 26), the leader's count (27), the area (10). The follower
+//! looks at the telegram (30 to 33) before all of these.
+//!
+//! Example A of document 01, one move over the bus:
+//!
+//! ```
+//! use effbd::{refusal, Move, Refusal};
+//!
+//! let file = [
+//!     10, 0, 1, 0, 1, 0, 2, 0, 1, 0, // head: edition 1, 2 rows, 1 item
+//!     6, 0, 2, 0, 3, 0, // item: 3
+//!     14, 0, 16, 0, 2, 0, 5, 0, 0, 0, 1, 0, 0, 0, // FUNCTION: 2 to 5 ticks, takes 1 of item 0
+//!     4, 0, 27, 0, // END
+//! ];
+//! let mut area = vec![0; effbd::NET_ROOM];
+//! let length = effbd::translate(&file, &mut area)? as usize;
+//! let net = &area[..length];
+//! let mut leader = vec![0; effbd::read_diagram(&file)? as usize];
+//! let mut follower = vec![0; effbd::read_net(net)? as usize];
+//! effbd::fresh_diagram(&file, &mut leader)?;
+//! effbd::fresh_net(net, &mut follower)?;
+//!
+//! let station = 9;
+//! let mut telegram = [0; effbd::TELEGRAM_LENGTH];
+//! let sent = effbd::offer_move(&file, &mut leader, 0, station, Move::Step(0), &mut telegram)?;
+//! let taken = effbd::take(net, &mut follower, 0, station, &telegram)?;
+//! assert_eq!((sent, taken), (1, 1));
+//!
+//! // The bus repeats the telegram: refused with the follower's count, and nothing changes.
+//! let again = effbd::take(net, &mut follower, taken, station, &telegram);
+//! assert_eq!(again, Err(Refusal { number: refusal::NUMBER_PAST, value: 1 }));
+//! # Ok::<(), Refusal>(())
+//! ```
 
 use std::fmt;
+use std::ops::Range;
+
+/// Rows of a diagram, at most.
+pub const MOST_ROWS: usize = 64;
+/// Items of a diagram, at most.
+pub const MOST_ITEMS: usize = 16;
+/// Places of a net, at most.
+pub const MOST_PLACES: usize = 208;
+/// Transitions of a net, at most.
+pub const MOST_TRANSITIONS: usize = 128;
+/// Words of a diagram's state, at most: 3 for each row, 1 for each item.
+pub const MOST_STATE_WORDS: usize = 3 * MOST_ROWS + MOST_ITEMS;
+/// Words of a net's state, at most: 1 for each place, 1 for each transition.
+pub const MOST_NET_STATE_WORDS: usize = MOST_PLACES + MOST_TRANSITIONS;
+/// Bytes that have room for the net of any diagram.
+pub const NET_ROOM: usize = 65_536;
+/// Bytes of a telegram.
+pub const TELEGRAM_LENGTH: usize = 14;
+
+/// Move code of a step.
+pub const STEP: u16 = 1;
+/// Move code of a wait.
+pub const WAIT: u16 = 2;
+
+/// A move with a code that exists. The calls that take a code and an argument try any.
+///
+/// ```
+/// use effbd::{refusal, Move, Refusal};
+///
+/// let end_alone = [10, 0, 1, 0, 1, 0, 1, 0, 0, 0, 4, 0, 27, 0];
+/// let mut state = [0; 3];
+/// effbd::fresh_diagram(&end_alone, &mut state)?;
+/// effbd::move_diagram(&end_alone, &mut state, Move::Wait(65_535))?;
+/// let stepped = effbd::move_diagram(&end_alone, &mut state, Move::Step(0));
+/// assert_eq!(stepped, Err(Refusal { number: refusal::NOT_STANDING, value: 0 }));
+/// let off = effbd::step_diagram(&end_alone, &mut state, 3, 0);
+/// assert_eq!(off, Err(Refusal { number: refusal::CODE_OFF, value: 0 }));
+/// # Ok::<(), Refusal>(())
+/// ```
+#[derive(Clone, Copy, PartialEq, Eq, Debug)]
+pub enum Move {
+    /// A step of this row of a diagram, of this label of a net.
+    Step(u16),
+    /// A wait of so many ticks of 0.1 s; 0 ticks are refused.
+    Wait(u16),
+}
+
+impl Move {
+    /// Its code: [`STEP`] or [`WAIT`].
+    pub fn code(self) -> u16 {
+        match self {
+            Move::Step(_) => STEP,
+            Move::Wait(_) => WAIT,
+        }
+    }
+
+    /// Its row, label or ticks.
+    pub fn argument(self) -> u16 {
+        match self {
+            Move::Step(argument) | Move::Wait(argument) => argument,
+        }
+    }
+}
 
 /// A row of document 01's table "Returned when turned away": its number, and the value that is returned with it.
 #[derive(Clone, Copy, PartialEq, Eq, Debug)]
 pub struct Refusal {
+    /// One of [`refusal`]'s.
     pub number: u32,
+    /// An offset, row, item, count ..: what the table says for the number.
     pub value: u32,
 }
 
 /// A value, or a refusal.
 pub type Answer = Result<u32, Refusal>;
 
-impl Refusal {
-    /// The refusal's number in words.
-    pub fn words(self) -> &'static str {
-        match self.number {
-            1 => "cut short",
-            2 => "kind not due here",
-            3 => "length wrong for kind",
-            4 => "head value off",
-            5 => "field off",
-            6 => "bytes after the last record",
-            7 => "nesting broken",
-            8 => "LE misplaced",
-            9 => "a 13th open",
-            10 => "area too short",
-            20 => "state off",
-            21 => "no move",
-            22 => "step not standing",
-            23 => "item short",
-            24 => "ticks lacking",
-            25 => "sum above 65,535",
-            26 => "wait held",
-            27 => "leader's count full",
-            30 => "no telegram",
-            31 => "other station",
-            32 => "number at or below count",
-            33 => "number above count + 1",
-            _ => "no number of the table",
+/// A constant for each number, and its words.
+macro_rules! refusals {
+    ($($number:literal $name:ident $words:literal)*) => {
+        /// The refusals' numbers, as refusals.txt at the repository's root lists them.
+        pub mod refusal {
+            $(#[doc = $words] pub const $name: u32 = $number;)*
         }
-    }
+
+        impl Refusal {
+            /// The refusal's number in words.
+            pub fn words(self) -> &'static str {
+                match self.number {
+                    $(refusal::$name => $words,)*
+                    _ => "no number of the table",
+                }
+            }
+        }
+    };
+}
+
+refusals! {
+    1 CUT_SHORT "cut short"
+    2 KIND_NOT_DUE "kind not due here"
+    3 LENGTH_WRONG "length wrong for kind"
+    4 HEAD_VALUE_OFF "head value off"
+    5 FIELD_OFF "field off"
+    6 BYTES_AFTER_LAST "bytes after the last record"
+    7 NESTING_BROKEN "nesting broken"
+    8 LOOP_EXIT_MISPLACED "LE misplaced"
+    9 TOO_MANY_OPEN "a 13th open"
+    10 AREA_SHORT "area too short"
+    20 STATE_OFF "state off"
+    21 CODE_OFF "no move"
+    22 NOT_STANDING "step not standing"
+    23 ITEM_SHORT "item short"
+    24 TICKS_LACKING "ticks lacking"
+    25 SUM_TOO_LARGE "sum above 65,535"
+    26 WAIT_HELD "wait held"
+    27 COUNT_FULL "leader's count full"
+    30 NO_TELEGRAM "no telegram"
+    31 OTHER_STATION "other station"
+    32 NUMBER_PAST "number at or below count"
+    33 NUMBER_AHEAD "number above count + 1"
 }
 
 impl fmt::Display for Refusal {
@@ -58,13 +171,42 @@ impl std::error::Error for Refusal {}
 mod proved {
     extern "C" {
         pub fn effbd_read(file: *const u8, file_count: usize) -> u64;
-        pub fn effbd_fresh(file: *const u8, file_count: usize, state: *mut u16, state_count: usize) -> u64;
-        pub fn effbd_step(file: *const u8, file_count: usize, state: *mut u16, state_count: usize, code: u16, argument: u16) -> u64;
-        pub fn effbd_translate(file: *const u8, file_count: usize, area: *mut u8, area_count: usize) -> u64;
+        pub fn effbd_uses(file: *const u8, file_count: usize, row: u16) -> u64;
+        pub fn effbd_fresh(
+            file: *const u8,
+            file_count: usize,
+            state: *mut u16,
+            state_count: usize,
+        ) -> u64;
+        pub fn effbd_step(
+            file: *const u8,
+            file_count: usize,
+            state: *mut u16,
+            state_count: usize,
+            code: u16,
+            argument: u16,
+        ) -> u64;
+        pub fn effbd_translate(
+            file: *const u8,
+            file_count: usize,
+            area: *mut u8,
+            area_count: usize,
+        ) -> u64;
         pub fn tpn_read(net: *const u8, net_count: usize) -> u64;
-        pub fn tpn_fresh(net: *const u8, net_count: usize, state: *mut u16, state_count: usize) -> u64;
-        pub fn tpn_step(net: *const u8, net_count: usize, state: *mut u16, state_count: usize, code: u16, argument: u16) -> u64;
-        #[allow(clippy::too_many_arguments)]
+        pub fn tpn_fresh(
+            net: *const u8,
+            net_count: usize,
+            state: *mut u16,
+            state_count: usize,
+        ) -> u64;
+        pub fn tpn_step(
+            net: *const u8,
+            net_count: usize,
+            state: *mut u16,
+            state_count: usize,
+            code: u16,
+            argument: u16,
+        ) -> u64;
         pub fn leader_offer(
             file: *const u8,
             file_count: usize,
@@ -77,7 +219,6 @@ mod proved {
             area: *mut u8,
             area_count: usize,
         ) -> u64;
-        #[allow(clippy::too_many_arguments)]
         pub fn follower_take(
             net: *const u8,
             net_count: usize,
@@ -106,44 +247,133 @@ pub fn read_diagram(file: &[u8]) -> Answer {
     answer(unsafe { proved::effbd_read(file.as_ptr(), file.len()) })
 }
 
-/// The fresh state of a diagram. Accepted: 0.
+/// The uses of FUNCTION row `row`, 6 bytes a use (item, take, give): the very bytes of the file. A refused file, a row of another kind and a
+/// row that the file does not have: an empty part at the file's start.
+///
+/// ```
+/// let file = [
+///     10, 0, 1, 0, 1, 0, 2, 0, 1, 0, 6, 0, 2, 0, 3, 0, 14, 0, 16, 0, 2, 0, 5, 0, 0, 0, 1, 0, 0, 0, 4,
+///     0, 27, 0,
+/// ];
+/// assert_eq!(effbd::uses(&file, 0), [0, 0, 1, 0, 0, 0]);
+/// assert_eq!(effbd::uses_range(&file, 0), 24..30);
+/// assert_eq!(effbd::uses_range(&file, 1), 0..0);
+/// ```
+pub fn uses(file: &[u8], row: u16) -> &[u8] {
+    &file[uses_range(file, row)]
+}
+
+/// Where the uses of FUNCTION row `row` stand in the file. A FUNCTION without uses has the empty range where they would stand; a refused
+/// file, a row of another kind and a row that the file does not have: `0..0`.
+pub fn uses_range(file: &[u8], row: u16) -> Range<usize> {
+    // SAFETY: as in `read_diagram`.
+    let part = unsafe { proved::effbd_uses(file.as_ptr(), file.len(), row) };
+    let (start, size) = ((part >> 32) as usize, part as u32 as usize);
+    start..start + size
+}
+
+/// The fresh state of a diagram, into all words of `state`. Accepted: 0.
+///
+/// A number of words other than [`read_diagram`] answers is [`refusal::STATE_OFF`].
 pub fn fresh_diagram(file: &[u8], state: &mut [u16]) -> Answer {
     // SAFETY: as in `read_diagram`; the mutable slice is borrowed for the call alone.
-    answer(unsafe { proved::effbd_fresh(file.as_ptr(), file.len(), state.as_mut_ptr(), state.len()) })
+    answer(unsafe {
+        proved::effbd_fresh(file.as_ptr(), file.len(), state.as_mut_ptr(), state.len())
+    })
 }
 
-/// Code 1 steps row `argument` of a diagram, code 2 waits `argument` ticks. Accepted: 0.
+/// [`STEP`] steps row `argument` of a diagram, [`WAIT`] waits `argument` ticks; any other code is refused. Accepted: 0.
+///
+/// [`refusal::STATE_OFF`]: a number of words other than [`read_diagram`] answers, or words that are no state of this diagram.
 pub fn step_diagram(file: &[u8], state: &mut [u16], code: u16, argument: u16) -> Answer {
     // SAFETY: as in `fresh_diagram`.
-    answer(unsafe { proved::effbd_step(file.as_ptr(), file.len(), state.as_mut_ptr(), state.len(), code, argument) })
+    answer(unsafe {
+        proved::effbd_step(
+            file.as_ptr(),
+            file.len(),
+            state.as_mut_ptr(),
+            state.len(),
+            code,
+            argument,
+        )
+    })
 }
 
-/// The net of a diagram, into the first bytes of an area. Accepted: the net's length.
+/// [`step_diagram`] with a [`Move`].
+pub fn move_diagram(file: &[u8], state: &mut [u16], made: Move) -> Answer {
+    step_diagram(file, state, made.code(), made.argument())
+}
+
+/// The net of a diagram, into the first bytes of an area; those beyond the net keep their values. Accepted: the net's length.
+///
+/// [`refusal::AREA_SHORT`] returns the bytes needed:
+///
+/// ```
+/// use effbd::{refusal, Refusal};
+///
+/// let end_alone = [10, 0, 1, 0, 1, 0, 1, 0, 0, 0, 4, 0, 27, 0];
+/// let short = effbd::translate(&end_alone, &mut []);
+/// assert_eq!(short, Err(Refusal { number: refusal::AREA_SHORT, value: 26 }));
+/// let mut area = [7; 30];
+/// assert_eq!(effbd::translate(&end_alone, &mut area), Ok(26));
+/// assert_eq!(area[26..], [7; 4]);
+/// ```
 pub fn translate(file: &[u8], area: &mut [u8]) -> Answer {
     // SAFETY: as in `fresh_diagram`.
-    answer(unsafe { proved::effbd_translate(file.as_ptr(), file.len(), area.as_mut_ptr(), area.len()) })
+    answer(unsafe {
+        proved::effbd_translate(file.as_ptr(), file.len(), area.as_mut_ptr(), area.len())
+    })
 }
 
-/// A net file. Accepted: the number of words of its state, places and transitions.
+/// A net file: just the net's bytes, without the rest of the area. Accepted: the number of words of its state, places and transitions.
 pub fn read_net(net: &[u8]) -> Answer {
     // SAFETY: as in `read_diagram`.
     answer(unsafe { proved::tpn_read(net.as_ptr(), net.len()) })
 }
 
-/// The fresh state of a net. Accepted: 0.
+/// The fresh state of a net, into all words of `state`. Accepted: 0.
+///
+/// A number of words other than [`read_net`] answers is [`refusal::STATE_OFF`].
 pub fn fresh_net(net: &[u8], state: &mut [u16]) -> Answer {
     // SAFETY: as in `fresh_diagram`.
     answer(unsafe { proved::tpn_fresh(net.as_ptr(), net.len(), state.as_mut_ptr(), state.len()) })
 }
 
-/// Code 1 steps label `argument` of a net, code 2 waits `argument` ticks. Accepted: 0.
+/// [`STEP`] steps label `argument` of a net, [`WAIT`] waits `argument` ticks; any other code is refused. Accepted: 0.
+///
+/// [`refusal::STATE_OFF`]: a number of words other than [`read_net`] answers; any words of that number are a state of the net.
 pub fn step_net(net: &[u8], state: &mut [u16], code: u16, argument: u16) -> Answer {
     // SAFETY: as in `fresh_diagram`.
-    answer(unsafe { proved::tpn_step(net.as_ptr(), net.len(), state.as_mut_ptr(), state.len(), code, argument) })
+    answer(unsafe {
+        proved::tpn_step(
+            net.as_ptr(),
+            net.len(),
+            state.as_mut_ptr(),
+            state.len(),
+            code,
+            argument,
+        )
+    })
 }
 
-/// The leader's call: a move that is accepted is written as a telegram into the first 14 bytes of the area. Accepted: the new count.
-pub fn offer(file: &[u8], state: &mut [u16], count: u32, station: u16, code: u16, argument: u16, area: &mut [u8]) -> Answer {
+/// [`step_net`] with a [`Move`].
+pub fn move_net(net: &[u8], state: &mut [u16], made: Move) -> Answer {
+    step_net(net, state, made.code(), made.argument())
+}
+
+/// The leader's call: makes the move as [`step_diagram`] does, with its refusals, and writes its telegram, numbered `count + 1`, into the
+/// first [`TELEGRAM_LENGTH`] bytes of the area; those beyond keep their values. Accepted: the new count.
+///
+/// [`refusal::COUNT_FULL`]: the count is [`u32::MAX`]; [`refusal::AREA_SHORT`]: the area has fewer bytes. The move is then not made.
+pub fn offer(
+    file: &[u8],
+    state: &mut [u16],
+    count: u32,
+    station: u16,
+    code: u16,
+    argument: u16,
+    area: &mut [u8],
+) -> Answer {
     // SAFETY: as in `fresh_diagram`; state and area are two slices, so they do not overlap.
     answer(unsafe {
         proved::leader_offer(
@@ -161,7 +391,24 @@ pub fn offer(file: &[u8], state: &mut [u16], count: u32, station: u16, code: u16
     })
 }
 
-/// The follower's call: bytes that came over the bus. Accepted: the new count.
+/// [`offer`] with a [`Move`].
+pub fn offer_move(
+    file: &[u8],
+    state: &mut [u16],
+    count: u32,
+    station: u16,
+    made: Move,
+    area: &mut [u8],
+) -> Answer {
+    let (code, argument) = (made.code(), made.argument());
+    offer(file, state, count, station, code, argument, area)
+}
+
+/// The follower's call: bytes that came over the bus. A telegram of this station numbered `count + 1` makes its move as [`step_net`] does,
+/// with its refusals. Accepted: the new count.
+///
+/// Other bytes are refused before net and state are looked at: [`refusal::NO_TELEGRAM`], [`refusal::OTHER_STATION`],
+/// [`refusal::NUMBER_PAST`] (a repeat), [`refusal::NUMBER_AHEAD`] (one was lost).
 pub fn take(net: &[u8], state: &mut [u16], count: u32, station: u16, telegram: &[u8]) -> Answer {
     // SAFETY: as in `fresh_diagram`.
     answer(unsafe {

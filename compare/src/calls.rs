@@ -1,0 +1,235 @@
+//! Each exported function beside the model's: the same answer, the same lent memory afterwards. What differs is told with the call's whole
+//! input: bytes in hexadecimal, words and numbers in decimal.
+
+use crate::guard::lend;
+use crate::met::Met;
+use crate::{told, Verdict};
+use effbd::Answer;
+use std::fmt::{Debug, Write};
+
+/// Guards that are no likely content.
+const BYTE_GUARD: u8 = 0xA5;
+const WORD_GUARD: u16 = 0xA5A5;
+
+pub fn equal<T: PartialEq + Debug>(what: &str, model: &T, proved: &T) -> Verdict {
+    if model == proved {
+        Ok(())
+    } else {
+        Err(format!(
+            "{what}: the model has {model:?}, the proved function {proved:?}"
+        ))
+    }
+}
+
+/// Two areas of one length; they may be long, so the first byte that differs is told.
+fn equal_areas(model: &[u8], proved: &[u8]) -> Verdict {
+    let mut pairs = model.iter().zip(proved);
+    match pairs.position(|(expected, found)| expected != found) {
+        None => Ok(()),
+        Some(at) => equal(&format!("byte {at} of the area"), &model[at], &proved[at]),
+    }
+}
+
+pub fn hex(bytes: &[u8]) -> String {
+    bytes.iter().fold(String::new(), |mut text, byte| {
+        // Writing to a String does not fail.
+        let _ = write!(text, "{byte:02x}");
+        text
+    })
+}
+
+pub fn read_diagram(met: &mut Met, file: &[u8]) -> Verdict {
+    let found = effbd::read_diagram(file);
+    met.note(found);
+    equal("read a diagram", &told(model::diagram::read(file)), &found)
+        .map_err(|why| format!("{why}\nfile {}", hex(file)))
+}
+
+/// The range, and the very bytes of the file.
+pub fn uses(file: &[u8], row: u16) -> Verdict {
+    let expected = model::diagram::uses(file, row);
+    let found = effbd::uses(file, row);
+    equal(
+        "start and size of a row's uses",
+        &model::diagram::uses_place(file, row),
+        &start_and_size(effbd::uses_range(file, row)),
+    )
+    .and_then(|()| equal("a row's uses", &expected, &found))
+    .and_then(|()| {
+        equal(
+            "where a row's uses stand",
+            &expected.as_ptr(),
+            &found.as_ptr(),
+        )
+    })
+    .map_err(|why| format!("{why}\nfile {}, row {row}", hex(file)))
+}
+
+fn start_and_size(range: std::ops::Range<usize>) -> (usize, usize) {
+    (range.start, range.len())
+}
+
+pub fn translate(met: &mut Met, file: &[u8], area: &[u8]) -> Verdict {
+    let mut expected = area.to_vec();
+    let answer = told(model::translate::translate(file, &mut expected));
+    lend(area, BYTE_GUARD, |lent| effbd::translate(file, lent))
+        .and_then(|(found, after)| {
+            met.note(found);
+            equal("translate", &answer, &found)?;
+            equal_areas(&expected, &after)
+        })
+        .map_err(|why| format!("{why}\nfile {}, area of {} bytes", hex(file), area.len()))
+}
+
+/// A call that is lent a state, by the model and proved.
+fn with_state(
+    met: &mut Met,
+    what: &str,
+    state: &[u16],
+    by_model: impl FnOnce(&mut [u16]) -> model::Answer,
+    proved: impl FnOnce(&mut [u16]) -> Answer,
+) -> Verdict {
+    let mut expected = state.to_vec();
+    let answer = told(by_model(&mut expected));
+    let (found, after) = lend(state, WORD_GUARD, proved)?;
+    met.note(found);
+    equal(what, &answer, &found)?;
+    equal(&format!("{what}, the state"), &expected, &after)
+}
+
+pub fn fresh_diagram(met: &mut Met, file: &[u8], state: &[u16]) -> Verdict {
+    with_state(
+        met,
+        "fresh diagram",
+        state,
+        |lent| model::diagram_step::fresh(file, lent),
+        |lent| effbd::fresh_diagram(file, lent),
+    )
+    .map_err(|why| format!("{why}\nfile {}, state {state:?}", hex(file)))
+}
+
+pub fn step_diagram(
+    met: &mut Met,
+    file: &[u8],
+    state: &[u16],
+    code: u16,
+    argument: u16,
+) -> Verdict {
+    with_state(
+        met,
+        "step of a diagram",
+        state,
+        |lent| model::diagram_step::step(file, lent, code, argument),
+        |lent| effbd::step_diagram(file, lent, code, argument),
+    )
+    .map_err(|why| {
+        format!(
+            "{why}\nfile {}, state {state:?}, code {code}, argument {argument}",
+            hex(file)
+        )
+    })
+}
+
+pub fn read_net(met: &mut Met, net: &[u8]) -> Verdict {
+    let found = effbd::read_net(net);
+    met.note(found);
+    equal("read a net", &told(model::net::read(net)), &found)
+        .map_err(|why| format!("{why}\nnet {}", hex(net)))
+}
+
+pub fn fresh_net(met: &mut Met, net: &[u8], state: &[u16]) -> Verdict {
+    with_state(
+        met,
+        "fresh net",
+        state,
+        |lent| model::net_step::fresh(net, lent),
+        |lent| effbd::fresh_net(net, lent),
+    )
+    .map_err(|why| format!("{why}\nnet {}, state {state:?}", hex(net)))
+}
+
+pub fn step_net(met: &mut Met, net: &[u8], state: &[u16], code: u16, argument: u16) -> Verdict {
+    with_state(
+        met,
+        "step of a net",
+        state,
+        |lent| model::net_step::step(net, lent, code, argument),
+        |lent| effbd::step_net(net, lent, code, argument),
+    )
+    .map_err(|why| {
+        format!(
+            "{why}\nnet {}, state {state:?}, code {code}, argument {argument}",
+            hex(net)
+        )
+    })
+}
+
+/// What an end of the bus has besides its file and state.
+#[derive(Clone, Copy, Debug)]
+pub struct End {
+    pub count: u32,
+    pub station: u16,
+}
+
+pub fn offer(
+    met: &mut Met,
+    file: &[u8],
+    state: &[u16],
+    End { count, station }: End,
+    (code, argument): (u16, u16),
+    area: &[u8],
+) -> Verdict {
+    let (mut expected, mut expected_area) = (state.to_vec(), area.to_vec());
+    let answer = told(model::bus::offer(
+        file,
+        &mut expected,
+        count,
+        station,
+        code,
+        argument,
+        &mut expected_area,
+    ));
+    let proved = lend(state, WORD_GUARD, |state| {
+        lend(area, BYTE_GUARD, |area| {
+            effbd::offer(file, state, count, station, code, argument, area)
+        })
+    });
+    proved
+        .and_then(|(answered, after)| {
+            let (found, after_area) = answered?;
+            met.note(found);
+            equal("offer", &answer, &found)?;
+            equal("offer, the state", &expected, &after)?;
+            equal_areas(&expected_area, &after_area)
+        })
+        .map_err(|why| {
+            format!(
+                "{why}\nfile {}, state {state:?}, count {count}, station {station}, code {code}, argument {argument}, area of {} bytes",
+                hex(file),
+                area.len()
+            )
+        })
+}
+
+pub fn take(
+    met: &mut Met,
+    net: &[u8],
+    state: &[u16],
+    End { count, station }: End,
+    telegram: &[u8],
+) -> Verdict {
+    with_state(
+        met,
+        "take",
+        state,
+        |lent| model::bus::take(net, lent, count, station, telegram),
+        |lent| effbd::take(net, lent, count, station, telegram),
+    )
+    .map_err(|why| {
+        format!(
+            "{why}\nnet {}, state {state:?}, count {count}, station {station}, telegram {}",
+            hex(net),
+            hex(telegram)
+        )
+    })
+}

@@ -1,0 +1,52 @@
+//! Which answers a run has met, held against the list of refusals.
+
+use effbd::Answer;
+use std::collections::BTreeMap;
+
+/// Number and name of each refusal of refusals.txt.
+pub fn listed() -> impl Iterator<Item = (u32, &'static str)> {
+    let lines = include_str!("../../refusals.txt").lines();
+    lines.filter(|line| !line.starts_with('#')).map(|line| {
+        let mut fields = line.split('\t');
+        let number = fields.next().and_then(|field| field.parse().ok());
+        number
+            .zip(fields.next())
+            .expect("a line of refusals.txt has a number and a name")
+    })
+}
+
+/// How often each number was answered; 0 is accepted.
+#[derive(Default)]
+pub struct Met {
+    times: BTreeMap<u32, u64>,
+}
+
+impl Met {
+    pub fn note(&mut self, answer: Answer) {
+        let number = answer.map_or_else(|refusal| refusal.number, |_| 0);
+        *self.times.entry(number).or_default() += 1;
+    }
+
+    fn times(&self, number: u32) -> u64 {
+        self.times.get(&number).copied().unwrap_or_default()
+    }
+
+    /// Calls that gave an answer.
+    pub fn calls(&self) -> u64 {
+        self.times.values().sum()
+    }
+
+    /// The refusals that no call was answered with.
+    pub fn missing(&self) -> Vec<(u32, &'static str)> {
+        listed()
+            .filter(|(number, _)| self.times(*number) == 0)
+            .collect()
+    }
+
+    /// The refusal that came least often: times, number, name.
+    pub fn rarest(&self) -> Option<(u64, u32, &'static str)> {
+        listed()
+            .map(|(number, name)| (self.times(number), number, name))
+            .min()
+    }
+}

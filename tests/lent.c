@@ -1,0 +1,167 @@
+/* What bindings/c/effbd.h says of lent memory, tried: empty lists as (NULL, 0), bytes beyond a result, a wrong number of words, and that the
+ * constants have room for the largest diagrams and nets. Says what does not hold; exit status 1 then. */
+#include "../bindings/c/effbd.h"
+#include <stdio.h>
+#include <string.h>
+
+static int wrong = 0;
+
+static void is(const char *what, uint64_t answer, uint32_t number, uint32_t value) {
+    if (effbd_number(answer) != number || effbd_value(answer) != value) {
+        printf("lent.c: %s: %u %u, not %u %u\n", what, effbd_number(answer), effbd_value(answer), number, value);
+        wrong = 1;
+    }
+}
+#define IS(call, number, value) is(#call, call, number, value)
+
+static void holds(const char *what, int it_does) {
+    if (!it_does) {
+        printf("lent.c: not so: %s\n", what);
+        wrong = 1;
+    }
+}
+#define HOLDS(condition) holds(#condition, condition)
+
+/* Example B of document 01, END alone, with its net and both states. */
+static const uint8_t file[14] = {10, 0, 1, 0, 1, 0, 1, 0, 0, 0, 4, 0, 27, 0};
+enum { NET = 26, WORDS = 3, STATION = 9, BEYOND = 6, FILLED = 7 };
+static uint8_t net[NET];
+static uint16_t state[WORDS], marks[WORDS];
+
+static void fresh(void) {
+    IS(effbd_translate(file, sizeof file, net, NET), EFFBD_ACCEPTED, NET);
+    IS(effbd_fresh(file, sizeof file, state, WORDS), EFFBD_ACCEPTED, 0);
+    IS(tpn_fresh(net, NET, marks, WORDS), EFFBD_ACCEPTED, 0);
+}
+
+static void empty_lists(void) {
+    uint8_t telegram[EFFBD_TELEGRAM_LENGTH];
+    IS(effbd_read(NULL, 0), EFFBD_CUT_SHORT, 0);
+    HOLDS(effbd_uses(NULL, 0, 0) == 0);
+    IS(effbd_fresh(NULL, 0, NULL, 0), EFFBD_CUT_SHORT, 0);
+    IS(effbd_fresh(file, sizeof file, NULL, 0), EFFBD_STATE_OFF, 0);
+    IS(effbd_step(NULL, 0, NULL, 0, EFFBD_WAIT, 1), EFFBD_CUT_SHORT, 0);
+    IS(effbd_step(file, sizeof file, NULL, 0, EFFBD_WAIT, 1), EFFBD_STATE_OFF, 0);
+    IS(effbd_translate(NULL, 0, NULL, 0), EFFBD_CUT_SHORT, 0);
+    IS(effbd_translate(file, sizeof file, NULL, 0), EFFBD_AREA_SHORT, NET);
+    IS(tpn_read(NULL, 0), EFFBD_CUT_SHORT, 0);
+    IS(tpn_fresh(NULL, 0, NULL, 0), EFFBD_CUT_SHORT, 0);
+    IS(tpn_fresh(net, NET, NULL, 0), EFFBD_STATE_OFF, 0);
+    IS(tpn_step(NULL, 0, NULL, 0, EFFBD_WAIT, 1), EFFBD_CUT_SHORT, 0);
+    IS(tpn_step(net, NET, NULL, 0, EFFBD_WAIT, 1), EFFBD_STATE_OFF, 0);
+    IS(leader_offer(NULL, 0, NULL, 0, 0, STATION, EFFBD_WAIT, 1, NULL, 0), EFFBD_CUT_SHORT, 0);
+    IS(leader_offer(file, sizeof file, NULL, 0, 0, STATION, EFFBD_WAIT, 1, NULL, 0), EFFBD_STATE_OFF, 0);
+    IS(leader_offer(file, sizeof file, state, WORDS, 0, STATION, EFFBD_WAIT, 1, NULL, 0), EFFBD_AREA_SHORT, EFFBD_TELEGRAM_LENGTH);
+    IS(leader_offer(file, sizeof file, state, WORDS, UINT32_MAX, STATION, EFFBD_WAIT, 1, NULL, 0), EFFBD_COUNT_FULL, UINT32_MAX);
+    IS(leader_offer(file, sizeof file, state, WORDS, 0, STATION, EFFBD_WAIT, 1, telegram, sizeof telegram), EFFBD_ACCEPTED, 1);
+    IS(follower_take(NULL, 0, NULL, 0, 0, STATION, NULL, 0), EFFBD_NO_TELEGRAM, 0);
+    IS(follower_take(net, NET, marks, WORDS, 0, STATION, NULL, 0), EFFBD_NO_TELEGRAM, 0);
+    IS(follower_take(NULL, 0, NULL, 0, 0, STATION, telegram, sizeof telegram), EFFBD_CUT_SHORT, 0);
+    IS(follower_take(net, NET, NULL, 0, 0, STATION, telegram, sizeof telegram), EFFBD_STATE_OFF, 0);
+}
+
+/* So many bytes from here on have the value that they were filled with. */
+static int kept(const uint8_t *bytes, size_t count) {
+    for (size_t at = 0; at < count; at++) {
+        if (bytes[at] != FILLED) {
+            return 0;
+        }
+    }
+    return 1;
+}
+
+static void beyond_the_result(void) {
+    uint8_t area[NET + BEYOND];
+    memset(area, FILLED, sizeof area);
+    IS(effbd_translate(file, sizeof file, area, NET - 1), EFFBD_AREA_SHORT, NET);
+    IS(effbd_translate(file, sizeof file - 1, area, sizeof area), EFFBD_CUT_SHORT, 10);
+    HOLDS(kept(area, sizeof area));
+    IS(effbd_translate(file, sizeof file, area, sizeof area), EFFBD_ACCEPTED, NET);
+    HOLDS(memcmp(area, net, NET) == 0 && kept(area + NET, BEYOND));
+
+    memset(area, FILLED, sizeof area);
+    IS(leader_offer(file, sizeof file, state, WORDS, 0, STATION, EFFBD_WAIT, 1, area, EFFBD_TELEGRAM_LENGTH - 1), EFFBD_AREA_SHORT,
+       EFFBD_TELEGRAM_LENGTH);
+    IS(leader_offer(file, sizeof file, state, WORDS, 0, STATION, EFFBD_STEP, 0, area, sizeof area), EFFBD_NOT_STANDING, 0);
+    HOLDS(kept(area, sizeof area));
+    IS(leader_offer(file, sizeof file, state, WORDS, 0, STATION, EFFBD_WAIT, 1, area, sizeof area), EFFBD_ACCEPTED, 1);
+    HOLDS(area[0] == EFFBD_TELEGRAM_LENGTH && kept(area + EFFBD_TELEGRAM_LENGTH, sizeof area - EFFBD_TELEGRAM_LENGTH));
+}
+
+static void wrong_number_of_words(void) {
+    uint16_t words[WORDS + 1] = {FILLED, FILLED, FILLED, FILLED};
+    uint8_t telegram[EFFBD_TELEGRAM_LENGTH];
+    IS(leader_offer(file, sizeof file, state, WORDS, 0, STATION, EFFBD_WAIT, 1, telegram, sizeof telegram), EFFBD_ACCEPTED, 1);
+    for (size_t count = WORDS - 1; count <= WORDS + 1; count += 2) {
+        IS(effbd_fresh(file, sizeof file, words, count), EFFBD_STATE_OFF, 0);
+        IS(effbd_step(file, sizeof file, words, count, EFFBD_WAIT, 1), EFFBD_STATE_OFF, 0);
+        IS(tpn_fresh(net, NET, words, count), EFFBD_STATE_OFF, 0);
+        IS(tpn_step(net, NET, words, count, EFFBD_WAIT, 1), EFFBD_STATE_OFF, 0);
+        IS(leader_offer(file, sizeof file, words, count, 0, STATION, EFFBD_WAIT, 1, telegram, sizeof telegram), EFFBD_STATE_OFF, 0);
+        IS(follower_take(net, NET, words, count, 0, STATION, telegram, sizeof telegram), EFFBD_STATE_OFF, 0);
+    }
+    for (size_t at = 0; at <= WORDS; at++) {
+        HOLDS(words[at] == FILLED);
+    }
+}
+
+/* Writes a record behind those that end at *end: its length, its kind, and as many fields as the length leaves. */
+static void put(uint8_t *bytes, size_t *end, uint16_t length, uint16_t kind, const uint16_t *fields) {
+    for (uint16_t at = 0; at < length; at += 2) {
+        uint16_t word = at == 0 ? length : at == 2 ? kind : fields[at / 2 - 2];
+        bytes[(*end)++] = (uint8_t)word;
+        bytes[(*end)++] = (uint8_t)(word >> 8);
+    }
+}
+
+/* A diagram of so many rows, FUNCTIONs that take and give of each item and END, and so many items. */
+static uint64_t large_diagram(uint16_t rows, uint16_t items, uint8_t *area) {
+    static uint8_t bytes[10000];
+    size_t end = 0;
+    uint16_t head[3] = {1, rows, items}, count[1] = {1}, function[2 + 3 * (EFFBD_MOST_ITEMS + 1)] = {0, 0};
+    put(bytes, &end, 10, 1, head);
+    for (uint16_t item = 0; item < items; item++) {
+        put(bytes, &end, 6, 2, count);
+        function[2 + 3 * item] = item;
+        function[3 + 3 * item] = function[4 + 3 * item] = 1;
+    }
+    for (uint16_t row = 1; row < rows; row++) {
+        put(bytes, &end, (uint16_t)(8 + 6 * items), 16, function);
+    }
+    put(bytes, &end, 4, 27, NULL);
+    return area == NULL ? effbd_read(bytes, end) : effbd_translate(bytes, end, area, EFFBD_NET_ROOM);
+}
+
+static uint64_t large_net(uint16_t places, uint16_t transitions) {
+    static uint8_t bytes[10000];
+    size_t end = 0;
+    uint16_t head[2] = {places, transitions}, none[3] = {0, 0, 0};
+    put(bytes, &end, 8, 32, head);
+    for (uint16_t place = 0; place < places; place++) {
+        put(bytes, &end, 6, 33, none);
+    }
+    for (uint16_t transition = 0; transition < transitions; transition++) {
+        put(bytes, &end, 10, 34, none);
+    }
+    return tpn_read(bytes, end);
+}
+
+static void largest(void) {
+    static uint8_t area[EFFBD_NET_ROOM];
+    IS(large_diagram(EFFBD_MOST_ROWS, EFFBD_MOST_ITEMS, NULL), EFFBD_ACCEPTED, EFFBD_MOST_STATE_WORDS);
+    IS(large_diagram(EFFBD_MOST_ROWS + 1, EFFBD_MOST_ITEMS, NULL), EFFBD_HEAD_VALUE_OFF, 0);
+    IS(large_diagram(EFFBD_MOST_ROWS, EFFBD_MOST_ITEMS + 1, NULL), EFFBD_HEAD_VALUE_OFF, 0);
+    IS(large_diagram(EFFBD_MOST_ROWS, EFFBD_MOST_ITEMS, area), EFFBD_ACCEPTED, 20660);
+    IS(large_net(EFFBD_MOST_PLACES, EFFBD_MOST_TRANSITIONS), EFFBD_ACCEPTED, EFFBD_MOST_NET_STATE_WORDS);
+    IS(large_net(EFFBD_MOST_PLACES + 1, EFFBD_MOST_TRANSITIONS), EFFBD_HEAD_VALUE_OFF, 0);
+    IS(large_net(EFFBD_MOST_PLACES, EFFBD_MOST_TRANSITIONS + 1), EFFBD_HEAD_VALUE_OFF, 0);
+}
+
+int main(void) {
+    fresh();
+    empty_lists();
+    beyond_the_result();
+    wrong_number_of_words();
+    largest();
+    return wrong;
+}
