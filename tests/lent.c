@@ -1,5 +1,5 @@
-/* What bindings/c/effbd.h says of lent memory, tried: empty lists as (NULL, 0), bytes beyond a result, a wrong number of words, and that the
- * constants have room for the largest diagrams and nets. Says what does not hold; exit status 1 then. */
+/* What bindings/c/effbd.h says of lent memory, tried: empty lists as (NULL, 0), bytes beyond a result, a wrong number of words, single
+ * numbers, and that the constants have room for the largest diagrams, nets and logs. Says what does not hold; exit status 1 then. */
 #include "../bindings/c/effbd.h"
 #include <stdio.h>
 #include <string.h>
@@ -105,6 +105,34 @@ static void wrong_number_of_words(void) {
     }
 }
 
+/* Example A of document 01, whose row 0 is a FUNCTION of 2 to 5 ticks, and its moves from beginning to end; then only waits. */
+static const uint8_t one_function[34] = {10, 0, 1, 0, 1, 0, 2, 0, 1, 0, 6, 0, 2, 0, 3, 0, 14, 0, 16, 0, 2, 0, 5, 0, 0, 0, 1, 0, 0, 0, 4, 0, 27, 0};
+static const uint8_t one_start[3 * EFFBD_SETPOINT_LENGTH] = {EFFBD_STEP, 0, 0, 0, EFFBD_WAIT, 0, 2, 0, EFFBD_STEP, 0, 0, 0};
+
+/* A refusal leaves a number, whatever it is; an accepted call writes it, also where there is no start. */
+static void single_numbers(void) {
+    uint32_t at = FILLED;
+    IS(log_starts(NULL, 0, NULL, 0, 0, &at), EFFBD_CUT_SHORT, 0);
+    IS(log_starts(one_function, sizeof one_function, one_start, sizeof one_start - 1, 1, &at), EFFBD_LOG_OFF, 0);
+    IS(log_starts(one_function, sizeof one_function, NULL, 0, 1, &at), EFFBD_NOT_FUNCTION, 0);
+    IS(log_starts(one_function, sizeof one_function, one_start + EFFBD_SETPOINT_LENGTH, EFFBD_SETPOINT_LENGTH, 0, &at), EFFBD_MOVE_REFUSED, 0);
+    HOLDS(at == FILLED);
+    IS(log_starts(one_function, sizeof one_function, NULL, 0, 0, &at), EFFBD_ACCEPTED, 0);
+    HOLDS(at == 0);
+    at = FILLED;
+    IS(log_starts(one_function, sizeof one_function, one_start, sizeof one_start, 0, &at), EFFBD_ACCEPTED, 1);
+    HOLDS(at == 0);
+}
+
+static uint64_t large_log(size_t moves) {
+    static uint8_t log[(EFFBD_MOST_LOG_MOVES + 1) * EFFBD_SETPOINT_LENGTH];
+    uint32_t at;
+    for (size_t move = 0; move < moves; move++) {
+        memcpy(log + move * EFFBD_SETPOINT_LENGTH, one_start + (move < 3 ? move : 1) * EFFBD_SETPOINT_LENGTH, EFFBD_SETPOINT_LENGTH);
+    }
+    return log_starts(one_function, sizeof one_function, log, moves * EFFBD_SETPOINT_LENGTH, 0, &at);
+}
+
 /* Writes a record behind those that end at *end: its length, its kind, and as many fields as the length leaves. */
 static void put(uint8_t *bytes, size_t *end, uint16_t length, uint16_t kind, const uint16_t *fields) {
     for (uint16_t at = 0; at < length; at += 2) {
@@ -155,6 +183,8 @@ static void largest(void) {
     IS(large_net(EFFBD_MOST_PLACES, EFFBD_MOST_TRANSITIONS), EFFBD_ACCEPTED, EFFBD_MOST_NET_STATE_WORDS);
     IS(large_net(EFFBD_MOST_PLACES + 1, EFFBD_MOST_TRANSITIONS), EFFBD_HEAD_VALUE_OFF, 0);
     IS(large_net(EFFBD_MOST_PLACES, EFFBD_MOST_TRANSITIONS + 1), EFFBD_HEAD_VALUE_OFF, 0);
+    IS(large_log(EFFBD_MOST_LOG_MOVES), EFFBD_ACCEPTED, 1);
+    IS(large_log(EFFBD_MOST_LOG_MOVES + 1), EFFBD_LOG_OFF, 0);
 }
 
 int main(void) {
@@ -162,6 +192,7 @@ int main(void) {
     empty_lists();
     beyond_the_result();
     wrong_number_of_words();
+    single_numbers();
     largest();
     return wrong;
 }

@@ -1,19 +1,21 @@
-/* Flow diagrams, their nets and both bus ends: the proved functions, for C.
+/* Flow diagrams, their nets, both bus ends and logs: the proved functions, for C.
  *
  * Link target/staticlib/libeffbd_c.a, which `rt staticlib effbd_c` writes (x86-64). bindings/c/example.c has a whole program.
  *
- * Lists. A list is a pointer and its number of ELEMENTS: bytes of files, areas and telegrams, 16-bit words of states (aligned as uint16_t).
- * Any bytes, words and numbers may be given. An empty list may be (NULL, 0): nothing is read or written through its pointer. Lists that are
- * lent to one call must not overlap where one of them is written. No call keeps a pointer, allocates, or has memory of its own.
+ * Lists. A list is a pointer and its number of ELEMENTS: bytes of files, areas, telegrams and logs, 16-bit words of states (aligned as
+ * uint16_t). Any bytes, words and numbers may be given. An empty list may be (NULL, 0): nothing is read or written through its pointer. A
+ * single number that is lent, as `uint32_t *at`, is never NULL, and aligned. Lists and numbers that are lent to one call must not overlap
+ * where one of them is written. No call keeps a pointer, allocates, or has memory of its own.
  *
- * Answers. An answer is number * 2^32 + value. Number 0: accepted. Else it is a refusal of document 01's table, the value is what the table
- * returns with it, and nothing that was lent is altered.
+ * Answers. An answer is number * 2^32 + value. Number 0: accepted. Else it is a refusal of the table of documents 01 and 02, the value is
+ * what the table returns with it, and nothing that was lent is altered. An accepted call writes every single number that it is lent.
  *
  *     uint64_t answer = effbd_step(file, file_count, state, state_count, EFFBD_WAIT, 20);
  *     if (effbd_number(answer) == EFFBD_WAIT_HELD) { .. a step is due before time may pass .. }
  *
  * Order of refusals. A file is looked at first (1 to 9), then the number of words of a state (20), its words (20), the move (21 to 26), the
- * leader's count (27), the area (10). The follower looks at the telegram (30 to 33) before all of these.
+ * leader's count (27), the area (10). The follower looks at the telegram (30 to 33) before all of these. Of a log, after the file: its
+ * length (40), the row (41), its moves (42).
  */
 #ifndef EFFBD_H
 #define EFFBD_H
@@ -38,6 +40,8 @@ extern "C" {
 #define EFFBD_MOST_NET_STATE_WORDS 336  /* of a net: 1 for each place, 1 for each transition */
 #define EFFBD_NET_ROOM 65536            /* bytes that have room for the net of any diagram */
 #define EFFBD_TELEGRAM_LENGTH 14        /* bytes */
+#define EFFBD_SETPOINT_LENGTH 4         /* bytes of one move of a log: code, then row or ticks, 16 bits each, low byte first */
+#define EFFBD_MOST_LOG_MOVES 65535      /* of a log */
 
 /* The refusals' numbers. */
 #define EFFBD_ACCEPTED 0
@@ -64,6 +68,9 @@ enum effbd_refusal {
     EFFBD_OTHER_STATION = 31,
     EFFBD_NUMBER_PAST = 32,
     EFFBD_NUMBER_AHEAD = 33,
+    EFFBD_LOG_OFF = 40,
+    EFFBD_NOT_FUNCTION = 41,
+    EFFBD_MOVE_REFUSED = 42,
 };
 
 /* Number (EFFBD_ACCEPTED or a refusal) and value of an answer. */
@@ -116,6 +123,13 @@ uint64_t leader_offer(const uint8_t *file, size_t file_count, uint16_t *state, s
 uint64_t follower_take(const uint8_t *net, size_t net_count, uint16_t *state, size_t state_count, uint32_t count, uint16_t station,
                        const uint8_t *telegram, size_t telegram_count);
 
+/* The most starts of FUNCTION row `row` in an hour, 36,000 ticks, of a log: the moves from the fresh state on, EFFBD_SETPOINT_LENGTH bytes
+ * each. A start's time is the sum of the waits before it. Accepted: the most starts whose times are in one span from t up to but not
+ * including t + 36,000; `*at` becomes the earliest such t that is itself the time of a start. 0 and 0 where there is no start.
+ * EFFBD_LOG_OFF where the log has more than EFFBD_MOST_LOG_MOVES moves, or log_count is no whole number of setpoints; EFFBD_NOT_FUNCTION
+ * where the row is of another kind, or the file does not have it; EFFBD_MOVE_REFUSED returns the index of the first move that is refused. */
+uint64_t log_starts(const uint8_t *file, size_t file_count, const uint8_t *log, size_t log_count, uint16_t row, uint32_t *at);
+
 /* The number of an answer in words. */
 static inline const char *effbd_words(uint32_t number) {
     switch (number) {
@@ -142,6 +156,9 @@ static inline const char *effbd_words(uint32_t number) {
     case EFFBD_OTHER_STATION: return "other station";
     case EFFBD_NUMBER_PAST: return "number at or below count";
     case EFFBD_NUMBER_AHEAD: return "number above count + 1";
+    case EFFBD_LOG_OFF: return "log too long or not whole";
+    case EFFBD_NOT_FUNCTION: return "row is no FUNCTION";
+    case EFFBD_MOVE_REFUSED: return "a move of the log refused";
     default: return "no number of the table";
     }
 }

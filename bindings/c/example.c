@@ -1,4 +1,5 @@
-/* Example A of document 01 from C: the net in an area of just its length, a move over the bus, and what a caller does where it is turned away. */
+/* Example A of document 01 from C: the net in an area of just its length, a move over the bus, what a caller does where it is turned away,
+ * and the starts of a log. */
 #include "effbd.h"
 #include <stdio.h>
 #include <stdlib.h>
@@ -62,6 +63,14 @@ int main(void) {
         value_of("step 0", effbd_step(file, sizeof file, leader, leader_words, EFFBD_STEP, 0), EFFBD_ACCEPTED);
     }
     value_of("wait 6 of the net", tpn_step(net, length, follower, follower_words, EFFBD_WAIT, 6), EFFBD_WAIT_HELD);
+
+    /* The leader's moves as a log: step 0, wait 2, step 0. Without the wait its last one, of index 1, is refused. */
+    static const uint8_t log[3 * EFFBD_SETPOINT_LENGTH] = {EFFBD_STEP, 0, 0, 0, EFFBD_WAIT, 0, 2, 0, EFFBD_STEP, 0, 0, 0};
+    static const uint8_t early[2 * EFFBD_SETPOINT_LENGTH] = {EFFBD_STEP, 0, 0, 0, EFFBD_STEP, 0, 0, 0};
+    uint32_t at = 0;
+    value_of("starts of an early log", log_starts(file, sizeof file, early, sizeof early, 0, &at), EFFBD_MOVE_REFUSED);
+    uint32_t most = value_of("starts of the log", log_starts(file, sizeof file, log, sizeof log, 0, &at), EFFBD_ACCEPTED);
+    printf("most starts in an hour: %u, from tick %u on\n", most, at);
 
     free(follower);
     free(leader);

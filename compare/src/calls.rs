@@ -10,6 +10,7 @@ use std::fmt::{Debug, Write};
 /// Guards that are no likely content.
 const BYTE_GUARD: u8 = 0xA5;
 const WORD_GUARD: u16 = 0xA5A5;
+const NUMBER_GUARD: u32 = 0xA5A5_A5A5;
 
 pub fn equal<T: PartialEq + Debug>(what: &str, model: &T, proved: &T) -> Verdict {
     if model == proved {
@@ -21,12 +22,12 @@ pub fn equal<T: PartialEq + Debug>(what: &str, model: &T, proved: &T) -> Verdict
     }
 }
 
-/// Two areas of one length; they may be long, so the first byte that differs is told.
-fn equal_areas(model: &[u8], proved: &[u8]) -> Verdict {
+/// Lent bytes of one length; they may be many, so the first that differs is told.
+fn equal_bytes(what: &str, model: &[u8], proved: &[u8]) -> Verdict {
     let mut pairs = model.iter().zip(proved);
     match pairs.position(|(expected, found)| expected != found) {
         None => Ok(()),
-        Some(at) => equal(&format!("byte {at} of the area"), &model[at], &proved[at]),
+        Some(at) => equal(&format!("byte {at} of the {what}"), &model[at], &proved[at]),
     }
 }
 
@@ -76,7 +77,7 @@ pub fn translate(met: &mut Met, file: &[u8], area: &[u8]) -> Verdict {
         .and_then(|(found, after)| {
             met.note(found);
             equal("translate", &answer, &found)?;
-            equal_areas(&expected, &after)
+            equal_bytes("area", &expected, &after)
         })
         .map_err(|why| format!("{why}\nfile {}, area of {} bytes", hex(file), area.len()))
 }
@@ -200,7 +201,7 @@ pub fn offer(
             met.note(found);
             equal("offer", &answer, &found)?;
             equal("offer, the state", &expected, &after)?;
-            equal_areas(&expected_area, &after_area)
+            equal_bytes("area", &expected_area, &after_area)
         })
         .map_err(|why| {
             format!(
@@ -232,4 +233,34 @@ pub fn take(
             hex(telegram)
         )
     })
+}
+
+/// File and log are lent between guards too, and have to stay as they are.
+pub fn log_starts(met: &mut Met, file: &[u8], log: &[u8], row: u16, at: u32) -> Verdict {
+    let mut expected = at;
+    let answer = told(model::logs::log_starts(file, log, row, &mut expected));
+    let proved = lend(file, BYTE_GUARD, |file| {
+        lend(log, BYTE_GUARD, |log| {
+            lend(&[at], NUMBER_GUARD, |at| {
+                effbd::log_starts(file, log, row, &mut at[0])
+            })
+        })
+    });
+    proved
+        .and_then(|(lent, after_file)| {
+            let (lent, after_log) = lent?;
+            let (found, after) = lent?;
+            met.note(found);
+            equal("starts of a log", &answer, &found)?;
+            equal("starts of a log, the earliest t", &expected, &after[0])?;
+            equal_bytes("file", file, &after_file)?;
+            equal_bytes("log", log, &after_log)
+        })
+        .map_err(|why| {
+            format!(
+                "{why}\nfile {}, log {}, row {row}, at {at}",
+                hex(file),
+                hex(log)
+            )
+        })
 }

@@ -4,11 +4,13 @@ use crate::calls::{self, equal, hex, End};
 use crate::met::Met;
 use crate::Verdict;
 use model::bus::Telegram;
+use model::diagram::Row;
 use model::generate::{
-    bus_list, damaged_diagram, damaged_net, diagram, foreign_net, net_state, odd_state,
-    passing_state, walk, Random,
+    accepted_log, bus_list, damaged_diagram, damaged_log, damaged_net, diagram, foreign_net,
+    lasting_diagram, net_state, odd_state, passing_state, round_log, walk, Random,
 };
 use model::history::{moves_to_try, net_of, Call, History};
+use model::logs::MOST_MOVES;
 
 /// A kind of case.
 pub struct Kind {
@@ -20,7 +22,7 @@ const fn kind(name: &'static str, case: fn(&mut Random, &mut Met) -> Verdict) ->
     Kind { name, case }
 }
 
-pub const KINDS: [Kind; 7] = [
+pub const KINDS: [Kind; 8] = [
     kind("diagram files and translation", diagram_file),
     kind("uses of rows", uses_of_rows),
     kind("steps of diagrams", diagram_steps),
@@ -28,6 +30,7 @@ pub const KINDS: [Kind; 7] = [
     kind("steps of nets", net_steps),
     kind("both bus ends", bus_ends),
     kind("lists of calls", call_list),
+    kind("starts in logs", starts_in_logs),
 ];
 
 /// A file: accepted, damaged, or any bytes.
@@ -340,4 +343,87 @@ fn play(met: &mut Met, file: &[u8], station: u16, list: &[Call]) -> Verdict {
         .and_then(|state| model::image::image(file, state))
         .unwrap_or_default();
     equal("the follower's state", &due, &follower)
+}
+
+/// A plant for a log: mostly one that goes on for ever.
+fn logging_diagram(random: &mut Random) -> Vec<u8> {
+    let row_count = match random.below(10) {
+        0..=5 => 4 + random.below(12),
+        6 => 4 + random.below(61),
+        7..=8 => return diagram(random),
+        _ => return any_diagram(random),
+    };
+    lasting_diagram(random, row_count)
+}
+
+/// A log of a diagram: none, accepted moves, or rounds of them; some with something done to it.
+fn any_log(random: &mut Random, file: &[u8]) -> Vec<u8> {
+    let log = match random.below(20) {
+        0 => Vec::new(),
+        1..=9 => {
+            let moves = random.below(300);
+            accepted_log(random, file, moves)
+        }
+        _ => {
+            let moves = random.below(2_000);
+            round_log(random, file, moves)
+        }
+    };
+    if random.chance(40) {
+        damaged_log(random, log)
+    } else {
+        log
+    }
+}
+
+/// A small plant with a log at the limit of its length: as many moves as may be or one more, a byte more or less, or the last one refused.
+fn longest_log(random: &mut Random) -> (Vec<u8>, Vec<u8>) {
+    let row_count = 4 + random.below(12);
+    let file = lasting_diagram(random, row_count);
+    let moves = MOST_MOVES + random.below(2);
+    let mut log = round_log(random, &file, moves);
+    match random.below(6) {
+        0 => log.push(0),
+        1 => drop(log.pop()),
+        2 => {
+            let last = log.len().saturating_sub(4);
+            log.splice(last.., [9, 0, 0, 0]);
+        }
+        _ => {}
+    }
+    (file, log)
+}
+
+/// Some of the FUNCTION rows, and sometimes any row or one that the file does not have.
+fn rows_to_ask(random: &mut Random, file: &[u8]) -> Vec<u16> {
+    let parsed = model::diagram::parse(file);
+    let rows = parsed.map_or_else(|_| Vec::new(), |diagram| diagram.rows);
+    let numbered = (0..).zip(&rows);
+    let functions = numbered.filter(|(_, row)| matches!(row, Row::Function(_)));
+    let mut asked: Vec<u16> = functions.map(|(number, _)| number).collect();
+    while asked.len() > 3 {
+        asked.swap_remove(random.below(asked.len()));
+    }
+    if asked.is_empty() || random.chance(25) {
+        asked.push(random.below(rows.len() + 2) as u16);
+    }
+    if random.chance(10) {
+        asked.push(random.word());
+    }
+    asked
+}
+
+fn starts_in_logs(random: &mut Random, met: &mut Met) -> Verdict {
+    // A log of 65,535 moves costs as much as hundreds of others.
+    let (file, log) = if random.below(150) == 0 {
+        longest_log(random)
+    } else {
+        let file = logging_diagram(random);
+        let log = any_log(random, &file);
+        (file, log)
+    };
+    for row in rows_to_ask(random, &file) {
+        calls::log_starts(met, &file, &log, row, random.draw() as u32)?;
+    }
+    Ok(())
 }

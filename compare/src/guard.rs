@@ -1,5 +1,7 @@
 //! Memory that is lent, with guard elements on both sides.
 
+use std::hint::black_box;
+
 const WIDTH: usize = 16;
 
 /// Lends a copy of `content` between guards; the answer, and the content afterwards. A touched guard is an error.
@@ -12,6 +14,8 @@ pub fn lend<T: Copy + PartialEq, A>(
     let mut memory = vec![guard; end + WIDTH];
     memory[WIDTH..end].copy_from_slice(content);
     let answer = call(&mut memory[WIDTH..end]);
+    // Where the call may only read, the compiler would take the memory for unwritten without a look.
+    let memory = black_box(memory);
     let untouched = memory[..WIDTH]
         .iter()
         .chain(&memory[end..])

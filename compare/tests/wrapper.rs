@@ -1,11 +1,11 @@
 //! What the Rust wrapper adds to the calls: its constants, its moves, and its words.
 
 use effbd::{
-    fresh_diagram, fresh_net, move_diagram, move_net, offer, offer_move, read_diagram, read_net,
-    refusal, step_diagram, step_net, translate, Move, Refusal,
+    fresh_diagram, fresh_net, log_starts, most_starts, move_diagram, move_net, offer, offer_move,
+    read_diagram, read_net, refusal, step_diagram, step_net, translate, Move, Refusal, Starts,
 };
 use model::records::{push_record, record, NET_HEAD, PLACE, TRANSITION};
-use model::{annex, bus, diagram, diagram_step, examples, net};
+use model::{annex, bus, diagram, diagram_step, examples, logs, net};
 
 #[test]
 fn constants_are_those_of_the_model() {
@@ -15,6 +15,8 @@ fn constants_are_those_of_the_model() {
     assert_eq!(effbd::MOST_TRANSITIONS, net::MOST_TRANSITIONS);
     assert_eq!(effbd::NET_ROOM, annex::AREA_LENGTH);
     assert_eq!(effbd::TELEGRAM_LENGTH, bus::TELEGRAM_LENGTH);
+    assert_eq!(effbd::SETPOINT_LENGTH, logs::SETPOINT_LENGTH);
+    assert_eq!(effbd::MOST_LOG_MOVES, logs::MOST_MOVES);
     assert_eq!(
         (effbd::STEP, effbd::WAIT),
         (diagram_step::STEP, diagram_step::WAIT)
@@ -84,6 +86,26 @@ fn moves_are_codes_and_arguments() {
         assert_eq!((state, marks), (raw_state, raw_marks));
     }
     assert_eq!(state, [0, 0, 0, 1, 0, 0, 2]);
+}
+
+/// A log of `Move`s is one of codes and arguments, and `Starts` are the answer and its number.
+#[test]
+fn logs_are_moves_and_starts_are_answers() {
+    let moves = [Move::Step(0), Move::Wait(517), Move::Step(0)];
+    let log: Vec<u8> = moves.iter().flat_map(|made| made.setpoint()).collect();
+    assert_eq!(log, logs::log(&[(1, 0), (2, 517), (1, 0)]));
+    let file = examples::a();
+    for end in [0, 4, 6, 8] {
+        for row in [0, 1] {
+            let mut at = 7;
+            let answer = log_starts(&file, &log[..end], row, &mut at);
+            let starts = most_starts(&file, &log[..end], row);
+            assert_eq!(starts, answer.map(|most| Starts { most, at }));
+            assert!(answer.is_ok() || at == 7);
+        }
+    }
+    let once = Starts { most: 1, at: 0 };
+    assert_eq!(most_starts(&file, &log[..4], 0), Ok(once));
 }
 
 #[test]

@@ -61,6 +61,16 @@ pub fn after(
     argument: u16,
 ) -> Result<Vec<u16>, Refusal> {
     check(diagram, state)?;
+    moved(diagram, state, code, argument)
+}
+
+/// The same of a state that passes 20: "21, 22 to 26".
+pub fn moved(
+    diagram: &Diagram,
+    state: &[u16],
+    code: u16,
+    argument: u16,
+) -> Result<Vec<u16>, Refusal> {
     match code {
         STEP => stepped(diagram, state, argument),
         WAIT if argument != 0 => waited(diagram, state, argument),

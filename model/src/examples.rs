@@ -1,6 +1,9 @@
-//! The diagrams of "Plant-room examples". C and D run A; I runs B's net.
+//! The diagrams of "Plant-room examples". C and D run A; I runs B's net. Then a
+//! plant with logs for the requests of document 02.
 
 use crate::diagram::{file, function_record};
+use crate::diagram_step::{STEP, WAIT};
+use crate::logs::log;
 use crate::records::{
     record, AND_CLOSE, AND_OPEN, BRANCH, END, IT_CLOSE, IT_OPEN, LOOP_EXIT, LP_CLOSE, LP_OPEN,
 };
@@ -77,4 +80,45 @@ pub fn longest_net() -> Vec<u8> {
     let mut rows = vec![function_record(0, 0, &uses); 63];
     rows.push(record(END, &[]));
     file(&[1; 16], &rows)
+}
+
+/// LP, FUNCTION of any number of ticks, LP close, END: it runs again and again.
+pub fn again() -> Vec<u8> {
+    let mut again = rows(&[LP_OPEN]);
+    again.push(function_record(0, u16::MAX, &[]));
+    again.extend(rows(&[LP_CLOSE, END]));
+    file(&[], &again)
+}
+
+/// The FUNCTION of `again`.
+pub const AGAIN_ROW: u16 = 1;
+
+/// A log of `again` whose FUNCTION starts at these times, the first at 0; it
+/// ends at the tick at which it starts again.
+pub fn log_of_starts(times: &[u16]) -> Vec<u8> {
+    let mut moves = Vec::new();
+    let mut now = 0;
+    for time in times {
+        if !moves.is_empty() {
+            moves.extend((*time > now).then(|| (WAIT, time - now)));
+            moves.extend([(STEP, AGAIN_ROW), (STEP, 2)]);
+        }
+        moves.extend([(STEP, 0), (STEP, AGAIN_ROW)]);
+        now = *time;
+    }
+    log(&moves)
+}
+
+/// A log of `again` of this many moves, whose FUNCTION runs for so many ticks
+/// each time: rounds of five moves.
+pub fn log_of_rounds(ticks: u16, move_count: usize) -> Vec<u8> {
+    let round = [
+        (STEP, 0),
+        (STEP, AGAIN_ROW),
+        (WAIT, ticks),
+        (STEP, AGAIN_ROW),
+        (STEP, 2),
+    ];
+    let moves: Vec<_> = round.into_iter().cycle().take(move_count).collect();
+    log(&moves)
 }

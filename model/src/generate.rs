@@ -1,14 +1,16 @@
-//! Random diagrams, nets, states and lists for comparisons. The same seed
+//! Random diagrams, nets, states, lists and logs for comparisons. The same seed
 //! always gives the same ones.
 
 mod damage;
 mod diagrams;
 mod lists;
+mod logs;
 mod nets;
 mod states;
 
-pub use diagrams::{damaged_diagram, diagram, diagram_up_to};
+pub use diagrams::{damaged_diagram, diagram, diagram_up_to, lasting_diagram};
 pub use lists::bus_list;
+pub use logs::{accepted_log, damaged_log, round_log};
 pub use nets::{damaged_net, foreign_net};
 pub use states::{net_state, odd_state, passing_state, walk};
 

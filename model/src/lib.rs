@@ -1,16 +1,18 @@
-//! Plain model of document 01, "Flow diagrams and their nets".
+//! Plain model of document 01, "Flow diagrams and their nets", and of the
+//! requests of document 02.
 //!
-//! One file per section, to be read beside the document:
+//! One file per section, to be read beside the documents:
 //!
-//! | File | Section of document 01 |
+//! | File | Section of document 01, request of document 02 |
 //! |---|---|
 //! | `records` | Diagram records, net records: lengths, kinds, fields |
 //! | `diagram` | Diagram records, Nesting |
 //! | `diagram_step` | Diagram state and moves |
 //! | `net`, `net_step`, `translate`, `image` | Net |
 //! | `bus`, `history` | Bus ends |
+//! | `logs` | 1, Starts in any hour |
 //! | `examples`, `annex` | Plant-room examples |
-//! | `generate` | random diagrams, nets, states and lists for comparisons |
+//! | `generate` | random diagrams, nets, states, lists and logs for comparisons |
 //!
 //! Every public call takes the caller's bytes and words as they are and checks
 //! them anew. A refusal alters nothing that was lent.
@@ -25,6 +27,7 @@ pub mod examples;
 pub mod generate;
 pub mod history;
 pub mod image;
+pub mod logs;
 pub mod net;
 pub mod net_step;
 pub mod records;

@@ -42,3 +42,6 @@ pub const NO_TELEGRAM: u32 = 30;
 pub const OTHER_STATION: u32 = 31;
 pub const NUMBER_PAST: u32 = 32;
 pub const NUMBER_AHEAD: u32 = 33;
+pub const LOG_OFF: u32 = 40;
+pub const NOT_FUNCTION: u32 = 41;
+pub const MOVE_REFUSED: u32 = 42;

@@ -13,7 +13,7 @@ use model::records::{
     LOOP_EXIT, LP_CLOSE, LP_OPEN, OR_CLOSE, OR_OPEN,
 };
 use model::translate::translate;
-use model::{net_step, Answer};
+use model::{logs, net_step, Answer};
 
 /// Example A with the 16-bit word at this offset set.
 fn a_with(offset: usize, value: u16) -> Vec<u8> {
@@ -34,6 +34,9 @@ fn assert_file_refused(bytes: &[u8], number: u32, value: u32) {
     assert_eq!(translate(bytes, &mut area), expected);
     let offered = bus::offer(bytes, &mut state, u32::MAX, 1, 0, 0, &mut area[..3]);
     assert_eq!(offered, expected);
+    let mut at = 8;
+    assert_eq!(logs::log_starts(bytes, &[0; 3], 9, &mut at), expected);
+    assert_eq!(at, 8);
     assert_eq!(state, [5; 7]);
     assert!(area.iter().all(|byte| *byte == 6));
     assert_eq!(model::image::image(bytes, &state), None);

@@ -1,11 +1,11 @@
-//! Flow diagrams, their nets and both bus ends: safe calls of the proved functions.
+//! Flow diagrams, their nets, both bus ends and logs: safe calls of the proved functions.
 //!
 //! Each function takes whatever bytes, numbers and lent memory it is given, and answers with a value or with a numbered [`Refusal`] of
-//! document 01's table. A refusal alters nothing that was lent. What each call promises is proved in the Rattle crate that has it
+//! the table of documents 01 and 02. A refusal alters nothing that was lent. What each call promises is proved in the Rattle crate that has it
 //! (`crates/*/src`); this file only passes lists on as pointer and number of elements.
 //!
 //! A file is looked at first (refusals 1 to 9), then a state (20), the move (21 to 26), the leader's count (27), the area (10). The follower
-//! looks at the telegram (30 to 33) before all of these.
+//! looks at the telegram (30 to 33) before all of these. Of a log, after the file: its length (40), the row (41), its moves (42).
 //!
 //! Example A of document 01, one move over the bus:
 //!
@@ -57,6 +57,10 @@ pub const MOST_NET_STATE_WORDS: usize = MOST_PLACES + MOST_TRANSITIONS;
 pub const NET_ROOM: usize = 65_536;
 /// Bytes of a telegram.
 pub const TELEGRAM_LENGTH: usize = 14;
+/// Bytes of a setpoint, one move of a log.
+pub const SETPOINT_LENGTH: usize = 4;
+/// Moves of a log, at most.
+pub const MOST_LOG_MOVES: usize = 65_535;
 
 /// Move code of a step.
 pub const STEP: u16 = 1;
@@ -101,9 +105,21 @@ impl Move {
             Move::Step(argument) | Move::Wait(argument) => argument,
         }
     }
+
+    /// Its bytes in a log: code and argument, each with the low byte first.
+    ///
+    /// ```
+    /// assert_eq!(effbd::Move::Wait(600).setpoint(), [2, 0, 88, 2]);
+    /// ```
+    pub fn setpoint(self) -> [u8; SETPOINT_LENGTH] {
+        let [code_low, code_high] = self.code().to_le_bytes();
+        let [low, high] = self.argument().to_le_bytes();
+        [code_low, code_high, low, high]
+    }
 }
 
-/// A row of document 01's table "Returned when turned away": its number, and the value that is returned with it.
+/// A row of document 01's table "Returned when turned away", which document 02 goes on with: its number, and the value that is returned
+/// with it.
 #[derive(Clone, Copy, PartialEq, Eq, Debug)]
 pub struct Refusal {
     /// One of [`refusal`]'s.
@@ -158,6 +174,9 @@ refusals! {
     31 OTHER_STATION "other station"
     32 NUMBER_PAST "number at or below count"
     33 NUMBER_AHEAD "number above count + 1"
+    40 LOG_OFF "log too long or not whole"
+    41 NOT_FUNCTION "row is no FUNCTION"
+    42 MOVE_REFUSED "a move of the log refused"
 }
 
 impl fmt::Display for Refusal {
@@ -228,6 +247,14 @@ mod proved {
             station: u16,
             telegram: *const u8,
             telegram_count: usize,
+        ) -> u64;
+        pub fn log_starts(
+            file: *const u8,
+            file_count: usize,
+            log: *const u8,
+            log_count: usize,
+            row: u16,
+            at: *mut u32,
         ) -> u64;
     }
 }
@@ -423,4 +450,55 @@ pub fn take(net: &[u8], state: &mut [u16], count: u32, station: u16, telegram: &
             telegram.len(),
         )
     })
+}
+
+/// The most starts of FUNCTION row `row` in an hour, 36,000 ticks, of a log: moves from the fresh state on, [`SETPOINT_LENGTH`] bytes each,
+/// as [`Move::setpoint`] writes them. Accepted: that number; `at` becomes the time, in ticks, of the earliest start from which an hour on has
+/// so many, 0 where there is no start.
+///
+/// [`refusal::LOG_OFF`]: more than [`MOST_LOG_MOVES`] moves, or bytes that are no whole number of them; [`refusal::NOT_FUNCTION`]: another
+/// row, or none; [`refusal::MOVE_REFUSED`] returns the index of the first move that is refused.
+pub fn log_starts(file: &[u8], log: &[u8], row: u16, at: &mut u32) -> Answer {
+    // SAFETY: as in `fresh_diagram`; `at` is a live number, borrowed for the call alone.
+    answer(unsafe {
+        proved::log_starts(file.as_ptr(), file.len(), log.as_ptr(), log.len(), row, at)
+    })
+}
+
+/// The starts of a FUNCTION in the hour that has the most.
+#[derive(Clone, Copy, PartialEq, Eq, Debug)]
+pub struct Starts {
+    /// How many there are; 0 where the log has no start of the row.
+    pub most: u32,
+    /// The time of the first of them, in ticks from the log's beginning, in the earliest such hour; 0 where there is none.
+    pub at: u32,
+}
+
+/// [`log_starts`] with both numbers in its answer.
+///
+/// ```
+/// use effbd::{refusal, Move, Refusal, Starts};
+///
+/// // A compressor that runs for 2 to 5 ticks, again and again.
+/// let file = [
+///     10, 0, 1, 0, 1, 0, 4, 0, 0, 0, // head: edition 1, 4 rows, no item
+///     4, 0, 24, 0, // LP
+///     8, 0, 16, 0, 2, 0, 5, 0, // FUNCTION: 2 to 5 ticks
+///     4, 0, 25, 0, // LP close
+///     4, 0, 27, 0, // END
+/// ];
+/// let round = [Move::Step(0), Move::Step(1), Move::Wait(5), Move::Step(1), Move::Step(2)];
+/// let log: Vec<u8> = round.repeat(3).iter().flat_map(|made| made.setpoint()).collect();
+/// assert_eq!(effbd::most_starts(&file, &log, 1), Ok(Starts { most: 3, at: 0 }));
+///
+/// // Its end comes too early: the fourth move of the log.
+/// let early = [Move::Step(0), Move::Step(1), Move::Wait(1), Move::Step(1)];
+/// let log: Vec<u8> = early.iter().flat_map(|made| made.setpoint()).collect();
+/// let refused = effbd::most_starts(&file, &log, 1);
+/// assert_eq!(refused, Err(Refusal { number: refusal::MOVE_REFUSED, value: 3 }));
+/// ```
+pub fn most_starts(file: &[u8], log: &[u8], row: u16) -> Result<Starts, Refusal> {
+    let mut at = 0;
+    let most = log_starts(file, log, row, &mut at)?;
+    Ok(Starts { most, at })
 }

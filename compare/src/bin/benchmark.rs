@@ -3,10 +3,16 @@
 //! Both are built for release and get the same inputs in the same order; states and areas are copied anew before each call, for both.
 //! At each size the calls go round plants of 960 rows in all, equally often: no single diagram's mix of rows decides the ratio, and the
 //! processor has as much to foresee at each size, and as many turns to learn it.
+//!
+//! Logs are of 65,535 random accepted moves, steps and waits, of plants that go on for ever; their times are of one move. At 64 rows a move
+//! in the log stands beside a call that steps the diagram, on the same moves: the call reads the file and checks the state anew.
 
 use model::bus::Telegram;
-use model::generate::{diagram_up_to, Random};
+use model::diagram::{Diagram, MOST_ROWS};
+use model::diagram_step::WAIT;
+use model::generate::{accepted_log, diagram_up_to, lasting_diagram, Random};
 use model::history::net_of;
+use model::logs::{Log, Logged, MOST_MOVES};
 use std::hint::black_box;
 use std::time::Instant;
 
@@ -19,6 +25,8 @@ const MOVES: usize = 24;
 const TURNS: usize = 10 * MOVES;
 const ROUNDS: usize = 10;
 const SWEEPS: usize = 10;
+/// Logs of one size.
+const LOGS: usize = 4;
 
 /// A diagram of just so many rows, its net, and accepted moves.
 struct Plant {
@@ -111,7 +119,7 @@ fn nanoseconds<T>(calls: usize, call: &mut impl FnMut(usize) -> T) -> f64 {
     start.elapsed().as_nanos() as f64 / calls as f64
 }
 
-/// The least times of one function on one plant, in nanoseconds a call.
+/// The least times of one function at one size, in nanoseconds a call or a move.
 struct Times {
     name: &'static str,
     rows: usize,
@@ -119,8 +127,7 @@ struct Times {
     model: f64,
 }
 
-/// Times a function, `proved` and `model`, and keeps the least of each. Their rounds take turns, so that a machine that slows down
-/// slows both; each sweep comes back to every function, so that a slow spell spoils none.
+/// Times a function, `proved` and `model`, in calls that go round the plants.
 fn compare<P, M>(
     table: &mut Vec<Times>,
     name: &'static str,
@@ -129,10 +136,25 @@ fn compare<P, M>(
     mut model: impl FnMut(usize) -> M,
 ) {
     let calls = TURNS * (ROWS / rows);
+    let proved = || nanoseconds(calls, &mut proved);
+    let model = || nanoseconds(calls, &mut model);
+    keep_least(table, name, rows, ROUNDS, proved, model);
+}
+
+/// Takes the times of rounds and keeps the least of each. The rounds take turns, so that a machine that slows down slows both; each sweep
+/// comes back to every function, so that a slow spell spoils none.
+fn keep_least(
+    table: &mut Vec<Times>,
+    name: &'static str,
+    rows: usize,
+    rounds: usize,
+    mut proved: impl FnMut() -> f64,
+    mut model: impl FnMut() -> f64,
+) {
     let mut least = (f64::INFINITY, f64::INFINITY);
-    for _ in 0..ROUNDS {
-        least.0 = least.0.min(nanoseconds(calls, &mut proved));
-        least.1 = least.1.min(nanoseconds(calls, &mut model));
+    for _ in 0..rounds {
+        least.0 = least.0.min(proved());
+        least.1 = least.1.min(model());
     }
     match table
         .iter_mut()
@@ -275,11 +297,108 @@ fn compare_net(table: &mut Vec<Times>, rows: usize, plants: &[Plant]) {
     );
 }
 
-/// One line for each function and size.
-fn print_calls(table: &[Times]) {
+/// A diagram that goes on for ever, with a log of accepted moves and the FUNCTION row that starts most often in it.
+struct LogPlant {
+    file: Vec<u8>,
+    fresh: Vec<u16>,
+    log: Vec<u8>,
+    moves: Vec<Logged>,
+    row: u16,
+}
+
+/// The plants with logs of one size.
+fn log_plants(rows: usize) -> Vec<LogPlant> {
+    let mut random = Random::new(rows as u64);
+    let mut plants = Vec::new();
+    while plants.len() < LOGS {
+        let file = lasting_diagram(&mut random, rows);
+        plants.extend(log_plant(&mut random, file, rows));
+    }
+    plants
+}
+
+/// The plant of a file whose log moves as a plant does: no standstill, several FUNCTIONs, and neither steps nor waits few.
+fn log_plant(random: &mut Random, file: Vec<u8>, rows: usize) -> Option<LogPlant> {
+    let log = accepted_log(random, &file, MOST_MOVES);
+    let diagram = model::diagram::parse(&file).ok()?;
+    let moves: Vec<Logged> = Log::read(&log).ok()?.moves().collect();
+    let waits = moves.iter().filter(|made| made.code == WAIT).count();
+    let starts = starts_by_row(&diagram, &log)?;
+    let started = starts.iter().filter(|(times, _)| *times >= 100).count();
+    let fits = moves.len() == MOST_MOVES
+        && (MOST_MOVES / 6..MOST_MOVES / 2).contains(&waits)
+        && started >= (rows / 10).max(2);
+    let fresh = model::diagram_step::fresh_state(&diagram);
+    let (_, row) = starts.into_iter().max()?;
+    fits.then_some(LogPlant {
+        file,
+        fresh,
+        log,
+        moves,
+        row,
+    })
+}
+
+/// How often each FUNCTION row starts, with its number.
+fn starts_by_row(diagram: &Diagram, log: &[u8]) -> Option<Vec<(usize, u16)>> {
+    let log = Log::read(log).ok()?;
+    let functions = (0..diagram.rows.len() as u16)
+        .filter(|row| model::logs::function_row(diagram, *row).is_ok());
+    functions
+        .map(|row| {
+            let starts = model::logs::starts(diagram, log, usize::from(row)).ok()?;
+            Some((starts.len(), row))
+        })
+        .collect()
+}
+
+/// The time of a move, in nanoseconds; a call makes all moves of one plant.
+fn nanoseconds_a_move<T>(plants: &[LogPlant], mut call: impl FnMut(&LogPlant) -> T) -> f64 {
+    nanoseconds(plants.len(), &mut |number| call(&plants[number])) / MOST_MOVES as f64
+}
+
+/// A log in one call.
+fn log_starts(plant: &LogPlant) -> (effbd::Answer, u32) {
+    let mut at = 0;
+    let most = effbd::log_starts(black_box(&plant.file), &plant.log, plant.row, &mut at);
+    (most, at)
+}
+
+/// The same by the model.
+fn model_log_starts(plant: &LogPlant) -> (model::Answer, u32) {
+    let mut at = 0;
+    let most = model::logs::log_starts(black_box(&plant.file), &plant.log, plant.row, &mut at);
+    (most, at)
+}
+
+/// The same moves, each by a call that steps the diagram.
+fn step_all(plant: &LogPlant, state: &mut [u16]) {
+    let state = lent(state, &plant.fresh);
+    for made in &plant.moves {
+        let answer = effbd::step_diagram(&plant.file, state, made.code, made.argument);
+        black_box(answer).expect("an accepted move");
+    }
+}
+
+fn compare_logs(table: &mut Vec<Times>, rows: usize, plants: &[LogPlant]) {
+    let proved = || nanoseconds_a_move(plants, log_starts);
+    let model = || nanoseconds_a_move(plants, model_log_starts);
+    keep_least(table, "log", rows, ROUNDS, proved, model);
+}
+
+/// A move in a log beside a step's call, both proved.
+fn compare_with_steps(table: &mut Vec<Times>, rows: usize, plants: &[LogPlant]) {
+    let mut state = [0; STATE_ROOM];
+    let in_log = || nanoseconds_a_move(plants, log_starts);
+    let by_steps = || nanoseconds_a_move(plants, |plant| step_all(plant, &mut state));
+    keep_least(table, "log", rows, 1, in_log, by_steps);
+}
+
+/// One line for each function and size: two times and their ratio.
+fn print_times([unit, first, second]: [&str; 3], table: &[Times]) {
     println!(
         "{:<14} {:>9} {:>13} {:>13} {:>8}",
-        "a call", "", "proved", "model", "ratio"
+        unit, "", first, second, "ratio"
     );
     for line in table {
         println!(
@@ -321,15 +440,21 @@ fn print_rows(table: &[Times]) {
 }
 
 fn main() {
-    let sizes = [5, 30, 64].map(|rows| (rows, plants(rows)));
-    let mut table = Vec::new();
+    let sizes = [5, 30, 64].map(|rows| (rows, plants(rows), log_plants(rows)));
+    let (mut calls, mut moves, mut steps) = (Vec::new(), Vec::new(), Vec::new());
     for _ in 0..SWEEPS {
-        for (rows, plants) in &sizes {
-            compare_files(&mut table, *rows, plants);
-            compare_diagram(&mut table, *rows, plants);
-            compare_net(&mut table, *rows, plants);
+        for (rows, plants, log_plants) in &sizes {
+            compare_files(&mut calls, *rows, plants);
+            compare_diagram(&mut calls, *rows, plants);
+            compare_net(&mut calls, *rows, plants);
+            compare_logs(&mut moves, *rows, log_plants);
+            if *rows == MOST_ROWS {
+                compare_with_steps(&mut steps, *rows, log_plants);
+            }
         }
     }
-    print_calls(&table);
-    print_rows(&table);
+    print_times(["a call", "proved", "model"], &calls);
+    print_rows(&calls);
+    print_times(["a move", "proved", "model"], &moves);
+    print_times(["a move", "in the log", "step's call"], &steps);
 }

@@ -80,7 +80,7 @@ fn row_allowed(table: &[u16], state: &[u16], row: u32) -> bool
 }
 
 // A state has three words for each row and one for each item, and every row passes.
-pub(crate) fn state_allowed(table: &[u16], rows: u32, items: u32, state: &[u16]) -> bool
+pub fn state_allowed(table: &[u16], rows: u32, items: u32, state: &[u16]) -> bool
     ensures { λ r. ⌜ r ≡ stateAllowed (now (table .entry)) rows items (now (state .entry)) ⌝ }
 {
     if state.len() != 3 * rows as usize + items as usize {

@@ -2,19 +2,21 @@
 // A diagram is its table (crate diagram_file). Every function is total: what the table does not hold is read as 0.
 ghost use mathlib.Core.Path.{_≡_};
 ghost use Rattle.effbd.specs.Answers.{said};
-ghost use Rattle.diagram_moves.specs.Decisions.{codeVerdict, moveVerdict};
+ghost use Rattle.diagram_moves.specs.Decisions.{moveVerdict};
 use effbd::Answer;
 use effbd::moves;
 use effbd::refusals;
 
 pub mod cells;
-mod check;
+pub mod check;
 mod steps;
 pub mod uses;
 mod waits;
 
-// The code of a move, then its row or its ticks: 21 to 26.
-fn decide_code(
+// What a move of a state is told, with nothing written: 21 to 26, or accepted. The state is taken as it is: refusal 20 is `check`'s. Of the
+// table that crate diagram_file makes of an accepted file, and a state that passes, this is document 01's outcome (theorem `made-is` of
+// crate diagram_moves).
+pub fn decide(
     table: &[u16],
     rows: u32,
     items: u32,
@@ -23,7 +25,7 @@ fn decide_code(
     code: u16,
     argument: u16,
 ) -> Answer
-    ensures { λ r. ⌜ said r ≡ codeVerdict (now (table .entry)) rows items (now (file .entry)) (now (state .entry)) code argument ⌝ }
+    ensures { λ r. ⌜ said r ≡ moveVerdict (now (table .entry)) rows items (now (file .entry)) (now (state .entry)) code argument ⌝ }
 {
     if code == moves::STEP {
         let row = argument as u32;
@@ -36,23 +38,4 @@ fn decide_code(
         return waits::wait(table, rows, items, file, state, argument);
     }
     Answer::Refused(refusals::CODE_OFF, 0)
-}
-
-// What a move of a state is told, with nothing written: 20 to 26, or accepted. Of the table that crate diagram_file makes of an accepted
-// file, this is document 01's outcome (theorem `move-is` of crate diagram_moves).
-pub fn decide(
-    table: &[u16],
-    rows: u32,
-    items: u32,
-    file: &[u8],
-    state: &[u16],
-    code: u16,
-    argument: u16,
-) -> Answer
-    ensures { λ r. ⌜ said r ≡ moveVerdict (now (table .entry)) rows items (now (file .entry)) (now (state .entry)) code argument ⌝ }
-{
-    if check::state_allowed(table, rows, items, state) {
-        return decide_code(table, rows, items, file, state, code, argument);
-    }
-    Answer::Refused(refusals::STATE_OFF, 0)
 }

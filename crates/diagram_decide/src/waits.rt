@@ -1,7 +1,12 @@
 // What a wait is told: 21 and 26.
 ghost use mathlib.Core.Path.{_≡_};
+ghost use mathlib.Core.Bool.{not, _&&_};
+ghost use lib.ListN.{getD};
+ghost use lib.Dec.{eqb};
 ghost use Rattle.effbd.specs.Ranges.{allBelow};
 ghost use Rattle.effbd.specs.Answers.{said};
+ghost use Rattle.effbd.specs.States.{activityAt};
+ghost use Rattle.diagram_table.specs.Cells.{kindIn};
 ghost use Rattle.diagram_moves.specs.Decisions.{functionHolds, rowHolds, rowFree, waitVerdict};
 use crate::cells;
 use crate::steps;
@@ -37,6 +42,16 @@ fn function_holds(
     false
 }
 
+// An idle row that is no AND close: it holds no wait, and most rows of a plant are such.
+fn is_idle(table: &[u16], state: &[u16], row: u32) -> bool
+    ensures { λ r. ⌜ r ≡ (eqb (getD (now (state .entry)) (activityAt row) 0) 0 && not (eqb (kindIn (now (table .entry)) row) 19)) ⌝ }
+{
+    if cells::activity(state, row) != 0 {
+        return false;
+    }
+    diagram_table::kind(table, row) != kinds::AND_CLOSE
+}
+
 // Any other row but END holds it if it is ready, an AND close also if it could step.
 fn row_holds(
     table: &[u16],
@@ -49,6 +64,9 @@ fn row_holds(
 ) -> bool
     ensures { λ r. ⌜ r ≡ rowHolds (now (table .entry)) rows items (now (file .entry)) (now (state .entry)) ticks row ⌝ }
 {
+    if is_idle(table, state, row) {
+        return false;
+    }
     let kind = diagram_table::kind(table, row);
     if kind == kinds::FUNCTION {
         return function_holds(table, rows, items, file, state, ticks, row);

@@ -8,7 +8,7 @@ use Rattle.effbd.specs.Answers.{Outcome, accepted, refused}
 use Rattle.effbd.specs.Diagrams.{Use}
 use Rattle.effbd.specs.States.{activityAt, turnsAt, clockAt}
 use Rattle.diagram_table.specs.Cells.{kindIn, firstIn, ownerIn, closeIn, loopIn, usesIn, isBranch, enteredIn}
-use Rattle.diagram_moves.specs.Decisions.{countPlace, amountOf, added, changed, moveVerdict}
+use Rattle.diagram_moves.specs.Decisions.{countPlace, amountOf, added, changed, stateAllowed, moveVerdict}
 
 -- a loop of stores: n turns from 0 up; the same with nothing done before row `start`
 abbrev pub fold : ℕ → (ℕ → List ℕ → List ℕ) → List ℕ → List ℕ
@@ -86,7 +86,11 @@ abbrev pub outcomeOf : (verdict : Outcome ℕ) (words : List ℕ) → Outcome (L
 outcomeOf (accepted value) words = accepted words
 outcomeOf (refused number value) words = refused number value
 
--- a whole move over the table: decided, then written
-unfoldable pub tableOutcome : (table : List ℕ) (rows items : ℕ) (file words : List ℕ) (code argument : ℕ) → Outcome (List ℕ)
-tableOutcome table rows items file words code argument =
-    outcomeOf (moveVerdict table rows items file words code argument) (moveChange table rows file code argument words)
+module _ (table : List ℕ) (rows items : ℕ) (file words : List ℕ) (code argument : ℕ) where
+  -- a move over the table, whatever the state: decided, then written
+  unfoldable pub tableMove : Outcome (List ℕ)
+  tableMove = outcomeOf (moveVerdict table rows items file words code argument) (moveChange table rows file code argument words)
+
+  -- the check of the state, then the move
+  unfoldable pub checkedTableMove : Outcome (List ℕ)
+  checkedTableMove = cond (stateAllowed table rows items words) tableMove (refused 20 0)

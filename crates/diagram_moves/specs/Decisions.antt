@@ -116,10 +116,7 @@ module _ (table : List ℕ) (rows items : ℕ) (file words : List ℕ) where
   unfoldable pub waitVerdict : (n : ℕ) → Outcome ℕ
   waitVerdict n = cond (eqb n 0) (refused 21 0) (cond (allBelow rows (rowFree n)) (accepted 0) (refused 26 0))
 
-  -- the state's check, then the code, then the row or the wait
-  unfoldable pub codeVerdict : (code argument : ℕ) → Outcome ℕ
-  codeVerdict code argument = cond (eqb code 1) (cond (ltb argument rows) (rowVerdict argument) (refused 22 argument))
-      (cond (eqb code 2) (waitVerdict argument) (refused 21 0))
-
+  -- the code, then the row or the wait
   unfoldable pub moveVerdict : (code argument : ℕ) → Outcome ℕ
-  moveVerdict code argument = cond (stateAllowed table rows items words) (codeVerdict code argument) (refused 20 0)
+  moveVerdict code argument = cond (eqb code 1) (cond (ltb argument rows) (rowVerdict argument) (refused 22 argument))
+      (cond (eqb code 2) (waitVerdict argument) (refused 21 0))

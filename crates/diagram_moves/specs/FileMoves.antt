@@ -14,15 +14,16 @@ use Rattle.effbd.specs.Records.{areBytes}
 use Rattle.effbd.specs.Diagrams.{Diagram}
 use Rattle.effbd.specs.Nesting.{readDiagram}
 use Rattle.effbd.specs.Layout.{places}
-use Rattle.effbd.specs.States.{stateWords, freshWords}
+use Rattle.effbd.specs.States.{stateWords, stateOf, freshWords, statePasses}
 use Rattle.effbd.specs.Moves.{stepDiagram, freshDiagram}
+use Rattle.effbd.specs.Logs.{made}
 use Rattle.diagram_file.specs.Tables.{refusalNumber, refusalValue, FreshOf}
 use Rattle.diagram_table.specs.Held.{HoldsFile}
 use Rattle.ranges.specs.RangeLaws.{length-tab}
 use Rattle.agreement.specs.AcceptedFiles.{held}
-use Rattle.diagram_moves.specs.Changes.{tableOutcome}
+use Rattle.diagram_moves.specs.Changes.{tableMove, checkedTableMove}
 use Rattle.diagram_moves.specs.FunctionMoves.{Small}
-use Rattle.diagram_moves.specs.MovesAre.{move-is}
+use Rattle.diagram_moves.specs.MovesAre.{made-is, move-is}
 
 -- a refused file turns every call away with its own number and value
 refusing : {A : Type 0} (o : Outcome Diagram) (f : Diagram → Outcome A) → refusalNumber o ≢ 0 → andThen o f ≡ refused (refusalNumber o) (refusalValue o)
@@ -38,12 +39,17 @@ module _ (file l : List ℕ) where
   unfolding freshDiagram
   fresh-refused n = refusing (readDiagram file) _ n
 
-  -- THEOREM: of the table that an accepted file gives, the program's outcome is document 01's
-  pub step-is : (rows items : ℕ) (table : List ℕ) → HoldsFile file rows items table → areBytes file ≡ true → Small l → (code argument : ℕ)
-      → tableOutcome table rows items file l code argument ≡ stepDiagram file code argument l
-  unfolding tableOutcome stepDiagram
-  step-is rows items table h b small code argument =
-      rw (h .read) (move-is file (h .diagram) rows items table l (held file (h .diagram) b (h .read)) (h .holds) (h .uses) small code argument)
+  module _ (rows items : ℕ) (table : List ℕ) (h : HoldsFile file rows items table) (b : areBytes file ≡ true) (small : Small l) (code argument : ℕ) where
+    -- THEOREM: of the table that an accepted file gives, the program's outcome is document 01's
+    pub step-is : checkedTableMove table rows items file l code argument ≡ stepDiagram file code argument l
+    unfolding stepDiagram
+    step-is = rw (h .read) (move-is file (h .diagram) rows items table l (held file (h .diagram) b (h .read)) (h .holds) (h .uses) small code argument)
+
+    -- THEOREM: on a state that passes 20 a move without the check is document 02's move of a log
+    pub log-move-is : length l ≡ places (h .diagram) → statePasses (h .diagram) (stateOf (h .diagram) l) ≡ true
+        → tableMove table rows items file l code argument ≡ made (h .diagram) (record { code = code; argument = argument }) l
+    unfolding made
+    log-move-is long passes = made-is file (h .diagram) rows items table l (held file (h .diagram) b (h .read)) (h .holds) (h .uses) small code argument long passes
 
   pub fresh-short : (rows items : ℕ) (table : List ℕ) → HoldsFile file rows items table → length l ≢ 3 * rows + items → freshDiagram file l ≡ refused 20 0
   unfolding freshDiagram

@@ -9,7 +9,7 @@ use lib.ListN.{length, set, List·getD-eq-default}
 use lib.Dec.{leb, ltb, eqb}
 use borrow.Author.Tests.{ltb-true, ltb-false, eqb-true, eq-eqb, not-true}
 use Rattle.effbd.specs.Ranges.{allBelow, only, within}
-use Rattle.effbd.specs.Answers.{accepted, refused}
+use Rattle.effbd.specs.Answers.{Outcome, accepted, refused}
 use Rattle.effbd.specs.Diagrams.{Diagram, Kind, Row, function, and-open, branch, and-close, or-open, or-close, it-open, it-close, lp-open, lp-close, loop-exit, end, plain, numberOf, sameKind, row, rowCount, countTotal, kind, isKind}
 use Rattle.effbd.specs.Nesting.{owner, close, branchOf, loop, isClose}
 use Rattle.effbd.specs.Layout.{places}
@@ -24,8 +24,8 @@ use Rattle.agreement.specs.Structure.{opens, Laws}
 use Rattle.agreement.specs.NestingLaws.{laws}
 use Rattle.agreement.specs.AcceptedFiles.{Held}
 use Rattle.diagram_table.specs.Cells.{kindIn, ownerIn, closeIn}
-use Rattle.diagram_moves.specs.Decisions.{added, activityAllowed, turnsAllowed, clockAllowed, rowAllowed, stateAllowed, readyVerdict, branchVerdict, closeVerdict, rowVerdict, functionHolds, rowHolds, rowFree, waitVerdict, codeVerdict, moveVerdict}
-use Rattle.diagram_moves.specs.Changes.{fold, rowSet, tickTurn, tokenPassed, branchesTurned, itOpenChange, exitChange, entered, rowChange, moveChange, outcomeOf}
+use Rattle.diagram_moves.specs.Decisions.{added, activityAllowed, turnsAllowed, clockAllowed, rowAllowed, stateAllowed, readyVerdict, branchVerdict, closeVerdict, rowVerdict, functionHolds, rowHolds, rowFree, waitVerdict, moveVerdict}
+use Rattle.diagram_moves.specs.Changes.{fold, rowSet, tickTurn, tokenPassed, branchesTurned, itOpenChange, exitChange, entered, rowChange, moveChange, outcomeOf, tableMove, checkedTableMove}
 use Rattle.diagram_moves.specs.Stores.{Reads, like, reads-words, words-read, set-turns}
 use Rattle.diagram_moves.specs.RowStores.{tick-fold}
 use Rattle.agreement.specs.Reach.{next-in, close-in, opened-by}
@@ -255,24 +255,30 @@ module _ (d : Diagram) (H : Held d) (table : List ℕ) (h : Holds d (rowCount d)
   beyond x c = ap (λ (w : Row). wordsOutcome d (stepAs d (w .kind) x s)) (sym (List·getD-eq-default (d .rows) (plain end) c))
 
   code-is : Small l → statePasses d s ≡ true → (code x : ℕ)
-      → outcomeOf (codeVerdict table (rowCount d) (countTotal d) file l code x) (moveChange table (rowCount d) file code x l) ≡ wordsOutcome d (move d (moveOf code x) s)
-  unfolding codeVerdict moveChange moveOf wordsOutcome
+      → tableMove table (rowCount d) (countTotal d) file l code x ≡ wordsOutcome d (move d (moveOf code x) s)
+  unfolding tableMove moveVerdict moveChange moveOf wordsOutcome
   code-is small p code x = decide (eqb code 1)
       (λ y. rw y (decide (ltb x (rowCount d))
       (λ z. rw z (row-as small x (ltb-true x (rowCount d) z) (kind d x) refl))
       (λ z. rw z (beyond x (ltb-false x (rowCount d) z)))))
       (λ y. rw y (decide (eqb code 2) (λ z. rw z (wait-is x p)) (λ z. rw z)))
 
--- THEOREM: the verdict and the stores are the checked move of the diagram that the table holds
-pub move-is : (file : List ℕ) (d : Diagram) (rows items : ℕ) (table l : List ℕ) → Held d → Holds d rows items table → HoldsUses file d table → Small l → (code x : ℕ)
-    → outcomeOf (moveVerdict table rows items file l code x) (moveChange table rows file code x l) ≡ checkedMove d (moveOf code x) l
-move-is file d rows items table l H h u small code x =
-    rw (h .records .rowsAre, h .records .itemsAre) (whole (rw (h .records .rowsAre, h .records .itemsAre) at h))
-  where
-    whole : Holds d (rowCount d) (countTotal d) table
-        → outcomeOf (moveVerdict table (rowCount d) (countTotal d) file l code x) (moveChange table (rowCount d) file code x l) ≡ checkedMove d (moveOf code x) l
-    whole g = unfold moveVerdict stateAllowed checkedMove moveWords in decide (eqb (length l) (places d))
-        (λ y. let e = words-read d l (eqb-true (length l) (places d) y) in
-        rw (y, passes-is d H table g file u l (stateOf d l) e) (decide (statePasses d (stateOf d l))
-        (λ z. rw z (code-is d H table g file u l (stateOf d l) e small z code x)) (λ z. rw z)))
-        (λ y. rw y)
+module _ (file : List ℕ) (d : Diagram) (rows items : ℕ) (table l : List ℕ) (H : Held d) (h : Holds d rows items table) (u : HoldsUses file d table) (small : Small l) (code x : ℕ) where
+  -- the table's own numbers of rows and items are the diagram's
+  same-numbers : (F : ℕ → ℕ → Outcome (List ℕ)) (o : Outcome (List ℕ)) → (Holds d (rowCount d) (countTotal d) table → F (rowCount d) (countTotal d) ≡ o) → F rows items ≡ o
+  same-numbers F o f = rw (h .records .rowsAre, h .records .itemsAre) (f (rw (h .records .rowsAre, h .records .itemsAre) at h))
+
+  -- THEOREM: on a state that passes 20 the verdict and the stores are the move of the diagram that the table holds
+  pub made-is : length l ≡ places d → statePasses d (stateOf d l) ≡ true → tableMove table rows items file l code x ≡ moveWords d (moveOf code x) l
+  unfolding moveWords
+  made-is long passes = same-numbers (λ n m. tableMove table n m file l code x) (wordsOutcome d (move d (moveOf code x) (stateOf d l)))
+      (λ g. code-is d H table g file u l (stateOf d l) (words-read d l long) small passes code x)
+
+  -- THEOREM: with the check of the state they are its checked move
+  pub move-is : checkedTableMove table rows items file l code x ≡ checkedMove d (moveOf code x) l
+  unfolding checkedTableMove stateAllowed checkedMove moveWords
+  move-is = same-numbers (λ n m. checkedTableMove table n m file l code x) (checkedMove d (moveOf code x) l) (λ g. decide (eqb (length l) (places d))
+      (λ y. let e = words-read d l (eqb-true (length l) (places d) y) in
+      rw (y, passes-is d H table g file u l (stateOf d l) e) (decide (statePasses d (stateOf d l))
+      (λ z. rw z (code-is d H table g file u l (stateOf d l) e small z code x)) (λ z. rw z)))
+      (λ y. rw y))

@@ -1,6 +1,7 @@
 -- Answers and what they leave.
 use Prim.Native.Nat.{ℕ, _-_}
-use mathlib.Core.Path.{_≡_, sym, _∙_, ap}
+use mathlib.Core.Path.{_≡_, refl, sym, _∙_, ap}
+use mathlib.Core.Bool.{Bool, true, false}
 use mathlib.Core.List.{List}
 use mathlib.Core.Logic.{_≢_}
 use Rattle.effbd.specs.Answers.{Outcome, accepted, refused, afterwards, returningZero, said}
@@ -10,8 +11,8 @@ use Rattle.effbd.specs.Nesting.{readDiagram}
 use Rattle.effbd.specs.Moves.{stepDiagram, freshDiagram}
 use Rattle.diagram_file.specs.Tables.{refusalNumber, refusalValue, Parsed}
 use Rattle.diagram_file.specs.declared.Diagram.{Diagram as Parse}
-use Rattle.diagram_moves.specs.Decisions.{moveVerdict}
-use Rattle.diagram_moves.specs.Changes.{moveChange, tableOutcome}
+use Rattle.diagram_moves.specs.Decisions.{stateAllowed, moveVerdict}
+use Rattle.diagram_moves.specs.Changes.{moveChange, tableMove, checkedTableMove}
 use Rattle.diagram_moves.specs.FileMoves.{step-refused, fresh-refused}
 
 -- a call that is told `answer` and leaves m where l was, of the outcome o
@@ -29,13 +30,23 @@ told-refused l number value o e = (ap returningZero (sym e), ap (afterwards l) (
 
 -- the verdict r, and the words m that are written where it accepts
 module _ (table : List ℕ) (rows items : ℕ) (file l : List ℕ) (code argument : ℕ) (r : Answer) (told : said r ≡ moveVerdict table rows items file l code argument) where
-  pub verdict-accepted : (value : ℕ) (m : List ℕ) → r ≡ Accepted value → m ≡ moveChange table rows file code argument l → Answered (accepted 0) l m (tableOutcome table rows items file l code argument)
-  unfolding tableOutcome
-  verdict-accepted value m e w = told-accepted l m (tableOutcome table rows items file l code argument) (rw (sym told ∙ ap said e) (ap accepted (sym w)))
+  pub verdict-accepted : (value : ℕ) (m : List ℕ) → r ≡ Accepted value → m ≡ moveChange table rows file code argument l → Answered (accepted 0) l m (tableMove table rows items file l code argument)
+  unfolding tableMove
+  verdict-accepted value m e w = told-accepted l m (tableMove table rows items file l code argument) (rw (sym told ∙ ap said e) (ap accepted (sym w)))
 
-  pub verdict-refused : (number value : ℕ) → r ≡ Refused number value → Answered (refused number value) l l (tableOutcome table rows items file l code argument)
-  unfolding tableOutcome
-  verdict-refused number value e = told-refused l number value (tableOutcome table rows items file l code argument) (rw (sym told ∙ ap said e))
+  pub verdict-refused : (number value : ℕ) → r ≡ Refused number value → Answered (refused number value) l l (tableMove table rows items file l code argument)
+  unfolding tableMove
+  verdict-refused number value e = told-refused l number value (tableMove table rows items file l code argument) (rw (sym told ∙ ap said e))
+
+-- the check of a state: on with the move, or 20
+module _ (table : List ℕ) (rows items : ℕ) (file l : List ℕ) (code argument : ℕ) (b : Bool) (told : b ≡ stateAllowed table rows items l) where
+  pub check-passed : b ≡ true → (answer : Outcome ℕ) (m : List ℕ) → Answered answer l m (tableMove table rows items file l code argument) → Answered answer l m (checkedTableMove table rows items file l code argument)
+  unfolding checkedTableMove
+  check-passed e answer m h = rw (sym told ∙ e) h
+
+  pub check-failed : b ≡ false → Answered (refused 20 0) l l (checkedTableMove table rows items file l code argument)
+  unfolding checkedTableMove
+  check-failed e = rw (sym told ∙ e) (refl, refl)
 
 -- a file that was refused
 module _ (file l : List ℕ) (p : Parse) (parsed : Parsed file p) (off : p .number ≢ 0) where

@@ -5,8 +5,9 @@ ghost use Rattle.effbd.specs.Answers.{said, returningZero, afterwards};
 ghost use Rattle.effbd.specs.Moves.{stepDiagram, freshDiagram};
 ghost use Prim.Native.Nat.{_+_};
 ghost use Rattle.diagram_table.specs.Cells.{ownerIn, closeIn};
-ghost use Rattle.diagram_moves.specs.Changes.{rowSet, entered, branchesTurned, itOpenChange, exitChange, functionChange, rowChange, moveChange, tableOutcome};
+ghost use Rattle.diagram_moves.specs.Changes.{rowSet, entered, branchesTurned, itOpenChange, exitChange, functionChange, rowChange, moveChange, tableMove, checkedTableMove};
 use diagram_decide::cells;
+use diagram_decide::check;
 use diagram_table::CLOSE;
 use diagram_table::FIRST;
 use diagram_table::LOOP;
@@ -105,8 +106,10 @@ fn write(table: &[u16], rows: u32, file: &[u8], state: &mut [u16], code: u16, ar
     }
 }
 
-// Decides, then writes: a refusal leaves the state as it was.
-fn step_table(
+// A move on a diagram's table, without a check of the state, as a log makes it: decided, then written; a refusal leaves the state as it was.
+// Of the table that crate diagram_file makes of an accepted file, and a state that passes 20, this is document 02's move of a log (theorem
+// `log-move-is` of crate diagram_moves).
+pub fn make_move(
     table: &[u16],
     rows: u32,
     items: u32,
@@ -115,8 +118,8 @@ fn step_table(
     code: u16,
     argument: u16,
 ) -> Answer
-    ensures { λ r. ⌜ said r ≡ returningZero (tableOutcome (now (table .entry)) rows items (now (file .entry)) (now (state .entry)) code argument) ⌝ }
-    ensures { λ r. ⌜ now (state .exit) ≡ afterwards (now (state .entry)) (tableOutcome (now (table .entry)) rows items (now (file .entry)) (now (state .entry)) code argument) ⌝ }
+    ensures { λ r. ⌜ said r ≡ returningZero (tableMove (now (table .entry)) rows items (now (file .entry)) (now (state .entry)) code argument) ⌝ }
+    ensures { λ r. ⌜ now (state .exit) ≡ afterwards (now (state .entry)) (tableMove (now (table .entry)) rows items (now (file .entry)) (now (state .entry)) code argument) ⌝ }
 {
     let verdict = diagram_decide::decide(table, rows, items, file, state, code, argument);
     match verdict {
@@ -126,6 +129,25 @@ fn step_table(
         }
         Answer::Refused(number, value) => Answer::Refused(number, value),
     }
+}
+
+// The check of the state, then the move.
+fn step_table(
+    table: &[u16],
+    rows: u32,
+    items: u32,
+    file: &[u8],
+    state: &mut [u16],
+    code: u16,
+    argument: u16,
+) -> Answer
+    ensures { λ r. ⌜ said r ≡ returningZero (checkedTableMove (now (table .entry)) rows items (now (file .entry)) (now (state .entry)) code argument) ⌝ }
+    ensures { λ r. ⌜ now (state .exit) ≡ afterwards (now (state .entry)) (checkedTableMove (now (table .entry)) rows items (now (file .entry)) (now (state .entry)) code argument) ⌝ }
+{
+    if check::state_allowed(table, rows, items, state) {
+        return make_move(table, rows, items, file, state, code, argument);
+    }
+    Answer::Refused(refusals::STATE_OFF, 0)
 }
 
 // A move of a diagram: code 1 steps the row `argument`, code 2 waits `argument` ticks.

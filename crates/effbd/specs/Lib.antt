@@ -6,6 +6,8 @@ pub mod Nesting
 pub mod Layout
 pub mod States
 pub mod Moves
+pub mod Logs
+pub mod Starts
 pub mod Nets
 pub mod Firing
 pub mod Patterns

@@ -1,4 +1,4 @@
-// The limits of document 01 by name.
+// The limits of documents 01 and 02 by name.
 
 // The rows and items of a diagram; they are constants of its type too, in crate diagram_file.
 pub const MOST_ROWS: u16 = 64;
@@ -23,3 +23,8 @@ pub const MOST_OPEN: usize = 12;
 pub const TELEGRAM_LENGTH: u16 = 14;
 
 pub const MOST_COUNT: u32 = 4294967295;
+
+// The moves of a log, and the bytes of each: a setpoint.
+pub const MOST_MOVES: usize = 65535;
+
+pub const SETPOINT_LENGTH: usize = 4;

@@ -1,4 +1,4 @@
-// The refusals of document 01 by name, as refusals.txt at the repository's root lists them.
+// The refusals of documents 01 and 02 by name, as refusals.txt at the repository's root lists them.
 pub const CUT_SHORT: u16 = 1;
 
 pub const KIND_NOT_DUE: u16 = 2;
@@ -42,3 +42,9 @@ pub const OTHER_STATION: u16 = 31;
 pub const NUMBER_PAST: u16 = 32;
 
 pub const NUMBER_AHEAD: u16 = 33;
+
+pub const LOG_OFF: u16 = 40;
+
+pub const NOT_FUNCTION: u16 = 41;
+
+pub const MOVE_REFUSED: u16 = 42;

@@ -9,6 +9,7 @@ ghost use Rattle.effbd.specs.BusEnds.{offered, taken};
 ghost use Rattle.effbd.specs.States.{stateLength};
 ghost use Rattle.effbd.specs.Nesting.{usesPart, packedPart};
 ghost use Rattle.effbd.specs.Nets.{readNet};
+ghost use Rattle.effbd.specs.Starts.{logStarts};
 use effbd::Answer;
 
 // An answer as one number.
@@ -122,4 +123,13 @@ pub extern "C" fn follower_take(
     ensures { λ _. ⌜ now (state .exit) ≡ taken (now (net .entry)) (now (state .entry)) count station (now (telegram .entry)) .state ⌝ }
 {
     pack(bus::take(net, state, count, station, telegram))
+}
+
+// The most starts of a FUNCTION row in any hour of a log.
+#[no_mangle]
+pub extern "C" fn log_starts(file: &[u8], log: &[u8], row: u16, at: &mut u32) -> u64
+    ensures { λ r. ⌜ r ≡ packed (logStarts (now (file .entry)) (now (log .entry)) row (now (at .entry)) .answer) ⌝ }
+    ensures { λ _. ⌜ now (at .exit) ≡ logStarts (now (file .entry)) (now (log .entry)) row (now (at .entry)) .at ⌝ }
+{
+    pack(starts::log_starts(file, log, row, at))
 }

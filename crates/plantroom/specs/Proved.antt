@@ -1,4 +1,4 @@
--- The table of examples holds, and so does the list of calls: computed.
+-- The table of examples holds, and so do the list of calls and the starts in a log: computed.
 use mathlib.Core.Path.{_≡_, refl}
 use mathlib.Core.Bool.{true}
 use native.Mathlib.Omega.{arith}
@@ -15,8 +15,11 @@ use Rattle.effbd.specs.Patterns.{names, arcsOf, rangesFrom, transitionOf, netOf
 use Rattle.effbd.specs.Annex.{digits, number, numbers, arcLines, transitionLines, netLines, printed, annexIn}
 use Rattle.effbd.specs.BusEnds.{telegram, isOurs, offered, taken}
 use Rattle.effbd.specs.History.{freshEnds, run, seen, runAll, seenAll, offers, wrote-before, foreign, MayBeHanded}
+use Rattle.effbd.specs.Logs.{setpointsAt, setpoints, logFault, made, stateFrom, playedFrom}
+use Rattle.effbd.specs.Starts.{isStart, startsFrom, fallIn, busiestFrom, startsOf, logStarts}
 use Rattle.plantroom.specs.Table.{fileOf, fileA, sameWords, plays, holds, allHold, examples, annexOfA, followerSays, followerHolds, tableHolds}
 use Rattle.plantroom.specs.Calls.{diagramA, calls, accepting, callsHold}
+use Rattle.plantroom.specs.Starts.{questions, answered, startsHold}
 
 -- THEOREM: document 01's examples A to I, with every number that it gives
 pub examples-hold : tableHolds ≡ true
@@ -41,3 +44,13 @@ unfolding areBytes kindTable entryIn lengthOf fieldsOf faultAt readMany
     names arcsOf rangesFrom transitionOf netOf telegram isOurs offered taken freshEnds run seen runAll seenAll
     fileOf sameWords diagramA calls accepting callsHold
 calls-hold = (refl, (offers, (offers, (offers, (wrote-before 1 (omega arith) refl, (wrote-before 0 (omega arith) refl, (wrote-before 0 (omega arith) refl, (offers, (foreign refl, (foreign refl, (wrote-before 1 (omega arith) refl, tt)))))))))), refl)
+
+-- THEOREM: request 1's worked example
+pub starts-hold : startsHold ≡ true
+unfolding kindTable entryIn lengthOf fieldsOf faultAt readMany
+    kindOf headFault itemFault usesAt usesFine rowAt rowRight rowFine rowFault
+    stack owner close branchOf loop nestingBroken exitMisplaced thirteenthOpen nestingFault firstFaulty nested afterRows afterItems readDiagram
+    placeOf stateWords stateOf enteredRow branchEntries freshWords moveOf wordsOutcome moveWords
+    setpointsAt setpoints logFault made stateFrom playedFrom isStart startsFrom fallIn busiestFrom startsOf logStarts
+    fileOf questions answered startsHold
+starts-hold = refl

@@ -7,6 +7,7 @@ use crate::records::{
     record, AND_CLOSE, AND_OPEN, BRANCH, END, FUNCTION, HEAD, IT_CLOSE, IT_OPEN, LOOP_EXIT,
     LP_CLOSE, LP_OPEN, OR_CLOSE, OR_OPEN,
 };
+use std::ops::RangeInclusive;
 
 /// The parts of a diagram file.
 struct Draft {
@@ -28,6 +29,32 @@ pub fn diagram(random: &mut Random) -> Vec<u8> {
 /// An accepted diagram of at most this many rows.
 pub fn diagram_up_to(random: &mut Random, most_rows: usize) -> Vec<u8> {
     draft_up_to(random, most_rows).file()
+}
+
+/// An accepted diagram of just this many rows, 4 or more, that goes on for ever:
+/// an LP around all of it that no LE leaves. FUNCTIONs give back what they take;
+/// only an LE may lose it.
+pub fn lasting_diagram(random: &mut Random, row_count: usize) -> Vec<u8> {
+    let item_count = random.below(4);
+    let items = (0..item_count).map(|_| random.between(1, 3)).collect();
+    let mut builder = RowsBuilder {
+        go_on_percent: 30 + random.below(60),
+        function_percent: 20 + random.below(60),
+        lasting: Some(random.pick(&[9, 600, 4_000, 12_000, 36_001, u16::MAX], 9)),
+        random,
+        item_count,
+        rows: Vec::new(),
+        left: row_count.clamp(4, MOST_ROWS) - 4,
+    };
+    builder.plain(LP_OPEN);
+    builder.spend_time(1);
+    while builder.left > 0 {
+        builder.construct(1, false);
+    }
+    builder.plain(LP_CLOSE);
+    builder.plain(END);
+    let rows = builder.rows;
+    Draft { items, rows }.file()
 }
 
 fn draft(random: &mut Random) -> Draft {
@@ -52,6 +79,7 @@ fn draft_up_to(random: &mut Random, most_rows: usize) -> Draft {
     let mut builder = RowsBuilder {
         go_on_percent: 50 + random.below(48),
         function_percent: 20 + random.below(60),
+        lasting: None,
         random,
         item_count,
         rows: Vec::new(),
@@ -83,6 +111,9 @@ struct RowsBuilder<'r> {
     /// Chance that a construct is a FUNCTION.
     function_percent: usize,
     item_count: usize,
+    /// Every LP may spend time, and FUNCTIONs give back what they take and last
+    /// for so many ticks at most.
+    lasting: Option<u16>,
     rows: Vec<Vec<u8>>,
     /// Rows that may still be added, END left out.
     left: usize,
@@ -117,19 +148,51 @@ impl RowsBuilder<'_> {
                 self.run(open + 1, in_loop);
                 self.plain(IT_CLOSE);
             }
-            3 if may_open && self.left >= 2 => self.looped(open),
+            3 if may_open && self.left >= self.loop_rows() => self.looped(open),
             _ => {
                 self.left -= 1;
-                let function = random_function(self.random, self.item_count);
-                self.rows.push(function);
+                self.function(0);
             }
         }
     }
 
+    /// A FUNCTION; a lasting one of so many ticks or more.
+    fn function(&mut self, least: u16) {
+        let function = match self.lasting {
+            Some(most) => lasting_function(self.random, self.item_count, least..=most),
+            None => random_function(self.random, self.item_count),
+        };
+        self.rows.push(function);
+    }
+
+    /// A FUNCTION of a tick or more, sometimes in an OR that also passes it by:
+    /// then rows start again at the same tick.
+    fn spend_time(&mut self, open: usize) {
+        if open < MOST_OPEN && self.left >= 4 && self.random.chance(30) {
+            self.left -= 4;
+            self.plain(OR_OPEN);
+            self.plain(BRANCH);
+            self.plain(BRANCH);
+            self.function(1);
+            self.plain(OR_CLOSE);
+        } else {
+            self.function(1);
+        }
+    }
+
+    /// Rows of an LP whatever else is in it: open, close, and of a lasting one a
+    /// FUNCTION.
+    fn loop_rows(&self) -> usize {
+        2 + usize::from(self.lasting.is_some())
+    }
+
     /// An LP, mostly with an AND or OR in it that may end in LE.
     fn looped(&mut self, open: usize) {
-        self.left -= 2;
+        self.left -= self.loop_rows();
         self.plain(LP_OPEN);
+        if self.lasting.is_some() {
+            self.spend_time(open + 1);
+        }
         if self.left >= 5 && open + 2 < MOST_OPEN && self.random.chance(70) {
             self.exit_inside(open + 1);
         }
@@ -200,6 +263,43 @@ pub(super) fn random_function(random: &mut Random, item_count: usize) -> Vec<u8>
         }
     }
     function_record(alpha, beta, &uses)
+}
+
+/// A FUNCTION that gives back what it takes, its ticks in this range: just a part
+/// of an hour, as few as may be, few, or any.
+fn lasting_function(random: &mut Random, item_count: usize, ticks: RangeInclusive<u16>) -> Vec<u8> {
+    let (least, most) = (*ticks.start(), *ticks.end());
+    let (alpha, beta) = match random.below(6) {
+        0 | 1 => {
+            let part = part_of_hour(random).min(most);
+            (part, part)
+        }
+        2 => (least, least),
+        3 => (least, random.between(least, most)),
+        4 => {
+            let alpha = random.between(least, 9);
+            (alpha, random.between(alpha, most))
+        }
+        _ => {
+            let beta = random.between(least, most);
+            (random.between(least, beta), beta)
+        }
+    };
+    let mut uses = Vec::new();
+    for item in 0..item_count {
+        if random.chance(25) {
+            uses.push([item as u16, 1, 1]);
+        }
+    }
+    function_record(alpha, beta, &uses)
+}
+
+/// Ticks of which some rounds make an hour, or nearly.
+pub(super) fn part_of_hour(random: &mut Random) -> u16 {
+    let parts = [
+        1, 3_600, 7_200, 9_000, 12_000, 17_999, 18_000, 18_001, 35_999, 36_000, 36_001,
+    ];
+    random.pick(&parts, 1)
 }
 
 fn random_use(random: &mut Random, item: u16) -> [u16; 3] {

@@ -25,13 +25,20 @@ pub fn walk(random: &mut Random, file: &[u8], moves: usize) -> Vec<Vec<u16>> {
 
 /// A move that the diagram accepts, if one was found.
 pub(super) fn likely_move(random: &mut Random, diagram: &Diagram, state: &[u16]) -> (u16, u16) {
-    let rows = diagram.rows.len() as u16;
-    let mut moves: Vec<(u16, u16)> = (0..rows).map(|row| (STEP, row)).collect();
-    moves.push((WAIT, 1));
-    moves.push((WAIT, random.between(1, 9)));
-    moves.push((WAIT, random.word()));
-    moves.retain(|(code, argument)| diagram_step::after(diagram, state, *code, *argument).is_ok());
+    let waits = [1, random.between(1, 9), random.word()];
+    let moves = accepted_moves(diagram, state, &waits);
     random.pick(&moves, (WAIT, 1))
+}
+
+/// The steps and those of these waits that the diagram accepts at a state that
+/// passes 20.
+pub(super) fn accepted_moves(diagram: &Diagram, state: &[u16], waits: &[u16]) -> Vec<(u16, u16)> {
+    let steps = (0..diagram.rows.len()).map(|row| (STEP, row as u16));
+    let waits = waits.iter().map(|ticks| (WAIT, *ticks));
+    let is_accepted = |(code, argument): &(u16, u16)| {
+        diagram_step::moved(diagram, state, *code, *argument).is_ok()
+    };
+    steps.chain(waits).filter(is_accepted).collect()
 }
 
 /// A random state that passes 20, reached or not; empty for a refused file.

@@ -1,40 +1,32 @@
-use Rattle.diagram_step.proofs.Answered.{verdict-accepted, verdict-refused}
+use Rattle.diagram_step.proofs.Answered.{check-passed, check-failed}
 use borrow.Author.Needs.{needs}
 use Rattle.diagram_step.proofs.step_table.Statement.{statement}
 use Rattle.diagram_step.proofs.step_table.Tie as tie
 
-decide-requires : tie.Need-decide-requires
-decide-requires c κs = search needs
+state-allowed-requires : tie.Need-state-allowed-requires
+state-allowed-requires c κs = search needs
 
-enum-told : tie.Need-enum-told
-enum-told c = search needs
-
-write-requires : tie.Need-write-requires
-write-requires c κs = search needs
-
-enum-known-verdict : tie.Need-enum-known-verdict
-enum-known-verdict c = search needs
+make-move-requires : tie.Need-make-move-requires
+make-move-requires c κs = search needs
 
 same-length : tie.Need-same-length
 same-length c = search needs
 
 returns : tie.Need-returns
-returns c = verdict-accepted (c .before .before .before .before .before .before .before .before .before .before .before .args .table .now) (c .before .before .before .before .before .before .before .before .before .before .before .args .rows) (c .before .before .before .before .before .before .before .before .before .before .before .args .items) (c .before .before .before .before .before .before .before .before .before .before .before .args .file .now) (c .before .before .before .before .before .before .before .before .before .before .before .args .state .now) (c .before .before .before .before .before .before .before .before .before .before .before .args .code) (c .before .before .before .before .before .before .before .before .before .before .before .args .argument) (c .before .before .before .before .before .before .decide .result) (c .before .before .before .before .before .before .decide .ensures) _ _ (c .before .before .before .before .enum-told .given .1) (c .before .before .write .ensures)
+returns c = check-passed (c .before .before .before .before .before .before .before .before .before .before .args .table .now) (c .before .before .before .before .before .before .before .before .before .before .args .rows) (c .before .before .before .before .before .before .before .before .before .before .args .items) (c .before .before .before .before .before .before .before .before .before .before .args .file .now) (c .before .before .before .before .before .before .before .before .before .before .args .state .now) (c .before .before .before .before .before .before .before .before .before .before .args .code) (c .before .before .before .before .before .before .before .before .before .before .args .argument) (c .before .before .before .before .before .state-allowed .result) (c .before .before .before .before .before .state-allowed .ensures) (c .before .before .before .before .if1 .taken) _ _ (c .before .before .make-move .ensures)
 
 same-length-2 : tie.Need-same-length-2
 same-length-2 c = search needs
 
 returns-2 : tie.Need-returns-2
-returns-2 c = verdict-refused (c .before .before .before .before .before .before .before .before .args .table .now) (c .before .before .before .before .before .before .before .before .args .rows) (c .before .before .before .before .before .before .before .before .args .items) (c .before .before .before .before .before .before .before .before .args .file .now) (c .before .before .before .before .before .before .before .before .args .state .now) (c .before .before .before .before .before .before .before .before .args .code) (c .before .before .before .before .before .before .before .before .args .argument) (c .before .before .before .decide .result) (c .before .before .before .decide .ensures) _ _ (c .before .verdict .given .1)
+returns-2 c = check-failed (c .before .before .before .before .before .before .args .table .now) (c .before .before .before .before .before .before .args .rows) (c .before .before .before .before .before .before .args .items) (c .before .before .before .before .before .before .args .file .now) (c .before .before .before .before .before .before .args .state .now) (c .before .before .before .before .before .before .args .code) (c .before .before .before .before .before .before .args .argument) (c .before .state-allowed .result) (c .before .state-allowed .ensures) (c .if1 .left)
 
 pub step-table-spec : {M : Type 1} → statement M
 step-table-spec =
     tie.close
     (tie.spec
-    decide-requires
-    enum-told
-    write-requires
-    enum-known-verdict
+    state-allowed-requires
+    make-move-requires
     same-length
     returns
     same-length-2

@@ -1,0 +1,42 @@
+//! Request 1 of document 02 at its edges, through the proved function: an hour's last tick, starts at one tick, equal hours, the longest log.
+
+use effbd::{log_starts, most_starts, refusal, Refusal, Starts, MOST_LOG_MOVES, SETPOINT_LENGTH};
+use model::examples::{again, log_of_rounds, log_of_starts, AGAIN_ROW};
+
+#[test]
+fn hours_at_their_edges() {
+    let expected: [(&[u16], u32, u32); 11] = [
+        (&[], 0, 0),
+        (&[0], 1, 0),
+        (&[0, 35_999], 2, 0),
+        (&[0, 36_000], 1, 0),
+        (&[0, 0, 20_000, 35_999, 36_000], 4, 0),
+        (&[0, 2, 36_000, 36_001], 3, 2),
+        (&[0, 1, 36_000, 36_001], 2, 0),
+        (&[0, 20_000, 40_000, 60_000], 2, 0),
+        (&[0, 36_000, 36_000, 36_000], 3, 36_000),
+        (&[0, 0, 0, 36_000, 36_000, 36_000], 3, 0),
+        (&[0, 40_000, 40_001, 65_000, 65_001], 4, 40_000),
+    ];
+    for (times, most, at) in expected {
+        let found = most_starts(&again(), &log_of_starts(times), AGAIN_ROW);
+        assert_eq!(found, Ok(Starts { most, at }), "{times:?}");
+    }
+}
+
+#[test]
+fn as_many_moves_as_may_be_and_no_more() {
+    let most = log_of_rounds(u16::MAX, MOST_LOG_MOVES);
+    let found = most_starts(&again(), &most, AGAIN_ROW);
+    assert_eq!(found, Ok(Starts { most: 1, at: 0 }));
+    let more = log_of_rounds(9_000, MOST_LOG_MOVES + 1);
+    let mut at = 7;
+    for end in [more.len(), more.len() - 1, more.len() - SETPOINT_LENGTH - 1] {
+        let (number, value) = (refusal::LOG_OFF, 0);
+        let found = log_starts(&again(), &more[..end], AGAIN_ROW, &mut at);
+        assert_eq!((found, at), (Err(Refusal { number, value }), 7));
+    }
+    let whole = &more[..more.len() - SETPOINT_LENGTH];
+    let found = log_starts(&again(), whole, AGAIN_ROW, &mut at);
+    assert_eq!((found, at), (Ok(4), 0));
+}

@@ -1,0 +1,1 @@
+// What the definitions of logs say: theorems on crate effbd (specs/). There is no code here.

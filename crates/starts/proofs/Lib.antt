@@ -1,0 +1,4 @@
+pub mod MarkLaws
+pub mod SearchTurns
+pub mod MarkTurns
+pub mod Told

@@ -1,0 +1,4 @@
+pub mod Marks
+pub mod Searching
+pub mod Marking
+pub mod Faults
