@@ -2,7 +2,7 @@
 //! request 1, "Starts in any hour".
 
 use crate::diagram::{parse, Diagram, Row};
-use crate::diagram_step::{activity, after, fresh_state, RUNNING, STEP, WAIT};
+use crate::diagram_step::{activity, fresh_state, moved, RUNNING, STEP, WAIT};
 use crate::records::{push_words, word};
 use crate::refusal::{refusal, Answer, Refusal, LOG_OFF, MOVE_REFUSED, NOT_FUNCTION};
 
@@ -69,8 +69,8 @@ pub fn log(moves: &[(u16, u16)]) -> Vec<u8> {
     bytes
 }
 
-/// Makes moves of a log on a state, each as a call would; each is shown with
-/// the state after it. "42 a move refused, with its index": the
+/// Makes moves of a log on a state that passes 20, as the fresh one does; each
+/// is shown with the state after it. "42 a move refused, with its index": the
 /// state is then the one before that move.
 pub fn walk(
     diagram: &Diagram,
@@ -79,7 +79,7 @@ pub fn walk(
     mut show: impl FnMut(&Logged, &[u16]),
 ) -> Result<(), Refusal> {
     for logged in moves {
-        *state = after(diagram, state, logged.code, logged.argument)
+        *state = moved(diagram, state, logged.code, logged.argument)
             .map_err(|_| refusal(MOVE_REFUSED, logged.index))?;
         show(&logged, state);
     }
@@ -100,9 +100,9 @@ pub fn function_row(diagram: &Diagram, row: u16) -> Result<usize, Refusal> {
 pub fn starts(diagram: &Diagram, log: Log, row: usize) -> Result<Vec<Logged>, Refusal> {
     let mut starts = Vec::new();
     let mut state = fresh_state(diagram);
-    walk(diagram, &mut state, log.moves(), |logged, moved| {
+    walk(diagram, &mut state, log.moves(), |logged, after| {
         let stepped = logged.code == STEP && usize::from(logged.argument) == row;
-        if stepped && moved[activity(row)] == RUNNING {
+        if stepped && after[activity(row)] == RUNNING {
             starts.push(*logged);
         }
     })?;
