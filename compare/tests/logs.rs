@@ -3,6 +3,13 @@
 use effbd::{log_starts, most_starts, refusal, Refusal, Starts, MOST_LOG_MOVES, SETPOINT_LENGTH};
 use model::examples::{again, log_of_rounds, log_of_starts, AGAIN_ROW};
 
+/// What the model says of a log of `again`.
+fn by_model(log: &[u8]) -> Starts {
+    let mut at = 0;
+    let most = model::logs::log_starts(&again(), log, AGAIN_ROW, &mut at).expect("an accepted log");
+    Starts { most, at }
+}
+
 #[test]
 fn hours_at_their_edges() {
     let expected: [(&[u16], u32, u32); 11] = [
@@ -39,4 +46,36 @@ fn as_many_moves_as_may_be_and_no_more() {
     let whole = &more[..more.len() - SETPOINT_LENGTH];
     let found = log_starts(&again(), whole, AGAIN_ROW, &mut at);
     assert_eq!((found, at), (Ok(4), 0));
+}
+
+#[test]
+fn gaps_of_every_size() {
+    let near_an_hour = [
+        9_000, 17_999, 18_000, 35_839, 35_840, 35_999, 36_000, 36_001,
+    ];
+    for gap in (1..=600).chain(near_an_hour).chain([u16::MAX]) {
+        let log = log_of_rounds(gap, 200);
+        let found = most_starts(&again(), &log, AGAIN_ROW);
+        assert_eq!(found, Ok(by_model(&log)), "rounds of {gap}");
+    }
+    // Gaps of one byte and of two, one after another.
+    let times: Vec<u16> = (0..500)
+        .map(|start| start / 3 * 255 + start % 3 / 2)
+        .collect();
+    let log = log_of_starts(&times);
+    let found = most_starts(&again(), &log, AGAIN_ROW);
+    assert_eq!(found, Ok(by_model(&log)));
+}
+
+#[test]
+fn as_many_starts_as_a_log_has_room_for() {
+    let at_one_tick = log_of_starts(&[0; 16_383]);
+    let found = most_starts(&again(), &at_one_tick, AGAIN_ROW);
+    let (most, at) = (16_383, 0);
+    assert_eq!(found, Ok(Starts { most, at }));
+    for ticks in [1, 2, 3, 40] {
+        let log = log_of_rounds(ticks, MOST_LOG_MOVES);
+        let found = most_starts(&again(), &log, AGAIN_ROW);
+        assert_eq!(found, Ok(by_model(&log)), "a tick or more a round: {ticks}");
+    }
 }

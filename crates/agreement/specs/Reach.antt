@@ -9,7 +9,7 @@ use lib.Dec.{ltb, eqb}
 use borrow.Author.Tests.{ltb-true, ltb-false, eqb-true, eqb-false}
 use Rattle.effbd.specs.Ranges.{allBelow}
 use Rattle.effbd.specs.Diagrams.{Diagram, Kind, function, and-open, branch, and-close, or-open, or-close, it-open, it-close, lp-open, lp-close, loop-exit, end, numberOf, rowCount, kind, isKind, sameKind}
-use Rattle.effbd.specs.Nesting.{Frame, pop, innermostOpen, latestBranch, stack, owner, branchEnded, isClose, close, branchOf, innermostIs, inAndOr}
+use Rattle.effbd.specs.Nesting.{Frame, pop, innermostOpen, latestBranch, stack, owner, branchEnded, isClose, close, branchOf, innermostIs, inAndOr, twoBranches}
 use Rattle.effbd.specs.States.{enteredAs, enteredRow}
 use Rattle.ranges.specs.Tests.{decide, clash, and-left, and-right, or-left, or-split}
 use Rattle.ranges.specs.RangeLaws.{only-refl}
@@ -129,3 +129,22 @@ module _ (d : Diagram) (acc : wellNested d ≡ true) where
   pub opened-by : (k j : Kind) (q : ℕ) → kind d q ≡ k → sameKind k end ≡ false → mayStand d k q (stack d q) ≡ innermostIs d j (stack d q) → kind d (owner d q) ≡ j
   unfolding owner
   opened-by k j q e n m = innermost-owner j (stack d q) (sym m ∙ stands k q e n)
+
+  -- the close of an AND open is an AND close
+  or-opened : (c : ℕ) → kind d c ≡ or-close → kind d (owner d c) ≡ or-open
+  unfolding owner
+  or-opened c i = innermost-owner or-open (stack d c) (and-left (innermostIs d or-open (stack d c)) (twoBranches d (stack d c)) (stands or-close c i refl))
+
+  pub and-closed : (o : ℕ) → kind d o ≡ and-open → kind d (close d o) ≡ and-close
+  and-closed o k = let shut = law .shut o (rw k) in among (close d o) (shut .0) (rw (shut .1) k)
+    where
+      other : {C : Type 0} (c : ℕ) (j : Kind) → kind d (owner d c) ≡ and-open → kind d (owner d c) ≡ j → sameKind and-open j ≡ false → C
+      other c j m z n = clash (ap (sameKind and-open) (sym z ∙ m)) n
+
+      among : (c : ℕ) → isClose d c ≡ true → kind d (owner d c) ≡ and-open → kind d c ≡ and-close
+      among c y m = or-split (isKind d and-close c || isKind d or-close c || isKind d it-close c) (isKind d lp-close c) y
+          (λ y₁. or-split (isKind d and-close c || isKind d or-close c) (isKind d it-close c) y₁
+          (λ y₂. or-split (isKind d and-close c) (isKind d or-close c) y₂ (λ z. same-eq (kind d c) and-close z)
+          (λ t z. other c or-open m (or-opened c (same-eq (kind d c) or-close z)) refl))
+          (λ t z. other c it-open m (opened-by it-close it-open c (same-eq (kind d c) it-close z) refl refl) refl))
+          (λ t z. other c lp-open m (opened-by lp-close lp-open c (same-eq (kind d c) lp-close z) refl refl) refl)

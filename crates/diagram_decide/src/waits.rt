@@ -1,16 +1,12 @@
 // What a wait is told: 21 and 26.
 ghost use mathlib.Core.Path.{_≡_};
-ghost use mathlib.Core.Bool.{not, _&&_};
-ghost use lib.ListN.{getD};
-ghost use lib.Dec.{eqb};
 ghost use Rattle.effbd.specs.Ranges.{allBelow};
 ghost use Rattle.effbd.specs.Answers.{said};
-ghost use Rattle.effbd.specs.States.{activityAt};
-ghost use Rattle.diagram_table.specs.Cells.{kindIn};
-ghost use Rattle.diagram_moves.specs.Decisions.{functionHolds, rowHolds, rowFree, waitVerdict};
+ghost use Rattle.diagram_moves.specs.Decisions.{andDone, functionHolds, rowHolds, rowFree, waitVerdict};
 use crate::cells;
 use crate::steps;
 use crate::uses;
+use diagram_table::CLOSE;
 use diagram_table::OWNER;
 use diagram_table::SECOND;
 use effbd::Answer;
@@ -42,17 +38,19 @@ fn function_holds(
     false
 }
 
-// An idle row that is no AND close: it holds no wait, and most rows of a plant are such.
-fn is_idle(table: &[u16], state: &[u16], row: u32) -> bool
-    ensures { λ r. ⌜ r ≡ (eqb (getD (now (state .entry)) (activityAt row) 0) 0 && not (eqb (kindIn (now (table .entry)) row) 19)) ⌝ }
+// The first BRANCH row of an AND whose BRANCH rows are all done.
+fn and_done(table: &[u16], state: &[u16], row: u32) -> bool
+    ensures { λ r. ⌜ r ≡ andDone (now (table .entry)) (now (state .entry)) row ⌝ }
 {
-    if cells::activity(state, row) != 0 {
+    let owner = diagram_table::cell(table, OWNER, row) as u32;
+    if owner + 1 != row {
         return false;
     }
-    diagram_table::kind(table, row) != kinds::AND_CLOSE
+    let close = diagram_table::cell(table, CLOSE, owner) as u32;
+    steps::all_done(table, state, owner, close)
 }
 
-// Any other row but END holds it if it is ready, an AND close also if it could step.
+// Any other row but END holds it if it is ready. An AND close that could step is seen at the first BRANCH row of its AND, which is done.
 fn row_holds(
     table: &[u16],
     rows: u32,
@@ -64,9 +62,6 @@ fn row_holds(
 ) -> bool
     ensures { λ r. ⌜ r ≡ rowHolds (now (table .entry)) rows items (now (file .entry)) (now (state .entry)) ticks row ⌝ }
 {
-    if is_idle(table, state, row) {
-        return false;
-    }
     let kind = diagram_table::kind(table, row);
     if kind == kinds::FUNCTION {
         return function_holds(table, rows, items, file, state, ticks, row);
@@ -74,24 +69,26 @@ fn row_holds(
     if kind == kinds::END {
         return false;
     }
-    if cells::activity(state, row) == 1 {
+    let activity = cells::activity(state, row);
+    if activity == 1 {
         return true;
     }
-    if kind == kinds::AND_CLOSE {
-        let owner = diagram_table::cell(table, OWNER, row) as u32;
-        return steps::all_done(table, state, owner, row);
+    if activity == 3 {
+        return and_done(table, state, row);
     }
     false
 }
 
-// No row holds it.
+// No row holds it; an idle one never does.
 fn unheld(table: &[u16], rows: u32, items: u32, file: &[u8], state: &[u16], ticks: u16) -> bool
     ensures { λ r. ⌜ r ≡ allBelow rows (rowFree (now (table .entry)) rows items (now (file .entry)) (now (state .entry)) ticks) ⌝ }
 {
-    for row in 0..rows {
+    let mut row = cells::next_busy(state, 0, rows);
+    while row < rows {
         if row_holds(table, rows, items, file, state, ticks, row) {
             return false;
         }
+        row = cells::next_busy(state, row + 1, rows);
     }
     true
 }

@@ -4,12 +4,12 @@ use mathlib.Core.Bool.{Bool, true, false, not, cond, _&&_, _||_}
 use mathlib.Core.List.{List, [], _∷_}
 use lib.ListN.{length, getD}
 use lib.Dec.{leb, ltb, eqb}
-use Rattle.effbd.specs.Ranges.{allBelow}
+use Rattle.effbd.specs.Ranges.{allBelow, least}
 use Rattle.effbd.specs.Answers.{Outcome, accepted, refused}
 use Rattle.effbd.specs.Diagrams.{Use}
 use Rattle.effbd.specs.States.{activityAt, turnsAt, clockAt}
 use Rattle.effbd.specs.Moves.{mostWord}
-use Rattle.diagram_table.specs.Cells.{kindIn, firstIn, secondIn, ownerIn, usesIn, isBranch}
+use Rattle.diagram_table.specs.Cells.{kindIn, firstIn, secondIn, ownerIn, closeIn, usesIn, isBranch}
 
 -- where count k stands in a state of so many rows
 abbrev pub countPlace : ℕ → ℕ → ℕ
@@ -64,6 +64,14 @@ module _ (table : List ℕ) where
   unfoldable pub allDoneTo : List ℕ → ℕ → ℕ → Bool
   allDoneTo words o e = allBelow e (doneFrom words o)
 
+  -- r is the first BRANCH row of an AND whose BRANCH rows are all done: its close could step
+  unfoldable pub andDone : List ℕ → ℕ → Bool
+  andDone words r = eqb (ownerIn table r + 1) r && allDoneTo words (ownerIn table r) (closeIn table (ownerIn table r))
+
+-- the first row from row `from` on that is not idle, or the number of rows
+unfoldable pub nextBusy : List ℕ → (from rows : ℕ) → ℕ
+nextBusy words from rows = least rows (λ q. leb from q && not (eqb (getD words (activityAt q) 0) 0))
+
 -- the step of row r stands if row o is ready
 unfoldable pub readyVerdict : List ℕ → ℕ → ℕ → Outcome ℕ
 readyVerdict words o r = cond (eqb (getD words (activityAt o) 0) 1) (accepted 0) (refused 22 r)
@@ -99,7 +107,7 @@ module _ (table : List ℕ) (rows items : ℕ) (file words : List ℕ) where
       (cond (eqb (kindIn table r) 27) (refused 22 r)
       (readyVerdict words r r)))))
 
-  -- what holds a wait of n ticks at row r
+  -- what holds a wait of n ticks at row r; an AND close that could step is seen at the first BRANCH row of its AND, so that no idle row holds
   unfoldable pub functionHolds : (n r : ℕ) → Bool
   functionHolds n r = cond (eqb (getD words (activityAt r) 0) 1) (leb items (blockedItem false rows items words (usesIn table file r)))
       (cond (eqb (getD words (activityAt r) 0) 2) (ltb (secondIn table r) (getD words (clockAt r) 0 + n)) false)
@@ -108,7 +116,7 @@ module _ (table : List ℕ) (rows items : ℕ) (file words : List ℕ) where
   rowHolds n r = cond (eqb (kindIn table r) 16) (functionHolds n r)
       (cond (eqb (kindIn table r) 27) false
       (cond (eqb (getD words (activityAt r) 0) 1) true
-      (cond (eqb (kindIn table r) 19) (allDoneTo table words (ownerIn table r) r) false)))
+      (cond (eqb (getD words (activityAt r) 0) 3) (andDone table words r) false)))
 
   unfoldable pub rowFree : (n r : ℕ) → Bool
   rowFree n r = not (rowHolds n r)

@@ -2,6 +2,7 @@ pub mod Decisions
 pub mod Changes
 pub mod Stores
 pub mod RowStores
+pub mod BusyRows
 pub mod RisingUses
 pub mod TokenMoves
 pub mod FunctionMoves

@@ -17,18 +17,18 @@ use Rattle.effbd.specs.States.{State, turnsAt, stateOf, enteredAs, enteredRow, 
 use Rattle.effbd.specs.Moves.{mostWord, moveOf, passTicks, enough, allDone, ifReady, stepAs, step, holdsAs, wait, move, wordsOutcome, moveWords, checkedMove}
 use Rattle.diagram_table.specs.Held.{Holds, HoldsUses}
 use Rattle.diagram_file.proofs.HeldCells.{owner-in}
-use Rattle.ranges.specs.Tests.{decide, clash, and-left, or-false-right}
-use Rattle.ranges.specs.RangeLaws.{all-elim, all-ext}
-use Rattle.agreement.specs.Basics.{kind-in, not-kind}
+use Rattle.ranges.specs.Tests.{decide, clash, and-left, and-right, or-split, or-left, or-right, or-false-right}
+use Rattle.ranges.specs.RangeLaws.{all-intro, all-elim, all-ext}
+use Rattle.agreement.specs.Basics.{kind-in, not-kind, same-eq}
 use Rattle.agreement.specs.Structure.{opens, Laws}
 use Rattle.agreement.specs.NestingLaws.{laws}
 use Rattle.agreement.specs.AcceptedFiles.{Held}
 use Rattle.diagram_table.specs.Cells.{kindIn, ownerIn, closeIn}
-use Rattle.diagram_moves.specs.Decisions.{added, activityAllowed, turnsAllowed, clockAllowed, rowAllowed, stateAllowed, readyVerdict, branchVerdict, closeVerdict, rowVerdict, functionHolds, rowHolds, rowFree, waitVerdict, moveVerdict}
+use Rattle.diagram_moves.specs.Decisions.{added, activityAllowed, turnsAllowed, clockAllowed, rowAllowed, stateAllowed, andDone, readyVerdict, branchVerdict, closeVerdict, rowVerdict, functionHolds, rowHolds, rowFree, waitVerdict, moveVerdict}
 use Rattle.diagram_moves.specs.Changes.{fold, rowSet, tickTurn, tokenPassed, branchesTurned, itOpenChange, exitChange, entered, rowChange, moveChange, outcomeOf, tableMove, checkedTableMove}
 use Rattle.diagram_moves.specs.Stores.{Reads, like, reads-words, words-read, set-turns}
 use Rattle.diagram_moves.specs.RowStores.{tick-fold}
-use Rattle.agreement.specs.Reach.{next-in, close-in, opened-by}
+use Rattle.agreement.specs.Reach.{next-in, close-in, opened-by, and-closed}
 use Rattle.diagram_moves.specs.TokenMoves.{number-is, idle-reads, enter-reads, pass-reads, ready-is, all-done-is, idle-branches, open-branches, clear-reads}
 use Rattle.diagram_moves.specs.FunctionMoves.{Small, whole-sum, enough-is, function-is}
 
@@ -66,6 +66,34 @@ runs-only d lp-open ofAnd h = clash h refl
 runs-only d lp-close ofAnd h = clash h refl
 runs-only d loop-exit ofAnd h = clash h refl
 runs-only d end ofAnd h = clash h refl
+
+-- only a BRANCH of an AND is done
+done-only : (d : Diagram) (k : Kind) (ofAnd : Bool) → activityFine d k ofAnd 3 ≡ true → (k ≡ branch) × (ofAnd ≡ true)
+done-only d function ofAnd h = clash h refl
+done-only d and-open ofAnd h = clash h refl
+done-only d branch true h = (refl, refl)
+done-only d branch false h = clash h refl
+done-only d and-close ofAnd h = clash h refl
+done-only d or-open ofAnd h = clash h refl
+done-only d or-close ofAnd h = clash h refl
+done-only d it-open ofAnd h = clash h refl
+done-only d it-close ofAnd h = clash h refl
+done-only d lp-open ofAnd h = clash h refl
+done-only d lp-close ofAnd h = clash h refl
+done-only d loop-exit ofAnd h = clash h refl
+done-only d end ofAnd h = clash h refl
+
+branch-kind : (d : Diagram) (o b : ℕ) → branchOf d o b ≡ true → kind d b ≡ branch
+unfolding branchOf
+branch-kind d o b y = same-eq (kind d b) branch (and-left (isKind d branch b) (only o (owner d b)) y)
+
+branch-owner : (d : Diagram) (o b : ℕ) → branchOf d o b ≡ true → owner d b ≡ o
+unfolding branchOf
+branch-owner d o b y = eqb-true (owner d b) o (and-right (isKind d branch b) (only o (owner d b)) y)
+
+-- where all BRANCH rows of o are done, each is
+done-at : (d : Diagram) (o : ℕ) (s : State) (b : ℕ) → branchOf d o b ≡ true → b < rowCount d → allDone d o s ≡ true → eqb (s .activity b) 3 ≡ true
+done-at d o s b y c f = ap (λ (x : Bool). not x || eqb (s .activity b) 3) (sym y) ∙ all-elim (rowCount d) (λ b. not (branchOf d o b) || eqb (s .activity b) 3) f b c
 
 activity-shape : (d : Diagram) (k : Kind) (ofAnd : Bool) (a : ℕ)
     → cond (eqb (numberOf k) 16) (leb a 2) (cond (eqb (numberOf k) 18) (cond (eqb a 0) true (cond ofAnd (eqb a 3) false)) (cond (eqb (numberOf k) 19) (eqb a 0) (leb a 1))) ≡ activityFine d k ofAnd a
@@ -107,37 +135,130 @@ module _ (d : Diagram) (H : Held d) (table : List ℕ) (h : Holds d (rowCount d)
   closing r k = rw k
 
   module _ (n : ℕ) where
-    row-holds-as : (k : Kind) (q : ℕ) → q < rowCount d → kind d q ≡ k → rowHolds table (rowCount d) (countTotal d) file l n q ≡ holdsAs d k q n s
-    unfolding rowHolds functionHolds
-    row-holds-as function q b k = rw (number-is d (H .acc) table h q function b k, e .activity q b, e .clock q b, h .records .seconds q b, enough-is d H table h file u l s e q b k)
+    holds : ℕ → Bool
+    holds q = rowHolds table (rowCount d) (countTotal d) file l n q
+
+    -- what holds a wait at a row, but for an AND close that could step
+    plainly : Kind → ℕ → Bool
+    plainly k q = cond (sameKind k and-close) (eqb (s .activity q) 1) (holdsAs d k q n s)
+
+    row-holds-as : (k : Kind) (q : ℕ) → q < rowCount d → kind d q ≡ k → eqb (s .activity q) 3 ≡ false → holds q ≡ plainly k q
+    unfolding holds plainly rowHolds functionHolds
+    row-holds-as function q b k z = rw (number-is d (H .acc) table h q function b k, e .activity q b, e .clock q b, h .records .seconds q b, enough-is d H table h file u l s e q b k)
         (holds-shape (s .activity q) (enough d q s) (ltb (row d q .second) (s .clock q + n)))
-    row-holds-as and-open q b k = rw (number-is d (H .acc) table h q and-open b k, e .activity q b) (yes-no (eqb (s .activity q) 1))
-    row-holds-as branch q b k = rw (number-is d (H .acc) table h q branch b k, e .activity q b) (yes-no (eqb (s .activity q) 1))
-    row-holds-as and-close q b k = rw (number-is d (H .acc) table h q and-close b k, e .activity q b, h .owners q b, all-done-is d (H .acc) table h (owner d q) q (closing q k) refl b l s e)
-        (cond-or (eqb (s .activity q) 1) (allDone d (owner d q) s))
-    row-holds-as or-open q b k = rw (number-is d (H .acc) table h q or-open b k, e .activity q b) (yes-no (eqb (s .activity q) 1))
-    row-holds-as or-close q b k = rw (number-is d (H .acc) table h q or-close b k, e .activity q b) (yes-no (eqb (s .activity q) 1))
-    row-holds-as it-open q b k = rw (number-is d (H .acc) table h q it-open b k, e .activity q b) (yes-no (eqb (s .activity q) 1))
-    row-holds-as it-close q b k = rw (number-is d (H .acc) table h q it-close b k, e .activity q b) (yes-no (eqb (s .activity q) 1))
-    row-holds-as lp-open q b k = rw (number-is d (H .acc) table h q lp-open b k, e .activity q b) (yes-no (eqb (s .activity q) 1))
-    row-holds-as lp-close q b k = rw (number-is d (H .acc) table h q lp-close b k, e .activity q b) (yes-no (eqb (s .activity q) 1))
-    row-holds-as loop-exit q b k = rw (number-is d (H .acc) table h q loop-exit b k, e .activity q b) (yes-no (eqb (s .activity q) 1))
-    row-holds-as end q b k = rw (number-is d (H .acc) table h q end b k)
+    row-holds-as and-open q b k z = rw (number-is d (H .acc) table h q and-open b k, e .activity q b, z) (yes-no (eqb (s .activity q) 1))
+    row-holds-as branch q b k z = rw (number-is d (H .acc) table h q branch b k, e .activity q b, z) (yes-no (eqb (s .activity q) 1))
+    row-holds-as and-close q b k z = rw (number-is d (H .acc) table h q and-close b k, e .activity q b, z) (yes-no (eqb (s .activity q) 1))
+    row-holds-as or-open q b k z = rw (number-is d (H .acc) table h q or-open b k, e .activity q b, z) (yes-no (eqb (s .activity q) 1))
+    row-holds-as or-close q b k z = rw (number-is d (H .acc) table h q or-close b k, e .activity q b, z) (yes-no (eqb (s .activity q) 1))
+    row-holds-as it-open q b k z = rw (number-is d (H .acc) table h q it-open b k, e .activity q b, z) (yes-no (eqb (s .activity q) 1))
+    row-holds-as it-close q b k z = rw (number-is d (H .acc) table h q it-close b k, e .activity q b, z) (yes-no (eqb (s .activity q) 1))
+    row-holds-as lp-open q b k z = rw (number-is d (H .acc) table h q lp-open b k, e .activity q b, z) (yes-no (eqb (s .activity q) 1))
+    row-holds-as lp-close q b k z = rw (number-is d (H .acc) table h q lp-close b k, e .activity q b, z) (yes-no (eqb (s .activity q) 1))
+    row-holds-as loop-exit q b k z = rw (number-is d (H .acc) table h q loop-exit b k, e .activity q b, z) (yes-no (eqb (s .activity q) 1))
+    row-holds-as end q b k z = rw (number-is d (H .acc) table h q end b k)
+
+    -- a BRANCH row of an AND that is done
+    row-holds-done : (q : ℕ) → q < rowCount d → kind d q ≡ branch → kind d (owner d q) ≡ and-open → s .activity q ≡ 3
+        → holds q ≡ (eqb (owner d q + 1) q && allDone d (owner d q) s)
+    unfolding holds rowHolds andDone
+    row-holds-done q b k o a =
+        let own : owner d q < rowCount d = owner-in d (rowCount d) (countTotal d) table h q b in
+        let opening : opens d (owner d q) ≡ true = rw o in
+        let shut = laws d (H .acc) .shut (owner d q) opening in
+        let last = close-in d (H .acc) (owner d q) opening in
+        rw (
+          number-is d (H .acc) table h q branch b k,
+          e .activity q b,
+          a,
+          h .owners q b,
+          h .closes (owner d q) own,
+          all-done-is d (H .acc) table h (owner d q) (close d (owner d q)) (shut .0) (shut .1) (omega arith) l s e,
+        )
 
     unheld : Bool
     unheld = allBelow (rowCount d) (λ q. not (holdsAs d (kind d q) q n s))
 
-    free-is : allBelow (rowCount d) (rowFree table (rowCount d) (countTotal d) file l n) ≡ unheld
-    unfolding unheld rowFree
-    free-is = all-ext (rowCount d) _ _ (λ q b. ap not (row-holds-as (kind d q) q b refl))
+    free : Bool
+    free = allBelow (rowCount d) (rowFree table (rowCount d) (countTotal d) file l n)
+
+    -- a row that holds, where none does
+    not-free : {C : Type 0} → free ≡ true → (q : ℕ) → q < rowCount d → holds q ≡ true → C
+    unfolding free rowFree holds
+    not-free f q b y = clash y (not-true (rowHolds table (rowCount d) (countTotal d) file l n q) (all-elim (rowCount d) (rowFree table (rowCount d) (countTotal d) file l n) f q b))
+
+    not-unheld : {C : Type 0} → unheld ≡ true → (q : ℕ) → q < rowCount d → (k : Kind) → kind d q ≡ k → holdsAs d k q n s ≡ true → C
+    unfolding unheld
+    not-unheld f q b k i y = clash (ap (λ (j : Kind). holdsAs d j q n s) i ∙ y) (not-true (holdsAs d (kind d q) q n s) (all-elim (rowCount d) (λ q. not (holdsAs d (kind d q) q n s)) f q b))
 
     module _ (passes : statePasses d s ≡ true) where
+      fine : (q : ℕ) → q < rowCount d → activityFine d (kind d q) (isKind d and-open (owner d q)) (s .activity q) ≡ true
+      fine q b = and-left _ _ (all-elim (rowCount d) (rowPasses d s) passes q b)
+
+      -- a done row is a BRANCH of an AND
+      done-branch : (q : ℕ) → q < rowCount d → s .activity q ≡ 3 → (kind d q ≡ branch) × (kind d (owner d q) ≡ and-open)
+      done-branch q b a = let z = done-only d (kind d q) (isKind d and-open (owner d q)) (rw (← a) (fine q b)) in (z .0, same-eq (kind d (owner d q)) and-open (z .1))
+
+      -- an AND close that could step is seen at the first BRANCH row
+      close-seen : (q : ℕ) → q < rowCount d → kind d q ≡ and-close → allDone d (owner d q) s ≡ true → free ≡ false
+      close-seen q b k y =
+          let law = laws d (H .acc) in
+          let o = owner d q in
+          let and : kind d o ≡ and-open = law .mine q k in
+          let first : branchOf d o (suc o) ≡ true = law .first o and in
+          let isBranch : kind d (suc o) ≡ branch = branch-kind d o (suc o) first in
+          let own : owner d (suc o) ≡ o = branch-owner d o (suc o) first in
+          let c : suc o < rowCount d = next-in d (H .acc) o (not-kind d o and end refl) in
+          let a : s .activity (suc o) ≡ 3 = eqb-true (s .activity (suc o)) 3 (done-at d o s (suc o) first c y) in
+          decide free (λ f. not-free f (suc o) c (row-holds-done (suc o) c isBranch (rw own and) a ∙ rw (own, add-one o, eq-eqb (suc o) (suc o) refl) y)) (λ f. f)
+
+      -- where no row of the table holds, none of the diagram does
+      seen : {C : Type 0} → free ≡ true → (q : ℕ) → q < rowCount d → (k : Kind) → kind d q ≡ k → holdsAs d k q n s ≡ true → C
+      unfolding plainly
+      seen f q b k i y = decide (eqb (s .activity q) 3)
+          (λ z. let a = eqb-true (s .activity q) 3 z in
+          clash (ap (λ (j : Kind). holdsAs d j q n s) (sym (done-branch q b a .0) ∙ i) ∙ y) (ap (λ (x : ℕ). eqb x 1) a))
+          (λ z. decide (sameKind k and-close)
+          (λ w. let j : k ≡ and-close = same-eq k and-close w in
+          or-split (eqb (s .activity q) 1) (allDone d (owner d q) s) (ap (λ (j : Kind). holdsAs d j q n s) (sym j) ∙ y)
+          (λ v. not-free f q b (row-holds-as k q b i z ∙ rw w v)) (λ t v. clash f (close-seen q b (i ∙ j) v)))
+          (λ w. not-free f q b (row-holds-as k q b i z ∙ rw w y)))
+
+      all-unheld : free ≡ true → unheld ≡ true
+      unfolding unheld
+      all-unheld f = all-intro (rowCount d) (λ q. not (holdsAs d (kind d q) q n s))
+          (λ q b. decide (holdsAs d (kind d q) q n s) (λ y. seen f q b (kind d q) refl y) (λ y. rw y))
+
+      -- and the other way round
+      plain-told : {C : Type 0} → unheld ≡ true → (q : ℕ) → q < rowCount d → (k : Kind) → kind d q ≡ k → plainly k q ≡ true → C
+      unfolding plainly
+      plain-told g q b k i y = decide (sameKind k and-close)
+          (λ w. not-unheld g q b and-close (i ∙ same-eq k and-close w) (or-left (allDone d (owner d q) s) (rw w at y)))
+          (λ w. not-unheld g q b k i (rw w at y))
+
+      told : {C : Type 0} → unheld ≡ true → (q : ℕ) → q < rowCount d → holds q ≡ true → C
+      told g q b y = decide (eqb (s .activity q) 3)
+          (λ z. let a = eqb-true (s .activity q) 3 z in
+          let i = done-branch q b a in
+          let opening : opens d (owner d q) ≡ true = rw (i .1) in
+          let shut = laws d (H .acc) .shut (owner d q) opening in
+          let last = close-in d (H .acc) (owner d q) opening in
+          let all = and-right (eqb (owner d q + 1) q) (allDone d (owner d q) s) (sym (row-holds-done q b (i .0) (i .1) a) ∙ y) in
+          not-unheld g (close d (owner d q)) (omega arith) and-close (and-closed d (H .acc) (owner d q) (i .1)) (or-right (eqb (s .activity (close d (owner d q))) 1) (rw (shut .1) all)))
+          (λ z. plain-told g q b (kind d q) refl (sym (row-holds-as (kind d q) q b refl z) ∙ y))
+
+      all-free : unheld ≡ true → free ≡ true
+      unfolding free rowFree holds
+      all-free g = all-intro (rowCount d) (rowFree table (rowCount d) (countTotal d) file l n) (λ q b. decide (holds q) (λ y. told g q b y) (λ y. ap not y))
+
+      free-is : free ≡ unheld
+      free-is = decide free (λ f. f ∙ sym (all-unheld f)) (λ f. decide unheld (λ g. clash (all-free g) f) (λ g. f ∙ sym g))
+
       -- no clock of a wait that is not held passes 16 bits
       in-time : unheld ≡ true → (q : ℕ) → q < rowCount d → s .activity q ≡ 2 → s .clock q + n ≤ mostWord
       unfolding unheld
       in-time f q b a =
-          let p : activityFine d (kind d q) (isKind d and-open (owner d q)) (s .activity q) ≡ true = and-left _ _ (all-elim (rowCount d) (rowPasses d s) passes q b) in
-          let k : kind d q ≡ function = runs-only d (kind d q) (isKind d and-open (owner d q)) (rw (← a) p) in
+          let k : kind d q ≡ function = runs-only d (kind d q) (isKind d and-open (owner d q)) (rw (← a) (fine q b)) in
           let g : holdsAs d function q n s ≡ false = ap (λ (j : Kind). holdsAs d j q n s) (sym k) ∙ not-true (holdsAs d (kind d q) q n s) (all-elim (rowCount d) (λ q. not (holdsAs d (kind d q) q n s)) f q b) in
           let i : (eqb (s .activity q) 2 && ltb (row d q .second) (s .clock q + n)) ≡ false = or-false-right (eqb (s .activity q) 1 && enough d q s) _ g in
           let j : ltb (row d q .second) (s .clock q + n) ≡ false = ap (λ (x : Bool). x && ltb (row d q .second) (s .clock q + n)) (sym (eq-eqb (s .activity q) 2 a)) ∙ i in
@@ -154,7 +275,7 @@ module _ (d : Diagram) (H : Held d) (table : List ℕ) (h : Holds d (rowCount d)
           })
 
       pub wait-is : outcomeOf (waitVerdict table (rowCount d) (countTotal d) file l n) (fold (rowCount d) (tickTurn n) l) ≡ wordsOutcome d (wait d n s)
-      unfolding waitVerdict wordsOutcome unheld
+      unfolding waitVerdict wordsOutcome unheld free
       wait-is = rw free-is (decide (eqb n 0) (λ y. rw y) (λ y. rw y (decide unheld
           (λ z. rw z (ap accepted (reads-words d (fold (rowCount d) (tickTurn n) l) (passTicks n s) (ticked z)))) (λ z. rw z))))
 

@@ -75,11 +75,13 @@ fn tick_row(state: &mut [u16], ticks: u16, row: u32)
     }
 }
 
-// Every running clock grows.
+// Every running clock grows; an idle row has none.
 pub(crate) fn pass_ticks(state: &mut [u16], rows: u32, ticks: u16)
     ensures { λ _. ⌜ now (state .exit) ≡ fold rows (tickTurn ticks) (now (state .entry)) ⌝ }
 {
-    for row in 0..rows {
+    let mut row = cells::next_busy(state, 0, rows);
+    while row < rows {
         tick_row(state, ticks, row);
+        row = cells::next_busy(state, row + 1, rows);
     }
 }

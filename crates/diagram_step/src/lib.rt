@@ -108,15 +108,15 @@ fn write(table: &[u16], rows: u32, file: &[u8], state: &mut [u16], code: u16, ar
 
 // A move on a diagram's table, without a check of the state, as a log makes it: decided, then written; a refusal leaves the state as it was.
 // Of the table that crate diagram_file makes of an accepted file, and a state that passes 20, this is document 02's move of a log (theorem
-// `log-move-is` of crate diagram_moves).
+// `log-move-is` of crate diagram_moves). The code and its argument come first, in registers: the step's way forks on them.
 pub fn make_move(
+    code: u16,
+    argument: u16,
     table: &[u16],
+    state: &mut [u16],
     rows: u32,
     items: u32,
     file: &[u8],
-    state: &mut [u16],
-    code: u16,
-    argument: u16,
 ) -> Answer
     ensures { λ r. ⌜ said r ≡ returningZero (tableMove (now (table .entry)) rows items (now (file .entry)) (now (state .entry)) code argument) ⌝ }
     ensures { λ r. ⌜ now (state .exit) ≡ afterwards (now (state .entry)) (tableMove (now (table .entry)) rows items (now (file .entry)) (now (state .entry)) code argument) ⌝ }
@@ -145,7 +145,7 @@ fn step_table(
     ensures { λ r. ⌜ now (state .exit) ≡ afterwards (now (state .entry)) (checkedTableMove (now (table .entry)) rows items (now (file .entry)) (now (state .entry)) code argument) ⌝ }
 {
     if check::state_allowed(table, rows, items, state) {
-        return make_move(table, rows, items, file, state, code, argument);
+        return make_move(code, argument, table, state, rows, items, file);
     }
     Answer::Refused(refusals::STATE_OFF, 0)
 }

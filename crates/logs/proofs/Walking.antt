@@ -21,7 +21,7 @@ use Rattle.log_laws.specs.LogMoves.{noSetpoint, setpoints-many, setpoint-is, pl
 use Rattle.logs.specs.Walk.{Walk}
 
 -- what a move of a log is told of its outcome
-told-made : (i v : ℕ) (words : List ℕ) (o : Outcome (List ℕ)) → accepted v ≡ returningZero (withIndex i o) → o ≡ accepted (afterwards words o)
+pub told-made : (i v : ℕ) (words : List ℕ) (o : Outcome (List ℕ)) → accepted v ≡ returningZero (withIndex i o) → o ≡ accepted (afterwards words o)
 told-made i v words (accepted a) e = refl
 told-made i v words (refused n w) e = never (sym e)
 

@@ -3,12 +3,10 @@
 ghost use mathlib.Core.Path.{_≡_};
 ghost use Rattle.effbd.specs.Answers.{said, returningZero, afterwards};
 ghost use Rattle.effbd.specs.Logs.{setpointAt, moveCount, logFault, withIndex};
-ghost use Rattle.effbd.specs.Logs.{ticks as ticksOf};
 ghost use Rattle.diagram_moves.specs.Changes.{tableMove};
 use effbd::Answer;
 use effbd::limits::MOST_MOVES;
 use effbd::limits::SETPOINT_LENGTH;
-use effbd::moves;
 use effbd::refusals;
 
 // 40: too many moves, or bytes left over.
@@ -56,41 +54,22 @@ pub fn setpoint_at(log: &[u8], index: u32) -> Setpoint
     }
 }
 
-// The ticks that pass in a move: a step lets no time pass.
-pub fn ticks(log: &[u8], index: u32) -> u16
-    ensures { λ r. ⌜ r ≡ ticksOf (setpointAt (now (log .entry)) index) ⌝ }
-{
-    let setpoint = setpoint_at(log, index);
-    if setpoint.code == moves::WAIT {
-        return setpoint.argument;
-    }
-    0
-}
-
-// Makes a move of a log on a diagram's table, without a check of the state: every state of a log passes it. A move that is refused is 42 with
-// its index, and leaves the state as it was.
+// Makes move `index` of a log, as its setpoint says it, on a diagram's table, without a check of the state: every state of a log passes it. A
+// move that is refused is 42 with its index, and leaves the state as it was.
 pub fn make_move(
+    code: u16,
+    argument: u16,
+    index: u32,
     table: &[u16],
+    state: &mut [u16],
     rows: u32,
     items: u32,
     file: &[u8],
-    log: &[u8],
-    index: u32,
-    state: &mut [u16],
 ) -> Answer
-    ensures { λ r. ⌜ said r ≡ returningZero (withIndex index (tableMove (now (table .entry)) rows items (now (file .entry)) (now (state .entry)) (setpointAt (now (log .entry)) index .code) (setpointAt (now (log .entry)) index .argument))) ⌝ }
-    ensures { λ _. ⌜ now (state .exit) ≡ afterwards (now (state .entry)) (tableMove (now (table .entry)) rows items (now (file .entry)) (now (state .entry)) (setpointAt (now (log .entry)) index .code) (setpointAt (now (log .entry)) index .argument)) ⌝ }
+    ensures { λ r. ⌜ said r ≡ returningZero (withIndex index (tableMove (now (table .entry)) rows items (now (file .entry)) (now (state .entry)) code argument)) ⌝ }
+    ensures { λ _. ⌜ now (state .exit) ≡ afterwards (now (state .entry)) (tableMove (now (table .entry)) rows items (now (file .entry)) (now (state .entry)) code argument) ⌝ }
 {
-    let setpoint = setpoint_at(log, index);
-    let answer = diagram_step::make_move(
-        table,
-        rows,
-        items,
-        file,
-        state,
-        setpoint.code,
-        setpoint.argument,
-    );
+    let answer = diagram_step::make_move(code, argument, table, state, rows, items, file);
     match answer {
         Answer::Accepted(_) => Answer::Accepted(0),
         Answer::Refused(_, _) => Answer::Refused(refusals::MOVE_REFUSED, index),

@@ -1,4 +1,6 @@
-pub mod MarkLaws
-pub mod SearchTurns
-pub mod MarkTurns
+pub mod GapLaws
+pub mod WindowTurns
+pub mod AcceptedMoves
+pub mod MoveTurns
+pub mod CountTurns
 pub mod Told

@@ -2,31 +2,32 @@
 use Prim.Native.Nat.{ℕ, zero, suc, _+_, _-_, _*_, _%_, _≤_}
 use mathlib.Core.Path.{_≡_, refl, sym, _∙_, ap, ap₂, subst}
 use mathlib.Core.Logic.{_≢_}
-use mathlib.Core.Bool.{Bool, true, false, cond, _&&_}
-use mathlib.Core.List.{List}
+use mathlib.Core.Bool.{Bool, true, false, not, cond, _&&_}
+use mathlib.Core.List.{List, [], _++_, append-nil}
 use native.Mathlib.Omega.{arith}
-use lib.ListN.{length, take, List·getD-eq-default}
+use lib.ListN.{length, take, drop, drop-of-length-le, List·getD-eq-default}
 use lib.Dec.{leb, ltb, eqb}
-use borrow.Author.Tests.{ne-eqb, leb-true, ltb-true, ltb-false}
-use Rattle.effbd.specs.Answers.{Outcome, accepted, refused, returningZero, unless, andThen}
+use borrow.Author.Tests.{eqb-true, ne-eqb, leb-true, ltb-true, ltb-false}
+use Rattle.effbd.specs.Answers.{Outcome, accepted, refused, isAccepted, unless, andThen}
 use Rattle.effbd.specs.Diagrams.{Diagram, Row, function, sameKind, plain, end, row, kind, isKind}
 use Rattle.effbd.specs.Nesting.{readDiagram}
 use Rattle.effbd.specs.Layout.{places}
 use Rattle.effbd.specs.States.{freshWords}
-use Rattle.effbd.specs.Logs.{setpoints, moveCount, mostMoves, logFault, played}
-use Rattle.effbd.specs.Starts.{Start, starts, timesOf, Busiest, busiest, startsOf, startsToldAs, logStarts}
-use Rattle.ranges.specs.Tests.{decide, and-right}
+use Rattle.effbd.specs.Logs.{Setpoint, setpoints, moveCount, mostMoves, logFault, played}
+use Rattle.effbd.specs.Starts.{Start, startsFrom, starts, timesOf, Busiest, busiest, startsOf, startsToldAs, logStarts}
+use Rattle.ranges.specs.Tests.{decide, clash, and-right}
+use Rattle.diagram_table.specs.Cells.{kindIn}
 use Rattle.diagram_table.specs.Held.{HoldsFile}
 use Rattle.diagram_file.specs.Tables.{refusalNumber, refusalValue, FreshOf}
-use Rattle.agreement.specs.ByteLaws.{never}
 use Rattle.log_laws.specs.LogMoves.{setpoints-many}
-use Rattle.log_laws.specs.BackPosition.{Positions, Marked, at-end}
-use Rattle.starts.specs.Marks.{markedIn}
-use Rattle.starts.specs.Searching.{Searching}
-use Rattle.starts.specs.Marking.{noMarks, MarkedAll}
-use Rattle.starts.proofs.MarkTurns.{mark-begins}
-use Rattle.starts.specs.declared.spans.Search.{Search}
-use Rattle.starts.specs.Faults.{notFunction, startsFault, Begun}
+use Rattle.log_laws.specs.Spans.{Most, most-one, log-busiest}
+use Rattle.logs.specs.Walk.{Walk}
+use Rattle.logs.proofs.Walking.{walk-ends}
+use Rattle.starts.specs.Faults.{notFunction, startsFault}
+use Rattle.starts.specs.Windows.{bestOf}
+use Rattle.starts.specs.declared.spans.Window.{Window}
+use Rattle.starts.specs.Counting.{noGaps, Counting, Begun}
+use Rattle.starts.proofs.CountTurns.{count-begins}
 
 -- what a call is told and leaves
 abbrev pub Tells : (file log : List ℕ) (row before : ℕ) (answer : Outcome ℕ) (after : ℕ) → Type 0
@@ -101,39 +102,50 @@ module _ (file log : List ℕ) (r before : ℕ) where
     pub fresh-part : (source : List ℕ) (size : ℕ) → FreshOf d source → size ≡ 3 * rows + items → take (size - 0) source ≡ freshWords d
     fresh-part source size f e = ap (λ (n : ℕ). take n source) (let a = h .holds .records .rowsAre in let c = h .holds .records .itemsAre in let z : size - 0 ≡ places d = omega arith in z) ∙ f .words
 
-    -- THEOREM: from the fresh state, with nothing marked, it may
-    pub begins : (words marks : List ℕ) → startsFault table rows log r ≡ 0 → words ≡ freshWords d → marks ≡ noMarks → Begun file log rows items table r words marks
-    begins words marks c e none = record { clean = c; marking = mark-begins file log rows items table r h words marks (clean-few c) e none }
+    -- a row with no fault is a FUNCTION
+    clean-function : startsFault table rows log r ≡ 0 → kindIn table r ≡ 16
+    unfolding startsFault notFunction
+    clean-function e = go (logFault log) e
+      where
+        kind-is : (b : Bool) → ltb r rows ≡ b → _≡_ {A = ℕ} (cond b (cond (eqb (kindIn table r) 16) 0 41) 41) 0 → kindIn table r ≡ 16
+        kind-is true x y = decide (eqb (kindIn table r) 16) (λ z. eqb-true (kindIn table r) 16 z) (λ z. absurd (let k : _≡_ {A = ℕ} 41 0 = rw z at y in omega arith))
+        kind-is false x y = absurd (omega arith)
+
+        go : (f : ℕ) → cond (eqb f 0) (cond (ltb r rows) (cond (eqb (kindIn table r) 16) 0 41) 41) f ≡ 0 → kindIn table r ≡ 16
+        go zero y = kind-is (ltb r rows) refl y
+        go (suc f) y = absurd (let z : cond (eqb (suc f) 0) (cond (ltb r rows) (cond (eqb (kindIn table r) 16) 0 41) 41) (suc f) ≡ suc f = rw (ne-eqb (suc f) 0 (λ q. absurd (omega arith))) in omega arith)
+
+    -- THEOREM: from the fresh state, with an empty window, the walk may begin
+    pub begins : (words gaps : List ℕ) → startsFault table rows log r ≡ 0 → words ≡ freshWords d → gaps ≡ noGaps → Begun file log rows items table r words gaps
+    begins words gaps c e none = record { counting = count-begins file log rows items table r h words gaps c (clean-few c) (clean-function c) e none }
 
     -- THEOREM: 42
-    move-off : startsFault table rows log r ≡ 0 → (n v : ℕ) → refused n v ≡ returningZero (played d log) → Tells file log r before (refused n v) before
-    move-off c n v e = tells-refused n v (clean-on c ∙ (unfold rest in go (played d log) e))
+    pub move-off : startsFault table rows log r ≡ 0 → (n v : ℕ) → played d log ≡ refused n v → Tells file log r before (refused n v) before
+    move-off c n v e = tells-refused n v (clean-on c ∙ (unfold rest in ap (λ (o : Outcome (List ℕ)). andThen o (λ last. accepted (starts d r log))) e))
+
+    -- THEOREM: the log stood, its starts are counted
+    pub stood : startsFault table rows log r ≡ 0 → (last : List ℕ) → played d log ≡ accepted last → (b : Busiest) → Most (timesOf (starts d r log)) b → Tells file log r before (accepted (b .most)) (b .at)
+    stood c last e b m = subst (λ (x : Busiest). Tells file log r before (accepted (x .most)) (x .at)) (sym (most-one (timesOf (starts d r log)) b (busiest (timesOf (starts d r log))) m (log-busiest d r log)))
+        (tells (accepted (starts d r log)) (clean-on c ∙ (unfold rest in ap (λ (o : Outcome (List ℕ)). andThen o (λ last. accepted (starts d r log))) e)))
+
+  -- of the walk at its end, or where a move is refused
+  module _ (rows items : ℕ) (table : List ℕ) where
+    pub told-stopped : (h : HoldsFile file rows items table) → startsFault table rows log r ≡ 0 → (answer : Outcome ℕ) (flag : Bool) → flag ≡ not (isAccepted answer) → flag ≡ true
+        → ((n v : ℕ) → answer ≡ refused n v → played (h .diagram) log ≡ refused n v) → Tells file log r before answer before
+    told-stopped h c answer flag f y off = go answer refl (sym f ∙ y)
       where
-        go : (o : Outcome (List ℕ)) → refused n v ≡ returningZero o → andThen o (λ last. accepted (starts d r log)) ≡ refused n v
-        go (accepted a) z = never z
-        go (refused m w) z = cc
+        go : (o : Outcome ℕ) → answer ≡ o → not (isAccepted o) ≡ true → Tells file log r before o before
+        go (accepted v) e z = clash z refl
+        go (refused n v) e z = move-off rows items table h c n v (off n v e)
 
-    -- THEOREM: the log stood, its starts are marked and the busiest hour is found
-    stood : startsFault table rows log r ≡ 0 → (v : ℕ) → accepted v ≡ returningZero (played d log) → (marks : List ℕ) → Marked (setpoints log) d r (markedIn marks) (moveCount log)
-        → (s : Search) → Searching log marks (moveCount log) s → Tells file log r before (accepted (s .most)) (s .at)
-    stood c v e marks m s f = subst (λ (b : Busiest). Tells file log r before (accepted (b .most)) (b .at)) (sym found) (tells (accepted (starts d r log)) (clean-on c ∙ (unfold rest in go (played d log) e)))
+    pub told-stood : (i : ℕ) (words gaps : List ℕ) (w : Window) → Counting file log rows items table r i words gaps w → i ≡ moveCount log → Tells file log r before (accepted (w .most)) (w .at)
+    unfolding startsFrom
+    told-stood i words gaps w m e = stood rows items table (m .holds) (m .clean) words
+        (walk-ends file log rows items table (m .holds) words (subst (λ (n : ℕ). Walk file log rows items table (m .holds) n words) e (m .walk)))
+        (bestOf w) (subst (λ (l : List ℕ). Most l (bestOf w)) (sym (m .rest ∙ (ap (λ (l : List Setpoint). m .past ++ timesOf (startsFrom (m .holds .diagram) r i (w .time) l words)) none-left ∙ append-nil (m .past)))) (m .walked .most))
       where
-        go : (o : Outcome (List ℕ)) → accepted v ≡ returningZero o → andThen o (λ last. accepted (starts d r log)) ≡ accepted (starts d r log)
-        go (accepted a) z = refl
-        go (refused n w) z = never (sym z)
-
-        many : moveCount log ≡ length (setpoints log)
-        many = unfold setpoints in sym (setpoints-many (moveCount log) log)
-
-        found : record { most = s .most; at = s .at } ≡ busiest (timesOf (starts d r log))
-        found = at-end (setpoints log) d r (markedIn marks) (s .back) (record { most = s .most; at = s .at })
-            (subst (λ (n : ℕ). Positions (setpoints log) (markedIn marks) n (s .back) (record { most = s .most; at = s .at })) many (f .stands))
-            (subst (λ (n : ℕ). Marked (setpoints log) d r (markedIn marks) n) many m)
-
-  -- of the answer and the marks that the walk left
-  module _ (rows items : ℕ) (table : List ℕ) (clean : startsFault table rows log r ≡ 0) (answer : Outcome ℕ) (marks : List ℕ) (m : MarkedAll file log rows items table r answer marks) where
-    pub told-stopped : (n v : ℕ) → answer ≡ refused n v → Tells file log r before (refused n v) before
-    told-stopped n v e = move-off rows items table (m .holds) clean n v (sym e ∙ m .told)
-
-    pub told-stood : (v : ℕ) → answer ≡ accepted v → (s : Search) → Searching log marks (moveCount log) s → Tells file log r before (accepted (s .most)) (s .at)
-    told-stood v e s f = stood rows items table (m .holds) clean v (sym e ∙ m .told) marks (m .marked v e) s f
+        none-left : drop i (setpoints log) ≡ []
+        none-left = drop-of-length-le (setpoints log) {i = i} (let z = many in omega arith)
+          where
+            many : length (setpoints log) ≡ moveCount log
+            many = unfold setpoints in setpoints-many (moveCount log) log

@@ -1,4 +1,4 @@
-pub mod Marks
-pub mod Searching
-pub mod Marking
+pub mod Gaps
+pub mod Windows
 pub mod Faults
+pub mod Counting

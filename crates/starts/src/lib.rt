@@ -1,106 +1,20 @@
-// Starts of a FUNCTION row in a log: marked while the log is walked, then the most in any hour. Refusals 40 to 42.
+// Starts of a FUNCTION row in a log: the log is walked once, and a window over the last hour goes with it. Refusals 40 to 42.
 ghost use mathlib.Core.Path.{_≡_};
-ghost use mathlib.Core.Bool.{cond, not, _&&_};
-ghost use lib.Dec.{eqb};
-ghost use Rattle.effbd.specs.Answers.{said, isAccepted, returningZero, afterwards};
-ghost use Rattle.effbd.specs.Logs.{setpointAt, withIndex};
-ghost use Rattle.effbd.specs.Starts.{activity, isStep, isStart, logStarts};
-ghost use Rattle.diagram_moves.specs.Changes.{tableMove};
-ghost use Rattle.starts.specs.Marks.{withMark};
-ghost use Rattle.starts.specs.Marking.{Marking, MarkedAll};
-ghost use Rattle.starts.specs.Faults.{startsFault, Begun};
+ghost use mathlib.Core.Bool.{not};
+ghost use Rattle.effbd.specs.Answers.{said, isAccepted};
+ghost use Rattle.effbd.specs.Starts.{logStarts};
+ghost use Prim.Native.Nat.{_+_, _<_};
+ghost use Rattle.starts.specs.Faults.{startsFault};
+ghost use Rattle.starts.specs.Counting.{waited, Turning, Turned, Begun};
 use diagram_decide::cells;
 use effbd::Answer;
 use effbd::moves;
 use effbd::refusals;
-use marks::MARK_BYTES;
+use spans::GAP_BYTES;
+use spans::Window;
 use words::kinds;
 
-mod marks;
 mod spans;
-
-// A move is a step of the row, and the row is ready.
-fn steps_ready(log: &[u8], index: u32, row: u16, state: &[u16]) -> bool
-    ensures { λ r. ⌜ r ≡ (isStep row (setpointAt (now (log .entry)) index) && eqb (activity (now (state .entry)) row) 1) ⌝ }
-{
-    let setpoint = logs::setpoint_at(log, index);
-    if setpoint.code != moves::STEP {
-        return false;
-    }
-    if setpoint.argument != row {
-        return false;
-    }
-    cells::activity(state, row as u32) == 1
-}
-
-// Marks a move that made a ready row run.
-fn mark_start(marks: &mut [u8], index: u32, stepped: bool, activity: u16)
-    ensures { λ _. ⌜ now (marks .exit) ≡ cond (stepped && eqb activity 2) (withMark (now (marks .entry)) index) (now (marks .entry)) ⌝ }
-{
-    if !stepped {
-        return;
-    }
-    if activity != 2 {
-        return;
-    }
-    marks::mark(marks, index);
-}
-
-// Makes a move of a log, and marks it if it is a start of the row.
-fn mark_move(
-    table: &[u16],
-    rows: u32,
-    items: u32,
-    file: &[u8],
-    log: &[u8],
-    row: u16,
-    index: u32,
-    state: &mut [u16],
-    marks: &mut [u8],
-) -> Answer
-    ensures { λ r. ⌜ said r ≡ returningZero (withIndex index (tableMove (now (table .entry)) rows items (now (file .entry)) (now (state .entry)) (setpointAt (now (log .entry)) index .code) (setpointAt (now (log .entry)) index .argument))) ⌝ }
-    ensures { λ _. ⌜ now (state .exit) ≡ afterwards (now (state .entry)) (tableMove (now (table .entry)) rows items (now (file .entry)) (now (state .entry)) (setpointAt (now (log .entry)) index .code) (setpointAt (now (log .entry)) index .argument)) ⌝ }
-    ensures { λ _. ⌜ now (marks .exit) ≡ cond (isStart row (setpointAt (now (log .entry)) index) (now (state .entry)) (now (state .exit))) (withMark (now (marks .entry)) index) (now (marks .entry)) ⌝ }
-{
-    let stepped = steps_ready(log, index, row, state);
-    let answer = logs::make_move(table, rows, items, file, log, index, state);
-    let after = cells::activity(state, row as u32);
-    mark_start(marks, index, stepped, after);
-    answer
-}
-
-fn is_refused(answer: Answer) -> bool
-    ensures { λ r. ⌜ r ≡ not (isAccepted (said answer)) ⌝ }
-{
-    match answer {
-        Answer::Accepted(_) => false,
-        Answer::Refused(_, _) => true,
-    }
-}
-
-// Makes all moves of a log from fresh, and marks the starts of the row; or 42.
-fn mark_starts(
-    table: &[u16],
-    rows: u32,
-    items: u32,
-    file: &[u8],
-    log: &[u8],
-    row: u16,
-    state: &mut [u16],
-    marks: &mut [u8],
-) -> Answer
-    requires { ⌜ Marking (now file) (now log) rows items (now table) row 0 (now state) (now marks) ⌝ }
-    ensures { λ r. ⌜ MarkedAll (now (file .entry)) (now (log .entry)) rows items (now (table .entry)) row (said r) (now (marks .exit)) ⌝ }
-{
-    let count = logs::move_count(log) as u32;
-    for index in 0..count {
-        let answer = mark_move(table, rows, items, file, log, row, index, state, marks);
-        if is_refused(answer) {
-            return answer;
-        }
-    }
-    Answer::Accepted(0)
-}
 
 // 40, then 41: the row is no FUNCTION, or there is no such row.
 fn fault(table: &[u16], rows: u32, log: &[u8], row: u16) -> u16
@@ -119,8 +33,58 @@ fn fault(table: &[u16], rows: u32, log: &[u8], row: u16) -> u16
     0
 }
 
-// The most starts in an hour of a log that is walked from the fresh state, with marks that are all clear.
-fn count_marked(
+fn is_refused(answer: Answer) -> bool
+    ensures { λ r. ⌜ r ≡ not (isAccepted (said answer)) ⌝ }
+{
+    match answer {
+        Answer::Accepted(_) => false,
+        Answer::Refused(_, _) => true,
+    }
+}
+
+// Time passes.
+fn wait(window: Window, ticks: u16) -> Window
+    requires { ⌜ window .time + ticks < 4294967296 ⌝ }
+    ensures { λ r. ⌜ r ≡ waited ticks window ⌝ }
+{
+    Window {
+        time: window.time + ticks as u32,
+        latest: window.latest,
+        since: window.since,
+        starts: window.starts,
+        from: window.from,
+        to: window.to,
+        most: window.most,
+        at: window.at,
+    }
+}
+
+// The window after an accepted move: a wait lets time pass, a step of the row after which it runs is a start.
+fn count_move(
+    code: u16,
+    argument: u16,
+    row: u16,
+    state: &[u16],
+    gaps: &mut [u8],
+    window: Window,
+) -> Window
+    requires { ⌜ Turning row code argument (now state) (now gaps) window ⌝ }
+    ensures { λ r. ⌜ Turned row code argument (now (state .entry)) (now (gaps .entry)) (now (gaps .exit)) window r ⌝ }
+{
+    if code == moves::WAIT {
+        return wait(window, argument);
+    }
+    if argument != row {
+        return window;
+    }
+    if cells::activity(state, row as u32) != 2 {
+        return window;
+    }
+    spans::count_start(gaps, window)
+}
+
+// Makes all moves of a log from the fresh state, with a window of no starts: the most in an hour, or 42.
+fn count_starts(
     table: &[u16],
     rows: u32,
     items: u32,
@@ -128,22 +92,37 @@ fn count_marked(
     log: &[u8],
     row: u16,
     state: &mut [u16],
-    marks: &mut [u8],
+    gaps: &mut [u8],
     at: &mut u32,
 ) -> Answer
-    requires { ⌜ Begun (now file) (now log) rows items (now table) row (now state) (now marks) ⌝ }
+    requires { ⌜ Begun (now file) (now log) rows items (now table) row (now state) (now gaps) ⌝ }
     ensures { λ r. ⌜ said r ≡ logStarts (now (file .entry)) (now (log .entry)) row (now (at .entry)) .answer ⌝ }
     ensures { λ _. ⌜ now (at .exit) ≡ logStarts (now (file .entry)) (now (log .entry)) row (now (at .entry)) .at ⌝ }
 {
-    let answer = mark_starts(table, rows, items, file, log, row, state, marks);
-    match answer {
-        Answer::Accepted(_) => {
-            let found = spans::busiest(log, marks);
-            *at = found.at;
-            Answer::Accepted(found.most)
+    let count = logs::move_count(log) as u32;
+    let mut window = Window {
+        time: 0,
+        latest: 0,
+        since: 0,
+        starts: 0,
+        from: 0,
+        to: 0,
+        most: 0,
+        at: 0,
+    };
+    for index in 0..count {
+        let setpoint = logs::setpoint_at(log, index);
+        let code = setpoint.code;
+        let argument = setpoint.argument;
+        let answer = logs::make_move(code, argument, index, table, state, rows, items, file);
+        if is_refused(answer) {
+            return answer;
         }
-        Answer::Refused(number, value) => Answer::Refused(number, value),
+        let next = count_move(code, argument, row, state, gaps, window);
+        window = next;
     }
+    *at = window.at;
+    Answer::Accepted(window.most)
 }
 
 // The most starts of a FUNCTION row in any hour of a log, and in `at` the earliest start that such an hour begins with; 0 and 0 where there is none.
@@ -161,8 +140,8 @@ pub fn log_starts(file: &[u8], log: &[u8], row: u16, at: &mut u32) -> Answer
     }
     let mut state = diagram.fresh();
     let size = 3 * diagram.rows as usize + diagram.items as usize;
-    let mut marks = [0u8; MARK_BYTES];
-    count_marked(
+    let mut gaps = [0u8; GAP_BYTES];
+    count_starts(
         &diagram.table,
         diagram.rows as u32,
         diagram.items as u32,
@@ -170,7 +149,7 @@ pub fn log_starts(file: &[u8], log: &[u8], row: u16, at: &mut u32) -> Answer
         log,
         row,
         &mut state[0..size],
-        &mut marks[0..MARK_BYTES],
+        &mut gaps[0..GAP_BYTES],
         at,
     )
 }

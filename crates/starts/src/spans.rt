@@ -1,136 +1,153 @@
-// The busiest hour of marked starts: a front position passes every move of the log, a back position follows it to the first start less than
-// an hour before. Each walks the log once.
+// The busiest hour: a window over the starts of the last hour, which goes with the log. Between its starts it keeps the gaps, in bytes.
 ghost use mathlib.Core.Path.{_≡_};
-ghost use mathlib.Core.Bool.{cond, _&&_};
-ghost use Prim.Native.Nat.{_+_};
-ghost use lib.Dec.{ltb};
-ghost use Rattle.effbd.specs.Logs.{moveCount};
-ghost use Rattle.effbd.specs.Starts.{hour};
-ghost use Rattle.starts.specs.Marks.{markedIn};
-ghost use Rattle.starts.specs.Searching.{Searched, Searching, Passing, AtStart, Followed};
-use crate::marks;
+ghost use Prim.Native.Nat.{_+_, _<_};
+ghost use lib.ListN.{getD};
+ghost use Rattle.starts.specs.Gaps.{gapAt, sizeAt, sizeOf, gapPut};
+ghost use Rattle.starts.specs.Windows.{Late, Followed, Joining, Joined, Counted};
 
 // The ticks of an hour.
 const HOUR: u32 = 36000;
 
-// The back position: how many moves lie before it, its time, how many starts lie from it up to the front position.
-pub(crate) struct Back {
-    pub position: u32,
-    pub time: u32,
-    pub starts: u32,
-}
+// The bytes of gaps for every log: a start and the next are two moves apart or more, three where time passes between them.
+pub(crate) const GAP_BYTES: usize = 43692;
 
-// The front position's time; the back position, its time, how many starts lie from it up to the front one; the most starts of an hour so far
-// and where it begins.
-pub(crate) struct Search {
+// The log's time and the latest start's; of the starts in the window the first one's time and how many there are; where their gaps begin
+// and end; the most starts of an hour so far and where it begins.
+pub(crate) struct Window {
     pub time: u32,
-    pub back: u32,
+    pub latest: u32,
     pub since: u32,
-    pub between: u32,
+    pub starts: u32,
+    pub from: u32,
+    pub to: u32,
     pub most: u32,
     pub at: u32,
 }
 
-// The move at `position`, at `time`, is a start, and less than an hour before `end`.
-fn in_reach(marks: &[u8], position: u32, time: u32, end: u32) -> bool
-    ensures { λ r. ⌜ r ≡ (markedIn (now (marks .entry)) position && ltb end (time + hour)) ⌝ }
-{
-    if marks::marked(marks, position) {
-        return (end as u64) < time as u64 + HOUR as u64;
-    }
-    false
+// A gap, and where the next one stands.
+pub(crate) struct Gap {
+    pub ticks: u32,
+    pub end: u32,
 }
 
-// 1 for a start, 0 for another move.
-fn one(marks: &[u8], position: u32) -> u32
-    ensures { λ r. ⌜ r ≡ cond (markedIn (now (marks .entry)) position) 1 0 ⌝ }
+fn byte(gaps: &[u8], at: u32) -> u8
+    ensures { λ r. ⌜ r ≡ getD (now (gaps .entry)) at 0 ⌝ }
 {
-    if marks::marked(marks, position) {
-        return 1;
+    let place = at as usize;
+    if place < gaps.len() {
+        return gaps[place];
     }
     0
 }
 
-// The front position has come to a start: the back one goes on to the first start less than an hour before it.
-fn follow(log: &[u8], marks: &[u8], front: u32, search: Search) -> Back
-    requires { ⌜ AtStart (now log) (now marks) front search ⌝ }
-    ensures { λ r. ⌜ Followed (now (log .entry)) (now (marks .entry)) front (search .back) r ⌝ }
+// The gap at byte `at`: 0 for none, else its 256s plus 1 and its rest.
+fn gap_at(gaps: &[u8], at: u32) -> Gap
+    requires { ⌜ at < 65536 ⌝ }
+    ensures { λ r. ⌜ (r .ticks ≡ gapAt (now (gaps .entry)) at) × (r .end ≡ at + sizeAt (now (gaps .entry)) at) ⌝ }
 {
-    let end = search.time;
-    let mut time = search.since;
-    let mut starts = search.between + 1;
-    for position in search.back..front {
-        if in_reach(marks, position, time, end) {
-            return Back {
-                position: position,
-                time: time,
-                starts: starts,
-            };
-        }
-        starts = starts - one(marks, position);
-        time = time + logs::ticks(log, position) as u32;
+    let high = byte(gaps, at) as u32;
+    if high == 0 {
+        return Gap {
+            ticks: 0,
+            end: at + 1,
+        };
     }
-    Back {
-        position: front,
-        time: time,
+    Gap {
+        ticks: 256 * (high - 1) + byte(gaps, at + 1) as u32,
+        end: at + 2,
+    }
+}
+
+// Puts a gap at byte `at`: where the next one goes.
+fn put_gap(gaps: &mut [u8], at: u32, gap: u32) -> u32
+    requires { ⌜ (at < 65536) × (gap < 36000) ⌝ }
+    ensures { λ r. ⌜ r ≡ at + sizeOf gap ⌝ }
+    ensures { λ _. ⌜ now (gaps .exit) ≡ gapPut (now (gaps .entry)) at gap ⌝ }
+{
+    if gap == 0 {
+        words::put_byte(gaps, at as usize, 0);
+        return at + 1;
+    }
+    words::put_byte(gaps, at as usize, (gap / 256 + 1) as u8);
+    words::put_byte(gaps, at as usize + 1, (gap % 256) as u8);
+    at + 2
+}
+
+// The starts that are an hour old or older leave the window.
+fn follow(gaps: &[u8], window: Window) -> Window
+    requires { ⌜ Late (now gaps) window ⌝ }
+    ensures { λ r. ⌜ Followed (now (gaps .entry)) window r ⌝ }
+{
+    let mut since = window.since;
+    let mut starts = window.starts;
+    let mut from = window.from;
+    while HOUR <= window.time - since {
+        let gap = gap_at(gaps, from);
+        since = since + gap.ticks;
+        starts = starts - 1;
+        from = gap.end;
+    }
+    Window {
+        time: window.time,
+        latest: window.latest,
+        since: since,
         starts: starts,
+        from: from,
+        to: window.to,
+        most: window.most,
+        at: window.at,
     }
 }
 
-// The front position passes a move.
-fn pass(log: &[u8], marks: &[u8], front: u32, search: Search) -> Search
-    requires { ⌜ Passing (now log) (now marks) front search ⌝ }
-    ensures { λ r. ⌜ Searching (now (log .entry)) (now (marks .entry)) (front + 1) r ⌝ }
+// A start at the log's time joins the window.
+fn join(gaps: &mut [u8], window: Window) -> Window
+    requires { ⌜ Joining (now gaps) window ⌝ }
+    ensures { λ r. ⌜ Joined (now (gaps .entry)) (now (gaps .exit)) window r ⌝ }
 {
-    let time = search.time + logs::ticks(log, front) as u32;
-    if !marks::marked(marks, front) {
-        return Search {
-            time: time,
-            back: search.back,
-            since: search.since,
-            between: search.between,
-            most: search.most,
-            at: search.at,
+    let gap = window.time - window.latest;
+    if window.starts == 0 || HOUR <= gap {
+        return Window {
+            time: window.time,
+            latest: window.time,
+            since: window.time,
+            starts: 1,
+            from: window.to,
+            to: window.to,
+            most: window.most,
+            at: window.at,
         };
     }
-    let back = follow(log, marks, front, search);
-    if search.most < back.starts {
-        return Search {
-            time: time,
-            back: back.position,
-            since: back.time,
-            between: back.starts,
-            most: back.starts,
-            at: back.time,
-        };
-    }
-    Search {
-        time: time,
-        back: back.position,
-        since: back.time,
-        between: back.starts,
-        most: search.most,
-        at: search.at,
-    }
-}
-
-// The most starts in an hour, and where the earliest such hour begins.
-pub(crate) fn busiest(log: &[u8], marks: &[u8]) -> Search
-    requires { ⌜ Searched (now log) ⌝ }
-    ensures { λ r. ⌜ Searching (now (log .entry)) (now (marks .entry)) (moveCount (now (log .entry))) r ⌝ }
-{
-    let moves = logs::move_count(log) as u32;
-    let mut search = Search {
-        time: 0,
-        back: 0,
-        since: 0,
-        between: 0,
-        most: 0,
-        at: 0,
+    let to = put_gap(gaps, window.to, gap);
+    let joined = Window {
+        time: window.time,
+        latest: window.time,
+        since: window.since,
+        starts: window.starts + 1,
+        from: window.from,
+        to: to,
+        most: window.most,
+        at: window.at,
     };
-    for front in 0..moves {
-        let next = pass(log, marks, front, search);
-        search = next;
+    follow(gaps, joined)
+}
+
+// A start at the log's time is counted: in the hour up to it there may be more than ever before.
+pub(crate) fn count_start(gaps: &mut [u8], window: Window) -> Window
+    requires { ⌜ Joining (now gaps) window ⌝ }
+    ensures { λ r. ⌜ Counted (now (gaps .entry)) (now (gaps .exit)) window r ⌝ }
+{
+    let joined = join(gaps, window);
+    if joined.most < joined.starts {
+        return Window {
+            time: joined.time,
+            latest: joined.latest,
+            since: joined.since,
+            starts: joined.starts,
+            from: joined.from,
+            to: joined.to,
+            most: joined.starts,
+            at: joined.since,
+        };
     }
-    search
+    joined
 }

@@ -36,14 +36,14 @@ cast-size-2 c = search needs
 add-size : tie.Need-add-size
 add-size c = search needs
 
-cast-count-marked : tie.Need-cast-count-marked
-cast-count-marked c = search needs
+cast-count-starts : tie.Need-cast-count-starts
+cast-count-starts c = search needs
 
-cast-count-marked-2 : tie.Need-cast-count-marked-2
-cast-count-marked-2 c = search needs
+cast-count-starts-2 : tie.Need-cast-count-starts-2
+cast-count-starts-2 c = search needs
 
-sub-count-marked : tie.Need-sub-count-marked
-sub-count-marked c = search needs
+sub-count-starts : tie.Need-sub-count-starts
+sub-count-starts c = search needs
 
 part-state-start : tie.Need-part-state-start
 part-state-start c = search needs
@@ -51,17 +51,17 @@ part-state-start c = search needs
 part-state-end : tie.Need-part-state-end
 part-state-end c = let held = c .before .before .before .before .before .before .before .before .before .before .parse .ensures .holds (c .before .before .before .before .before .before .before .before .before .if1 .left) .holds in let a = held .records .fewRows in let b = held .records .fewItems in search needs
 
-sub-count-marked-2 : tie.Need-sub-count-marked-2
-sub-count-marked-2 c = search needs
+sub-count-starts-2 : tie.Need-sub-count-starts-2
+sub-count-starts-2 c = search needs
 
-part-marks-start : tie.Need-part-marks-start
-part-marks-start c = search needs
+part-gaps-start : tie.Need-part-gaps-start
+part-gaps-start c = search needs
 
-part-marks-end : tie.Need-part-marks-end
-part-marks-end c = search needs
+part-gaps-end : tie.Need-part-gaps-end
+part-gaps-end c = search needs
 
-count-marked-requires : tie.Need-count-marked-requires
-count-marked-requires c κs = let h = c .before .before .before .before .before .before .before .before .before .before .before .before .before .parse .ensures .holds (c .before .before .before .before .before .before .before .before .before .before .before .before .if1 .left) in begins (c .before .before .before .before .before .before .before .before .before .before .before .before .before .before .before .before .args .file .now) (c .before .before .before .before .before .before .before .before .before .before .before .before .before .before .before .before .args .log .now) (c .before .before .before .before .before .before .before .before .before .before .before .before .before .before .before .before .args .row) 0 (c .before .before .before .before .before .before .before .before .before .before .before .before .before .parse .result .rows) (c .before .before .before .before .before .before .before .before .before .before .before .before .before .parse .result .items) (c .before .before .before .before .before .before .before .before .before .before .before .before .before .parse .result .table) h _ _ (sym (c .before .before .before .before .before .before .before .before .fault .ensures) ∙ c .before .before .before .before .before .before .before .if2 .left) (fresh-part (c .before .before .before .before .before .before .before .before .before .before .before .before .before .before .before .before .args .file .now) (c .before .before .before .before .before .before .before .before .before .before .before .before .before .before .before .before .args .log .now) (c .before .before .before .before .before .before .before .before .before .before .before .before .before .before .before .before .args .row) 0 (c .before .before .before .before .before .before .before .before .before .before .before .before .before .parse .result .rows) (c .before .before .before .before .before .before .before .before .before .before .before .before .before .parse .result .items) (c .before .before .before .before .before .before .before .before .before .before .before .before .before .parse .result .table) h (c .before .before .before .before .before .before .fresh .result) _ (c .before .before .before .before .before .before .fresh .ensures .of (h .diagram) (h .holds)) refl) refl
+count-starts-requires : tie.Need-count-starts-requires
+count-starts-requires c κs = let h = c .before .before .before .before .before .before .before .before .before .before .before .before .before .parse .ensures .holds (c .before .before .before .before .before .before .before .before .before .before .before .before .if1 .left) in begins (c .before .before .before .before .before .before .before .before .before .before .before .before .before .before .before .before .args .file .now) (c .before .before .before .before .before .before .before .before .before .before .before .before .before .before .before .before .args .log .now) (c .before .before .before .before .before .before .before .before .before .before .before .before .before .before .before .before .args .row) 0 (c .before .before .before .before .before .before .before .before .before .before .before .before .before .parse .result .rows) (c .before .before .before .before .before .before .before .before .before .before .before .before .before .parse .result .items) (c .before .before .before .before .before .before .before .before .before .before .before .before .before .parse .result .table) h _ _ (sym (c .before .before .before .before .before .before .before .before .fault .ensures) ∙ c .before .before .before .before .before .before .before .if2 .left) (fresh-part (c .before .before .before .before .before .before .before .before .before .before .before .before .before .before .before .before .args .file .now) (c .before .before .before .before .before .before .before .before .before .before .before .before .before .before .before .before .args .log .now) (c .before .before .before .before .before .before .before .before .before .before .before .before .before .before .before .before .args .row) 0 (c .before .before .before .before .before .before .before .before .before .before .before .before .before .parse .result .rows) (c .before .before .before .before .before .before .before .before .before .before .before .before .before .parse .result .items) (c .before .before .before .before .before .before .before .before .before .before .before .before .before .parse .result .table) h (c .before .before .before .before .before .before .fresh .result) _ (c .before .before .before .before .before .before .fresh .ensures .of (h .diagram) (h .holds)) refl) refl
 
 returns-3 : tie.Need-returns-3
 returns-3 c = search needs
@@ -80,13 +80,13 @@ log-starts-spec =
     mul-size
     cast-size-2
     add-size
-    cast-count-marked
-    cast-count-marked-2
-    sub-count-marked
+    cast-count-starts
+    cast-count-starts-2
+    sub-count-starts
     part-state-start
     part-state-end
-    sub-count-marked-2
-    part-marks-start
-    part-marks-end
-    count-marked-requires
+    sub-count-starts-2
+    part-gaps-start
+    part-gaps-end
+    count-starts-requires
     returns-3)

@@ -1,56 +1,39 @@
-use Rattle.agreement.specs.ByteLaws.{bytes-are}
-use Rattle.starts.specs.Searching.{Following}
-use Rattle.starts.proofs.SearchTurns.{time-fits, count-fits, follow-begins, follow-stops, one-fewer, follow-on, follow-ends}
-use native.Mathlib.Omega.{arith}
-use Prim.Native.Nat.{_-_}
 use borrow.Author.Needs.{needs}
+use native.Mathlib.Omega.{arith}
+use Rattle.starts.proofs.WindowTurns.{follow-begins, follow-low, follow-some, follow-fits, follow-on, follow-ends}
+use Rattle.starts.specs.Windows.{Following}
 use Rattle.starts.proofs.spans.follow.Statement.{statement}
 use Rattle.starts.proofs.spans.follow.Tie as tie
 
 abbrev Inv-loop : tie.InvT-loop
-Inv-loop log marks front end time₀ starts₀ position₀ time starts position = Following log marks front position₀ position time starts
+Inv-loop gaps window since₀ starts₀ from₀ since starts from = Following gaps window since starts from
 
 abbrev μ-loop : tie.MeasureT-loop
-μ-loop log marks front end time₀ starts₀ position₀ time starts position = front - position
-
-add-starts : tie.Need-add-starts Inv-loop μ-loop
-add-starts c = record { fits = count-fits (c .before .before .before .args .log .now) (c .before .before .before .args .marks .now) (c .before .before .before .args .front) (c .before .before .before .args .search) (c .before .before .before .pre) }
+μ-loop gaps window since₀ starts₀ from₀ since starts from = starts
 
 loop-holds : tie.Need-loop-holds Inv-loop μ-loop
-loop-holds c = follow-begins (c .before .before .before .args .log .now) (c .before .before .before .args .marks .now) (c .before .before .before .args .front) (c .before .before .before .args .search) (c .before .before .before .pre)
+loop-holds c = follow-begins (c .before .args .gaps .now) (c .before .args .window) (c .before .pre)
 
-in-reach-requires : tie.Need-in-reach-requires Inv-loop μ-loop
-in-reach-requires c κs = search needs
+sub-if1 : tie.Need-sub-if1 Inv-loop μ-loop
+sub-if1 c = let f = follow-low (c .before .before .before .args .gaps .now) (c .before .before .before .args .window) (c .before .loop .since) (c .before .loop .starts) (c .before .loop .from) (c .before .loop .inv) .0 in search needs
 
-returns : tie.Need-returns Inv-loop μ-loop
-returns c = follow-stops (c .before .before .before .before .before .before .before .args .log .now) (c .before .before .before .before .before .before .before .args .marks .now) (c .before .before .before .before .before .before .before .args .front) (c .before .before .before .before .before .before .before .args .search) (c .before .before .before .before .before .before .before .pre) (c .before .before .before .loop .position) (c .before .before .before .loop .time) (c .before .before .before .loop .starts) (c .before .before .before .loop .inv) (c .before .in-reach .result) (c .before .in-reach .ensures) (c .if1 .taken)
+gap-at-requires : tie.Need-gap-at-requires Inv-loop μ-loop
+gap-at-requires c κs = let f = follow-low (c .before .before .before .before .args .gaps .now) (c .before .before .before .before .args .window) (c .before .before .loop .since) (c .before .before .loop .starts) (c .before .before .loop .from) (c .before .before .loop .inv) .1 in f
 
-one-requires : tie.Need-one-requires Inv-loop μ-loop
-one-requires c κs = search needs
+add-since : tie.Need-add-since Inv-loop μ-loop
+add-since c = let f = follow-fits (c .before .before .before .before .before .before .args .gaps .now) (c .before .before .before .before .before .before .args .window) (c .before .before .before .before .loop .since) (c .before .before .before .before .loop .starts) (c .before .before .before .before .loop .from) (c .before .before .before .before .loop .inv) (c .before .before .if1 .taken) in let e = c .before .gap-at .ensures .0 in search needs
 
 sub-starts : tie.Need-sub-starts Inv-loop μ-loop
-sub-starts c = let f = one-fewer (c .before .before .before .before .before .before .before .before .args .log .now) (c .before .before .before .before .before .before .before .before .args .marks .now) (c .before .before .before .before .before .before .before .before .args .front) (c .before .before .before .before .before .before .before .before .args .search) (c .before .before .before .before .before .before .before .before .pre) (c .before .before .before .before .loop .position) (c .before .before .before .before .loop .time) (c .before .before .before .before .loop .starts) (c .before .before .before .before .loop .inv) (c .before .before .in-reach .result) (c .before .before .in-reach .ensures) (c .before .before .before .loop-test .taken) in omega (arith, c .one .ensures)
-
-ticks-requires : tie.Need-ticks-requires Inv-loop μ-loop
-ticks-requires c κs = search needs
-
-cast-time : tie.Need-cast-time Inv-loop μ-loop
-cast-time c = search needs
-
-add-time : tie.Need-add-time Inv-loop μ-loop
-add-time c = record { fits = let f = time-fits (c .before .before .before .before .before .before .before .before .before .args .log .now) (c .before .before .before .before .before .before .before .before .before .args .marks .now) (bytes-are (c .before .before .before .before .before .before .before .before .before .args .log .now) (λ i. omega (arith, c .before .before .before .before .before .before .before .before .shared-slice-known .given i))) (c .before .before .before .before .before .before .before .before .before .pre .passing .few) (c .before .before .before .before .before .loop .position) (c .before .before .before .before .before .loop .time) (omega (arith, c .before .before .before .before .before .before .before .before .before .pre .passing .low, c .before .before .before .before .loop-test .taken)) (c .before .before .before .before .before .loop .inv .time-is) in omega (arith, c .ticks .ensures) }
-
-add-position : tie.Need-add-position Inv-loop μ-loop
-add-position c = search needs
+sub-starts c = let f = follow-some (c .before .before .before .before .before .before .args .gaps .now) (c .before .before .before .before .before .before .args .window) (c .before .before .before .before .loop .since) (c .before .before .before .before .loop .starts) (c .before .before .before .before .loop .from) (c .before .before .before .before .loop .inv) (c .before .before .if1 .taken) in search needs
 
 loop-less : tie.Need-loop-less Inv-loop μ-loop
-loop-less c = omega (arith, c .before .before .before .before .loop-test .taken)
+loop-less c = let f = follow-some (c .before .before .before .before .before .before .args .gaps .now) (c .before .before .before .before .before .before .args .window) (c .before .before .before .before .loop .since) (c .before .before .before .before .loop .starts) (c .before .before .before .before .loop .from) (c .before .before .before .before .loop .inv) (c .before .before .if1 .taken) in omega arith
 
 loop-again : tie.Need-loop-again Inv-loop μ-loop
-loop-again c = rw (c .ticks .ensures, c .before .one .ensures) (follow-on (c .before .before .before .before .before .before .before .before .before .args .log .now) (c .before .before .before .before .before .before .before .before .before .args .marks .now) (c .before .before .before .before .before .before .before .before .before .args .front) (c .before .before .before .before .before .before .before .before .before .args .search) (c .before .before .before .before .before .before .before .before .before .pre) (c .before .before .before .before .before .loop .position) (c .before .before .before .before .before .loop .time) (c .before .before .before .before .before .loop .starts) (c .before .before .before .before .before .loop .inv) (c .before .before .before .in-reach .result) (c .before .before .before .in-reach .ensures) (c .before .before .before .before .loop-test .taken) (c .before .before .if1 .left))
+loop-again c = follow-on (c .before .before .before .before .before .before .args .gaps .now) (c .before .before .before .before .before .before .args .window) (c .before .before .before .before .loop .since) (c .before .before .before .before .loop .starts) (c .before .before .before .before .loop .from) (c .before .before .before .before .loop .inv) (c .before .before .if1 .taken) _ _ (c .before .gap-at .ensures .0) (c .before .gap-at .ensures .1)
 
-returns-2 : tie.Need-returns-2 Inv-loop μ-loop
-returns-2 c = follow-ends (c .before .before .before .before .before .args .log .now) (c .before .before .before .before .before .args .marks .now) (c .before .before .before .before .before .args .front) (c .before .before .before .before .before .args .search) (c .before .before .before .before .before .pre) (c .before .loop .position) (c .before .loop .time) (c .before .loop .starts) (c .before .loop .inv) (c .loop-test .left)
+returns : tie.Need-returns Inv-loop μ-loop
+returns c = follow-ends (c .before .before .before .before .args .gaps .now) (c .before .before .before .before .args .window) (c .before .before .loop .since) (c .before .before .loop .starts) (c .before .before .loop .from) (c .before .before .loop .inv) (c .if1 .left)
 
 pub follow-spec : {M : Type 1} → statement M
 follow-spec =
@@ -58,16 +41,11 @@ follow-spec =
     (tie.spec
     Inv-loop
     μ-loop
-    add-starts
     loop-holds
-    in-reach-requires
-    returns
-    one-requires
+    sub-if1
+    gap-at-requires
+    add-since
     sub-starts
-    ticks-requires
-    cast-time
-    add-time
-    add-position
     loop-less
     loop-again
-    returns-2)
+    returns)
