@@ -130,11 +130,11 @@ module _ (d : Diagram) (acc : wellNested d ≡ true) where
   unfolding owner
   opened-by k j q e n m = innermost-owner j (stack d q) (sym m ∙ stands k q e n)
 
-  -- the close of an AND open is an AND close
   or-opened : (c : ℕ) → kind d c ≡ or-close → kind d (owner d c) ≡ or-open
   unfolding owner
   or-opened c i = innermost-owner or-open (stack d c) (and-left (innermostIs d or-open (stack d c)) (twoBranches d (stack d c)) (stands or-close c i refl))
 
+  -- the close of an AND open is an AND close
   pub and-closed : (o : ℕ) → kind d o ≡ and-open → kind d (close d o) ≡ and-close
   and-closed o k = let shut = law .shut o (rw k) in among (close d o) (shut .0) (rw (shut .1) k)
     where

@@ -26,7 +26,7 @@ use Rattle.logs.proofs.Walking.{walk-ends}
 use Rattle.starts.specs.Faults.{notFunction, startsFault}
 use Rattle.starts.specs.Windows.{bestOf}
 use Rattle.starts.specs.declared.spans.Window.{Window}
-use Rattle.starts.specs.Counting.{noGaps, Counting, Begun}
+use Rattle.starts.specs.Counting.{noGaps, noWindow, Counting}
 use Rattle.starts.proofs.CountTurns.{count-begins}
 
 -- what a call is told and leaves
@@ -116,8 +116,8 @@ module _ (file log : List ℕ) (r before : ℕ) where
         go (suc f) y = absurd (let z : cond (eqb (suc f) 0) (cond (ltb r rows) (cond (eqb (kindIn table r) 16) 0 41) 41) (suc f) ≡ suc f = rw (ne-eqb (suc f) 0 (λ q. absurd (omega arith))) in omega arith)
 
     -- THEOREM: from the fresh state, with an empty window, the walk may begin
-    pub begins : (words gaps : List ℕ) → startsFault table rows log r ≡ 0 → words ≡ freshWords d → gaps ≡ noGaps → Begun file log rows items table r words gaps
-    begins words gaps c e none = record { counting = count-begins file log rows items table r h words gaps c (clean-few c) (clean-function c) e none }
+    pub begins : (words gaps : List ℕ) → startsFault table rows log r ≡ 0 → words ≡ freshWords d → gaps ≡ noGaps → Counting file log rows items table r 0 words gaps noWindow
+    begins words gaps c e none = count-begins file log rows items table r h words gaps c (clean-few c) (clean-function c) e none
 
     -- THEOREM: 42
     pub move-off : startsFault table rows log r ≡ 0 → (n v : ℕ) → played d log ≡ refused n v → Tells file log r before (refused n v) before

@@ -71,7 +71,3 @@ module _ (file log : List ℕ) (rows items : ℕ) (table : List ℕ) (row : ℕ)
     pub latest : ℕ
     pub spaced : w .starts ≢ 0 → Spaced i latest (activity words row) (w .time) (w .latest) (w .to)
     pub none : w .starts ≡ 0 → w .to ≡ 0
-
-  -- the walk may begin
-  pub record Begun (words gaps : List ℕ) : Type 0 where
-    pub counting : Counting 0 words gaps noWindow

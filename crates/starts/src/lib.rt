@@ -1,11 +1,11 @@
 // Starts of a FUNCTION row in a log: the log is walked once, and a window over the last hour goes with it. Refusals 40 to 42.
 ghost use mathlib.Core.Path.{_≡_};
 ghost use mathlib.Core.Bool.{not};
+ghost use Prim.Native.Nat.{_+_, _<_};
 ghost use Rattle.effbd.specs.Answers.{said, isAccepted};
 ghost use Rattle.effbd.specs.Starts.{logStarts};
-ghost use Prim.Native.Nat.{_+_, _<_};
 ghost use Rattle.starts.specs.Faults.{startsFault};
-ghost use Rattle.starts.specs.Counting.{waited, Turning, Turned, Begun};
+ghost use Rattle.starts.specs.Counting.{noWindow, waited, Turning, Turned, Counting};
 use diagram_decide::cells;
 use effbd::Answer;
 use effbd::moves;
@@ -95,7 +95,7 @@ fn count_starts(
     gaps: &mut [u8],
     at: &mut u32,
 ) -> Answer
-    requires { ⌜ Begun (now file) (now log) rows items (now table) row (now state) (now gaps) ⌝ }
+    requires { ⌜ Counting (now file) (now log) rows items (now table) row 0 (now state) (now gaps) noWindow ⌝ }
     ensures { λ r. ⌜ said r ≡ logStarts (now (file .entry)) (now (log .entry)) row (now (at .entry)) .answer ⌝ }
     ensures { λ _. ⌜ now (at .exit) ≡ logStarts (now (file .entry)) (now (log .entry)) row (now (at .entry)) .at ⌝ }
 {

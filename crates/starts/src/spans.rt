@@ -1,7 +1,6 @@
 // The busiest hour: a window over the starts of the last hour, which goes with the log. Between its starts it keeps the gaps, in bytes.
 ghost use mathlib.Core.Path.{_≡_};
 ghost use Prim.Native.Nat.{_+_, _<_};
-ghost use lib.ListN.{getD};
 ghost use Rattle.starts.specs.Gaps.{gapAt, sizeAt, sizeOf, gapPut};
 ghost use Rattle.starts.specs.Windows.{Late, Followed, Joining, Joined, Counted};
 
@@ -30,22 +29,12 @@ pub(crate) struct Gap {
     pub end: u32,
 }
 
-fn byte(gaps: &[u8], at: u32) -> u8
-    ensures { λ r. ⌜ r ≡ getD (now (gaps .entry)) at 0 ⌝ }
-{
-    let place = at as usize;
-    if place < gaps.len() {
-        return gaps[place];
-    }
-    0
-}
-
 // The gap at byte `at`: 0 for none, else its 256s plus 1 and its rest.
 fn gap_at(gaps: &[u8], at: u32) -> Gap
     requires { ⌜ at < 65536 ⌝ }
     ensures { λ r. ⌜ (r .ticks ≡ gapAt (now (gaps .entry)) at) × (r .end ≡ at + sizeAt (now (gaps .entry)) at) ⌝ }
 {
-    let high = byte(gaps, at) as u32;
+    let high = words::byte(gaps, at as usize) as u32;
     if high == 0 {
         return Gap {
             ticks: 0,
@@ -53,7 +42,7 @@ fn gap_at(gaps: &[u8], at: u32) -> Gap
         };
     }
     Gap {
-        ticks: 256 * (high - 1) + byte(gaps, at + 1) as u32,
+        ticks: 256 * (high - 1) + words::byte(gaps, at as usize + 1) as u32,
         end: at + 2,
     }
 }

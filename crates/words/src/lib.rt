@@ -10,7 +10,7 @@ ghost use Rattle.effbd.specs.Records.{word as wordIn, faultAt};
 ghost use Rattle.words.specs.Stores.{longIn, wordPut, longPut, copied};
 
 // The byte at `at`.
-fn byte(bytes: &[u8], at: usize) -> u16
+pub fn byte(bytes: &[u8], at: usize) -> u16
     ensures { λ r. ⌜ (r ≡ getD (now (bytes .entry)) at 0) × (r < 256) ⌝ }
 {
     if at < bytes.len() {

@@ -24,10 +24,10 @@ move-count-requires : tie.Need-move-count-requires Inv-loop μ-loop
 move-count-requires c κs = search needs
 
 cast-count : tie.Need-cast-count Inv-loop μ-loop
-cast-count c = record { fits = omega (arith, c .move-count .ensures, c .before .before .before .before .before .before .pre .counting .few) }
+cast-count c = record { fits = omega (arith, c .move-count .ensures, c .before .before .before .before .before .before .pre .few) }
 
 loop-holds : tie.Need-loop-holds Inv-loop μ-loop
-loop-holds c = (omega arith, c .before .before .before .before .before .before .pre .counting, record { small = λ i. omega (arith, c .before .before .slice-known .given i) }, refl, refl)
+loop-holds c = (omega arith, c .before .before .before .before .before .before .pre, record { small = λ i. omega (arith, c .before .before .slice-known .given i) }, refl, refl)
 
 setpoint-at-requires : tie.Need-setpoint-at-requires Inv-loop μ-loop
 setpoint-at-requires c κs = search needs
