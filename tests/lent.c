@@ -1,5 +1,5 @@
-/* What bindings/c/effbd.h says of lent memory, tried: empty lists as (NULL, 0), bytes beyond a result, a wrong number of words, single
- * numbers, and that the constants have room for the largest diagrams, nets and logs. Says what does not hold; exit status 1 then. */
+/* What bindings/c/effbd.h says of lent memory, tried: empty lists as (NULL, 0), bytes beyond a result, texts, a wrong number of words,
+ * single numbers, and that the constants have room for the largest diagrams, nets, texts and logs. Says what does not hold; exit status 1 then. */
 #include "../bindings/c/effbd.h"
 #include <stdio.h>
 #include <string.h>
@@ -22,9 +22,10 @@ static void holds(const char *what, int it_does) {
 }
 #define HOLDS(condition) holds(#condition, condition)
 
-/* Example B of document 01, END alone, with its net and both states. */
+/* Example B of document 01, END alone, with its annex text, its net and both states. */
 static const uint8_t file[14] = {10, 0, 1, 0, 1, 0, 1, 0, 0, 0, 4, 0, 27, 0};
-enum { NET = 26, WORDS = 3, STATION = 9, BEYOND = 6, FILLED = 7 };
+static const char annex[] = "net 3 0\nmarks 1 0 0\n";
+enum { NET = 26, TEXT = sizeof annex - 1, WORDS = 3, STATION = 9, BEYOND = 6, FILLED = 7 };
 static uint8_t net[NET];
 static uint16_t state[WORDS], marks[WORDS];
 
@@ -44,6 +45,9 @@ static void empty_lists(void) {
     IS(effbd_step(file, sizeof file, NULL, 0, EFFBD_WAIT, 1), EFFBD_STATE_OFF, 0);
     IS(effbd_translate(NULL, 0, NULL, 0), EFFBD_CUT_SHORT, 0);
     IS(effbd_translate(file, sizeof file, NULL, 0), EFFBD_AREA_SHORT, NET);
+    HOLDS(effbd_annex(NULL, 0, NULL, 0, NULL, 0) == strlen("refused 1 0\n"));
+    HOLDS(effbd_annex(file, sizeof file, NULL, 0, NULL, 0) == strlen("refused 10 26\n"));
+    HOLDS(effbd_annex(file, sizeof file, net, NET, NULL, 0) == TEXT);
     IS(tpn_read(NULL, 0), EFFBD_CUT_SHORT, 0);
     IS(tpn_fresh(NULL, 0, NULL, 0), EFFBD_CUT_SHORT, 0);
     IS(tpn_fresh(net, NET, NULL, 0), EFFBD_STATE_OFF, 0);
@@ -86,6 +90,32 @@ static void beyond_the_result(void) {
     HOLDS(kept(area, sizeof area));
     IS(leader_offer(file, sizeof file, state, WORDS, 0, STATION, EFFBD_WAIT, 1, area, sizeof area), EFFBD_ACCEPTED, 1);
     HOLDS(area[0] == EFFBD_TELEGRAM_LENGTH && kept(area + EFFBD_TELEGRAM_LENGTH, sizeof area - EFFBD_TELEGRAM_LENGTH));
+}
+
+/* So many bytes are the first of this text, and those behind them have the value that they were filled with. */
+static int text_in(const uint8_t *lent, size_t lent_count, const char *text, size_t count) {
+    return memcmp(lent, text, count) == 0 && kept(lent + count, lent_count - count);
+}
+
+/* A text is written as far as its area reaches; its answer is the whole length all the same. */
+static void texts(void) {
+    static const char short_area[] = "refused 10 26\n", short_file[] = "refused 1 10\n";
+    uint8_t area[NET + BEYOND], text[TEXT + BEYOND];
+    for (size_t count = 0; count <= sizeof text; count++) {
+        size_t written = count < TEXT ? count : TEXT;
+        memset(area, FILLED, sizeof area);
+        memset(text, FILLED, sizeof text);
+        HOLDS(effbd_annex(file, sizeof file, area, sizeof area, text, count) == TEXT);
+        HOLDS(text_in(text, sizeof text, annex, written));
+        HOLDS(memcmp(area, net, NET) == 0 && kept(area + NET, BEYOND));
+    }
+    memset(area, FILLED, sizeof area);
+    memset(text, FILLED, sizeof text);
+    HOLDS(effbd_annex(file, sizeof file, area, NET - 1, text, sizeof text) == strlen(short_area));
+    HOLDS(text_in(text, sizeof text, short_area, strlen(short_area)) && kept(area, sizeof area));
+    memset(text, FILLED, sizeof text);
+    HOLDS(effbd_annex(file, sizeof file - 1, area, sizeof area, text, 5) == strlen(short_file));
+    HOLDS(text_in(text, sizeof text, short_file, 5) && kept(area, sizeof area));
 }
 
 static void wrong_number_of_words(void) {
@@ -142,22 +172,23 @@ static void put(uint8_t *bytes, size_t *end, uint16_t length, uint16_t kind, con
     }
 }
 
-/* A diagram of so many rows, FUNCTIONs that take and give of each item and END, and so many items. */
-static uint64_t large_diagram(uint16_t rows, uint16_t items, uint8_t *area) {
-    static uint8_t bytes[10000];
+static uint8_t large[10000];
+
+/* Into `large` a diagram of so many rows, FUNCTIONs that take and give of each item and END, and so many items; its length. */
+static size_t large_diagram(uint16_t rows, uint16_t items) {
     size_t end = 0;
     uint16_t head[3] = {1, rows, items}, count[1] = {1}, function[2 + 3 * (EFFBD_MOST_ITEMS + 1)] = {0, 0};
-    put(bytes, &end, 10, 1, head);
+    put(large, &end, 10, 1, head);
     for (uint16_t item = 0; item < items; item++) {
-        put(bytes, &end, 6, 2, count);
+        put(large, &end, 6, 2, count);
         function[2 + 3 * item] = item;
         function[3 + 3 * item] = function[4 + 3 * item] = 1;
     }
     for (uint16_t row = 1; row < rows; row++) {
-        put(bytes, &end, (uint16_t)(8 + 6 * items), 16, function);
+        put(large, &end, (uint16_t)(8 + 6 * items), 16, function);
     }
-    put(bytes, &end, 4, 27, NULL);
-    return area == NULL ? effbd_read(bytes, end) : effbd_translate(bytes, end, area, EFFBD_NET_ROOM);
+    put(large, &end, 4, 27, NULL);
+    return end;
 }
 
 static uint64_t large_net(uint16_t places, uint16_t transitions) {
@@ -175,11 +206,13 @@ static uint64_t large_net(uint16_t places, uint16_t transitions) {
 }
 
 static void largest(void) {
-    static uint8_t area[EFFBD_NET_ROOM];
-    IS(large_diagram(EFFBD_MOST_ROWS, EFFBD_MOST_ITEMS, NULL), EFFBD_ACCEPTED, EFFBD_MOST_STATE_WORDS);
-    IS(large_diagram(EFFBD_MOST_ROWS + 1, EFFBD_MOST_ITEMS, NULL), EFFBD_HEAD_VALUE_OFF, 0);
-    IS(large_diagram(EFFBD_MOST_ROWS, EFFBD_MOST_ITEMS + 1, NULL), EFFBD_HEAD_VALUE_OFF, 0);
-    IS(large_diagram(EFFBD_MOST_ROWS, EFFBD_MOST_ITEMS, area), EFFBD_ACCEPTED, 20660);
+    static uint8_t area[EFFBD_NET_ROOM], text[EFFBD_ANNEX_ROOM];
+    IS(effbd_read(large, large_diagram(EFFBD_MOST_ROWS + 1, EFFBD_MOST_ITEMS)), EFFBD_HEAD_VALUE_OFF, 0);
+    IS(effbd_read(large, large_diagram(EFFBD_MOST_ROWS, EFFBD_MOST_ITEMS + 1)), EFFBD_HEAD_VALUE_OFF, 0);
+    size_t length = large_diagram(EFFBD_MOST_ROWS, EFFBD_MOST_ITEMS);
+    IS(effbd_read(large, length), EFFBD_ACCEPTED, EFFBD_MOST_STATE_WORDS);
+    IS(effbd_translate(large, length, area, sizeof area), EFFBD_ACCEPTED, 20660);
+    HOLDS(effbd_annex(large, length, area, sizeof area, text, sizeof text) == 28508);
     IS(large_net(EFFBD_MOST_PLACES, EFFBD_MOST_TRANSITIONS), EFFBD_ACCEPTED, EFFBD_MOST_NET_STATE_WORDS);
     IS(large_net(EFFBD_MOST_PLACES + 1, EFFBD_MOST_TRANSITIONS), EFFBD_HEAD_VALUE_OFF, 0);
     IS(large_net(EFFBD_MOST_PLACES, EFFBD_MOST_TRANSITIONS + 1), EFFBD_HEAD_VALUE_OFF, 0);
@@ -191,6 +224,7 @@ int main(void) {
     fresh();
     empty_lists();
     beyond_the_result();
+    texts();
     wrong_number_of_words();
     single_numbers();
     largest();

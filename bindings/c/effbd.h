@@ -39,6 +39,7 @@ extern "C" {
 #define EFFBD_MOST_STATE_WORDS 208      /* of a diagram: 3 for each row, 1 for each item */
 #define EFFBD_MOST_NET_STATE_WORDS 336  /* of a net: 1 for each place, 1 for each transition */
 #define EFFBD_NET_ROOM 65536            /* bytes that have room for the net of any diagram */
+#define EFFBD_ANNEX_ROOM 393216         /* bytes that have room for the annex text of any file */
 #define EFFBD_TELEGRAM_LENGTH 14        /* bytes */
 #define EFFBD_SETPOINT_LENGTH 4         /* bytes of one move of a log: code, then row or ticks, 16 bits each, low byte first */
 #define EFFBD_MOST_LOG_MOVES 65535      /* of a log */
@@ -99,6 +100,13 @@ uint64_t effbd_step(const uint8_t *file, size_t file_count, uint16_t *state, siz
 /* The net of a diagram, into the first bytes of an area; those beyond the net keep their values. Accepted: the net's length.
  * EFFBD_AREA_SHORT returns the bytes needed, so that an area (NULL, 0) asks for them. */
 uint64_t effbd_translate(const uint8_t *file, size_t file_count, uint8_t *area, size_t area_count);
+
+/* What the annex program prints of a diagram, into the first bytes of `text`, and its net into the first bytes of `net`; those beyond keep
+ * their values. Never refuses: answers the length of the text, which no zero byte ends. Where that is above text_count, the first
+ * text_count bytes of the text are written, so that a text (NULL, 0) asks for the length. Where effbd_translate would refuse the file, or
+ * the net's area with EFFBD_AREA_SHORT, the text is the one line `refused NUMBER VALUE` and `net` keeps its bytes. The annex program lends
+ * EFFBD_NET_ROOM bytes for the net; EFFBD_ANNEX_ROOM bytes hold every text. */
+uint64_t effbd_annex(const uint8_t *file, size_t file_count, uint8_t *net, size_t net_count, uint8_t *text, size_t text_count);
 
 /* A net file: just the net's bytes, without the rest of the area. Accepted: the number of words of its state, places and transitions. */
 uint64_t tpn_read(const uint8_t *net, size_t net_count);

@@ -82,6 +82,30 @@ pub fn translate(met: &mut Met, file: &[u8], area: &[u8]) -> Verdict {
         .map_err(|why| format!("{why}\nfile {}, area of {} bytes", hex(file), area.len()))
 }
 
+/// The text's length, and what is left in both areas.
+pub fn annex(file: &[u8], net: &[u8], text: &[u8]) -> Verdict {
+    let (mut expected_net, mut expected_text) = (net.to_vec(), text.to_vec());
+    let length = model::annex::annex_into(file, &mut expected_net, &mut expected_text);
+    let proved = lend(net, BYTE_GUARD, |net| {
+        lend(text, BYTE_GUARD, |text| effbd::annex(file, net, text))
+    });
+    proved
+        .and_then(|(lent, after_net)| {
+            let (found, after_text) = lent?;
+            equal("length of the annex text", &length, &found)?;
+            equal_bytes("annex text's area", &expected_text, &after_text)?;
+            equal_bytes("area", &expected_net, &after_net)
+        })
+        .map_err(|why| {
+            format!(
+                "{why}\nfile {}, area of {} bytes, text's area of {} bytes",
+                hex(file),
+                net.len(),
+                text.len()
+            )
+        })
+}
+
 /// A call that is lent a state, by the model and proved.
 fn with_state(
     met: &mut Met,

@@ -22,8 +22,9 @@ const fn kind(name: &'static str, case: fn(&mut Random, &mut Met) -> Verdict) ->
     Kind { name, case }
 }
 
-pub const KINDS: [Kind; 8] = [
+pub const KINDS: [Kind; 9] = [
     kind("diagram files and translation", diagram_file),
+    kind("annex texts", annex_text),
     kind("uses of rows", uses_of_rows),
     kind("steps of diagrams", diagram_steps),
     kind("net files", net_file),
@@ -115,6 +116,17 @@ fn diagram_file(random: &mut Random, met: &mut Met) -> Verdict {
     let words = model::diagram::read(&file).unwrap_or(7) as usize;
     let length = any_length(random, words);
     calls::fresh_diagram(met, &file, &net_state(random, length))
+}
+
+/// Any area for the net, and one for the text that is near the text's length or far from it.
+fn annex_text(random: &mut Random, _: &mut Met) -> Verdict {
+    let file = any_diagram(random);
+    let needed = net_of(&file).map_or(20, |net| net.len());
+    let length = any_net_area_length(random, needed);
+    let net = any_area(random, length);
+    let needed = model::annex::annex_in(&file, &mut net.clone()).len();
+    let length = any_area_length(random, needed);
+    calls::annex(&file, &net, &any_area(random, length))
 }
 
 /// Every row, some that the file does not have, and any.

@@ -1,7 +1,9 @@
-//! Translation into areas on both sides of 65,535 bytes, where the translator goes another way, and near the net's own length.
+//! Translation into areas on both sides of 65,535 bytes, where the translator goes another way, and near the net's own length; annex texts
+//! into areas near the text's length.
 
-use compare::calls::translate;
+use compare::calls::{annex, translate};
 use compare::met::Met;
+use model::annex::annex_in;
 use model::examples;
 use model::generate::{diagram, Random};
 use model::history::net_of;
@@ -20,16 +22,32 @@ fn compare_areas(file: &[u8]) {
         1_000_000,
     ];
     for length in lengths {
-        let area: Vec<u8> = (0..length).map(|at| (at % 251) as u8).collect();
-        if let Err(difference) = translate(&mut Met::default(), file, &area) {
+        if let Err(difference) = translate(&mut Met::default(), file, &area_of(length)) {
             panic!("{difference}");
         }
     }
 }
 
-#[test]
-fn every_length_of_area_has_the_same_net() {
-    let plants = [
+fn area_of(length: usize) -> Vec<u8> {
+    (0..length).map(|at| (at % 251) as u8).collect()
+}
+
+/// The text of each area for the net, a refusal's where the net does not fit.
+fn compare_texts(file: &[u8]) {
+    let needed = net_of(file).expect("an accepted diagram").len();
+    for net_length in [0, needed - 1, needed, effbd::NET_ROOM] {
+        let net = area_of(net_length);
+        let whole = annex_in(file, &mut net.clone()).len();
+        for length in [0, 1, whole - 1, whole, whole + 1, effbd::ANNEX_ROOM] {
+            if let Err(difference) = annex(file, &net, &area_of(length)) {
+                panic!("{difference}");
+            }
+        }
+    }
+}
+
+fn plants() -> Vec<Vec<u8>> {
+    let examples = [
         examples::a(),
         examples::b(),
         examples::f(),
@@ -41,7 +59,19 @@ fn every_length_of_area_has_the_same_net() {
     ];
     let mut random = Random::new(65_535);
     let random_plants = (0..40).map(|_| diagram(&mut random));
-    for file in plants.into_iter().chain(random_plants) {
+    examples.into_iter().chain(random_plants).collect()
+}
+
+#[test]
+fn every_length_of_area_has_the_same_net() {
+    for file in plants() {
         compare_areas(&file);
+    }
+}
+
+#[test]
+fn every_length_of_area_has_the_same_text() {
+    for file in plants() {
+        compare_texts(&file);
     }
 }

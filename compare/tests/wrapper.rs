@@ -1,8 +1,9 @@
 //! What the Rust wrapper adds to the calls: its constants, its moves, and its words.
 
 use effbd::{
-    fresh_diagram, fresh_net, log_starts, most_starts, move_diagram, move_net, offer, offer_move,
-    read_diagram, read_net, refusal, step_diagram, step_net, translate, Move, Refusal, Starts,
+    annex_text, fresh_diagram, fresh_net, log_starts, most_starts, move_diagram, move_net, offer,
+    offer_move, read_diagram, read_net, refusal, step_diagram, step_net, translate, Move, Refusal,
+    Starts,
 };
 use model::records::{push_record, record, NET_HEAD, PLACE, TRANSITION};
 use model::{annex, bus, diagram, diagram_step, examples, logs, net};
@@ -106,6 +107,21 @@ fn logs_are_moves_and_starts_are_answers() {
     }
     let once = Starts { most: 1, at: 0 };
     assert_eq!(most_starts(&file, &log[..4], 0), Ok(once));
+}
+
+/// `annex_text` is the whole text of the model, also of the longest net and of files that are refused.
+#[test]
+fn annex_texts_are_whole() {
+    let files = [
+        examples::a(),
+        examples::h(),
+        examples::longest_net(),
+        examples::many_rows(65),
+        Vec::new(),
+    ];
+    for file in files {
+        assert_eq!(annex_text(&file), annex::annex(&file).into_bytes());
+    }
 }
 
 #[test]

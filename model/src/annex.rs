@@ -9,18 +9,30 @@ pub const AREA_LENGTH: usize = 65_536;
 
 /// The net of a diagram as text, or its refusal; every line ends in a newline.
 pub fn annex(file: &[u8]) -> String {
-    match translated(file) {
+    annex_in(file, &mut vec![0; AREA_LENGTH])
+}
+
+/// The same with another area lent for the net.
+pub fn annex_in(file: &[u8], area: &mut [u8]) -> String {
+    match translated(file, area) {
         Ok(net) => net_text(&net),
         Err(refusal) => format!("refused {} {}\n", refusal.number, refusal.value),
     }
 }
 
+/// The same with the text in lent memory too, as far as that reaches; its whole length.
+pub fn annex_into(file: &[u8], area: &mut [u8], text: &mut [u8]) -> usize {
+    let whole = annex_in(file, area);
+    for (to, byte) in text.iter_mut().zip(whole.bytes()) {
+        *to = byte;
+    }
+    whole.len()
+}
+
 /// The net as it stands in the lent area.
-fn translated(file: &[u8]) -> Result<Net, Refusal> {
-    let mut area = vec![0; AREA_LENGTH];
-    let length = translate(file, &mut area)?;
-    area.truncate(length as usize);
-    net::parse(&area)
+fn translated(file: &[u8], area: &mut [u8]) -> Result<Net, Refusal> {
+    let length = translate(file, area)?;
+    net::parse(&area[..length as usize])
 }
 
 /// "`net` has places and transitions, `marks` each place's mark, `t` number,

@@ -55,6 +55,8 @@ pub const MOST_STATE_WORDS: usize = 3 * MOST_ROWS + MOST_ITEMS;
 pub const MOST_NET_STATE_WORDS: usize = MOST_PLACES + MOST_TRANSITIONS;
 /// Bytes that have room for the net of any diagram.
 pub const NET_ROOM: usize = 65_536;
+/// Bytes that have room for the annex text of any file.
+pub const ANNEX_ROOM: usize = 393_216;
 /// Bytes of a telegram.
 pub const TELEGRAM_LENGTH: usize = 14;
 /// Bytes of a setpoint, one move of a log.
@@ -211,6 +213,14 @@ mod proved {
             area: *mut u8,
             area_count: usize,
         ) -> u64;
+        pub fn effbd_annex(
+            file: *const u8,
+            file_count: usize,
+            net: *mut u8,
+            net_count: usize,
+            text: *mut u8,
+            text_count: usize,
+        ) -> u64;
         pub fn tpn_read(net: *const u8, net_count: usize) -> u64;
         pub fn tpn_fresh(
             net: *const u8,
@@ -350,6 +360,70 @@ pub fn translate(file: &[u8], area: &mut [u8]) -> Answer {
     answer(unsafe {
         proved::effbd_translate(file.as_ptr(), file.len(), area.as_mut_ptr(), area.len())
     })
+}
+
+/// What the annex program prints of a diagram, into the first bytes of `text`, and its net into the first bytes of `net`; those beyond keep
+/// their values. The result is the length of the text. Where that is more than `text` has, the text's first bytes fill it.
+///
+/// Never refuses: where [`translate`] would refuse the file, or the net's area with [`refusal::AREA_SHORT`], the text is the one line
+/// `refused NUMBER VALUE` and `net` keeps its bytes. The annex program lends [`NET_ROOM`] bytes for the net; [`ANNEX_ROOM`] bytes hold every
+/// text.
+///
+/// ```
+/// let end_alone = [10, 0, 1, 0, 1, 0, 1, 0, 0, 0, 4, 0, 27, 0];
+/// let (mut net, mut text) = ([7; 30], [b'.'; 16]);
+/// assert_eq!(effbd::annex(&end_alone, &mut net[..25], &mut text), 14);
+/// assert_eq!(&text, b"refused 10 26\n..");
+/// assert_eq!(net, [7; 30]);
+///
+/// // The net fits; the text is longer than its area.
+/// assert_eq!(effbd::annex(&end_alone, &mut net, &mut text), 20);
+/// assert_eq!(&text, b"net 3 0\nmarks 1 ");
+/// assert_eq!(net[26..], [7; 4]);
+/// ```
+pub fn annex(file: &[u8], net: &mut [u8], text: &mut [u8]) -> usize {
+    // SAFETY: as in `fresh_diagram`; net and text are two slices, so they do not overlap.
+    let length = unsafe {
+        proved::effbd_annex(
+            file.as_ptr(),
+            file.len(),
+            net.as_mut_ptr(),
+            net.len(),
+            text.as_mut_ptr(),
+            text.len(),
+        )
+    };
+    length as usize
+}
+
+/// The whole text that the annex program prints of a diagram file, as [`annex`] with room for every net and every text.
+///
+/// ```
+/// let file = [
+///     10, 0, 1, 0, 1, 0, 2, 0, 1, 0, // head: edition 1, 2 rows, 1 item
+///     6, 0, 2, 0, 3, 0, // item: 3
+///     14, 0, 16, 0, 2, 0, 5, 0, 0, 0, 1, 0, 0, 0, // FUNCTION: 2 to 5 ticks, takes 1 of item 0
+///     4, 0, 27, 0, // END
+/// ];
+/// let text = "\
+/// net 7 2
+/// marks 1 0 0 0 0 0 3
+/// t 0 label 0 from 0 to 0
+/// take 0 1
+/// take 6 1
+/// give 1 1
+/// t 1 label 0 from 2 to 5
+/// take 1 1
+/// give 3 1
+/// ";
+/// assert_eq!(effbd::annex_text(&file), text.as_bytes());
+/// assert_eq!(effbd::annex_text(&file[..33]), b"refused 1 30\n");
+/// ```
+pub fn annex_text(file: &[u8]) -> Vec<u8> {
+    let (mut net, mut text) = (vec![0; NET_ROOM], vec![0; ANNEX_ROOM]);
+    let length = annex(file, &mut net, &mut text);
+    text.truncate(length);
+    text
 }
 
 /// A net file: just the net's bytes, without the rest of the area. Accepted: the number of words of its state, places and transitions.

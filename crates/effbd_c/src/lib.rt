@@ -1,10 +1,12 @@
 // The functions that C and Rust programs call. A list is a pointer and its number of elements; an answer is number * 2^32 + value,
 // number 0 where accepted. Each hands its arguments on as they are: what it answers and leaves is what the called function promises.
 ghost use mathlib.Core.Path.{_≡_};
+ghost use lib.ListN.{length};
 ghost use Rattle.effbd.specs.Answers.{said, returningZero, afterwards, packed};
 ghost use Rattle.effbd.specs.Moves.{stepDiagram, freshDiagram};
 ghost use Rattle.effbd.specs.Firing.{stepNet, freshNet, wordsOf};
 ghost use Rattle.effbd.specs.Patterns.{translated};
+ghost use Rattle.effbd.specs.Annex.{annexIn, over};
 ghost use Rattle.effbd.specs.BusEnds.{offered, taken};
 ghost use Rattle.effbd.specs.States.{stateLength};
 ghost use Rattle.effbd.specs.Nesting.{usesPart, packedPart};
@@ -64,6 +66,16 @@ pub extern "C" fn effbd_translate(file: &[u8], area: &mut [u8]) -> u64
     ensures { λ _. ⌜ now (area .exit) ≡ translated (now (file .entry)) (now (area .entry)) .area ⌝ }
 {
     pack(translate::translate(file, area))
+}
+
+// The annex text of a diagram, whose net is written into `net`: the text's length, also where `text` ends before it does.
+#[no_mangle]
+pub extern "C" fn effbd_annex(file: &[u8], net: &mut [u8], text: &mut [u8]) -> u64
+    ensures { λ r. ⌜ r ≡ length (annexIn (length (now (net .entry))) (now (file .entry))) ⌝ }
+    ensures { λ _. ⌜ now (text .exit) ≡ over (now (text .entry)) (annexIn (length (now (net .entry))) (now (file .entry))) ⌝ }
+    ensures { λ _. ⌜ now (net .exit) ≡ translated (now (file .entry)) (now (net .entry)) .area ⌝ }
+{
+    annex_text::annex(file, net, text) as u64
 }
 
 // A net file: accepted with the number of words of its state.
