@@ -1,0 +1,18 @@
+//! What the program `rink` is made of: a plant's text, its drawings, its annex and the game of both bus ends.
+//!
+//! Whatever the proved functions do is left to them: reading, translating, stepping, both bus ends and the annex's text.
+
+#![forbid(unsafe_code)]
+
+pub mod annex;
+pub mod cli;
+pub mod draw;
+pub mod formats;
+pub mod limits;
+pub mod net;
+pub mod plant;
+pub mod play;
+pub mod refused;
+pub mod structure;
+pub mod text;
+pub mod times;

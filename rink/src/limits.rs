@@ -1,0 +1,34 @@
+//! What `rink check` says of an accepted file: how much of each limit it uses.
+
+use crate::net::{self, Net};
+use crate::plant::Plant;
+use crate::structure;
+use effbd::Refusal;
+use std::fmt::Write;
+
+/// Constructs open together, at most.
+const MOST_OPEN: usize = 12;
+
+/// The lines of `check`; a refusal of the file is the proved reader's.
+pub fn used(plant: &Plant, file: &[u8]) -> Result<String, Refusal> {
+    let words = effbd::read_diagram(file)?;
+    let net_file = net::translated(file)?;
+    let net = Net::taken_apart(&net_file);
+    let mut text = String::from("accepted\n");
+    let mut line = |what: &str, used: usize, most: usize| {
+        let _ = writeln!(text, "{what:<12} {used:>6} of {most}");
+    };
+    line("rows", plant.rows.len(), effbd::MOST_ROWS);
+    line("items", plant.items.len(), effbd::MOST_ITEMS);
+    line("depth", structure::depth(plant), MOST_OPEN);
+    line("places", net.marks.len(), effbd::MOST_PLACES);
+    line(
+        "transitions",
+        net.transitions.len(),
+        effbd::MOST_TRANSITIONS,
+    );
+    line("net bytes", net_file.len(), effbd::NET_ROOM);
+    line("state words", words as usize, effbd::MOST_STATE_WORDS);
+    let _ = writeln!(text, "{:<12} {:>6}", "file bytes", file.len());
+    Ok(text)
+}

@@ -1,0 +1,257 @@
+//! A plant: the items and rows of a diagram file with their names.
+//!
+//! Its bytes are judged by the proved reader alone. Here they are only written ([`Plant::file`]) and, once accepted, taken apart
+//! ([`Plant::read`]).
+
+use effbd::Refusal;
+
+/// What a row of a diagram is, with its fields.
+#[derive(Clone, PartialEq, Eq, Debug)]
+pub enum Part {
+    Function(Function),
+    And,
+    Branch,
+    EndAnd,
+    Or,
+    EndOr,
+    Repeat { count: u16 },
+    EndRepeat,
+    Loop,
+    EndLoop,
+    ExitLoop,
+    End,
+}
+
+/// A FUNCTION: its shortest and longest time in ticks (α and β), and its uses by rising items.
+#[derive(Clone, PartialEq, Eq, Debug)]
+pub struct Function {
+    pub shortest: u16,
+    pub longest: u16,
+    pub uses: Vec<Use>,
+}
+
+/// What a FUNCTION takes from an item as it starts and gives to it as it ends.
+#[derive(Clone, Copy, PartialEq, Eq, Debug)]
+pub struct Use {
+    pub item: u16,
+    pub take: u16,
+    pub give: u16,
+}
+
+/// An item, with its initial count.
+#[derive(Clone, PartialEq, Eq, Debug)]
+pub struct Item {
+    pub name: String,
+    pub count: u16,
+}
+
+/// A row. A FUNCTION always has a name; AND, OR, their branches, IT and LP may have one; other rows never do.
+#[derive(Clone, PartialEq, Eq, Debug)]
+pub struct Row {
+    pub part: Part,
+    pub name: Option<String>,
+}
+
+/// A diagram with names. `title` is the plant's own.
+#[derive(Clone, PartialEq, Eq, Debug, Default)]
+pub struct Plant {
+    pub title: Option<String>,
+    pub items: Vec<Item>,
+    pub rows: Vec<Row>,
+}
+
+const EDITION: u16 = 1;
+const HEAD: u16 = 1;
+const ITEM: u16 = 2;
+const FUNCTION: u16 = 16;
+const REPEAT: u16 = 22;
+
+/// The rows without fields, with their kinds.
+const PLAIN: [(u16, Part); 10] = [
+    (17, Part::And),
+    (18, Part::Branch),
+    (19, Part::EndAnd),
+    (20, Part::Or),
+    (21, Part::EndOr),
+    (23, Part::EndRepeat),
+    (24, Part::Loop),
+    (25, Part::EndLoop),
+    (26, Part::ExitLoop),
+    (27, Part::End),
+];
+
+/// A record of a file: where it stands, its kind and its fields.
+#[derive(Clone, PartialEq, Eq, Debug)]
+pub struct Record {
+    pub offset: usize,
+    pub kind: u16,
+    pub fields: Vec<u16>,
+}
+
+/// The records of a file, as their lengths say, up to the first that is not whole.
+pub fn records(file: &[u8]) -> Vec<Record> {
+    let words = |bytes: &[u8]| -> Vec<u16> {
+        bytes
+            .chunks_exact(2)
+            .map(|pair| u16::from_le_bytes([pair[0], pair[1]]))
+            .collect()
+    };
+    let mut found = Vec::new();
+    let mut offset = 0;
+    while let Some(head) = file.get(offset..offset + 4) {
+        let head = words(head);
+        let length = usize::from(head[0]);
+        let Some(fields) = file.get(offset + 4..offset + length) else {
+            break;
+        };
+        found.push(Record {
+            offset,
+            kind: head[1],
+            fields: words(fields),
+        });
+        offset += length;
+    }
+    found
+}
+
+/// The bytes of a record; `None` where its length passes 16 bits.
+fn record(kind: u16, fields: &[u16]) -> Option<Vec<u8>> {
+    let length = u16::try_from(4 + 2 * fields.len()).ok()?;
+    let words = [&[length, kind], fields].concat();
+    Some(words.iter().flat_map(|word| word.to_le_bytes()).collect())
+}
+
+impl Part {
+    fn kind(&self) -> u16 {
+        match self {
+            Part::Function(_) => FUNCTION,
+            Part::Repeat { .. } => REPEAT,
+            plain => {
+                let found = PLAIN.iter().find(|(_, part)| part == plain);
+                found.expect("every part without fields is listed").0
+            }
+        }
+    }
+
+    fn fields(&self) -> Vec<u16> {
+        match self {
+            Part::Function(function) => {
+                let uses = function.uses.iter();
+                let uses = uses.flat_map(|used| [used.item, used.take, used.give]);
+                [function.shortest, function.longest]
+                    .into_iter()
+                    .chain(uses)
+                    .collect()
+            }
+            Part::Repeat { count } => vec![*count],
+            _ => Vec::new(),
+        }
+    }
+
+    /// The part that a record of a right file says; `None` for a record that is no row.
+    pub fn of(record: &Record) -> Option<Part> {
+        match (record.kind, record.fields.as_slice()) {
+            (FUNCTION, [shortest, longest, uses @ ..]) => {
+                let uses = uses.chunks_exact(3).map(|used| Use {
+                    item: used[0],
+                    take: used[1],
+                    give: used[2],
+                });
+                Some(Part::Function(Function {
+                    shortest: *shortest,
+                    longest: *longest,
+                    uses: uses.collect(),
+                }))
+            }
+            (REPEAT, [count]) => Some(Part::Repeat { count: *count }),
+            (kind, _) => {
+                let found = PLAIN.iter().find(|(plain, _)| *plain == kind);
+                found.map(|(_, part)| part.clone())
+            }
+        }
+    }
+
+    /// Whether it opens a construct.
+    pub fn opens(&self) -> bool {
+        matches!(
+            self,
+            Part::And | Part::Or | Part::Repeat { .. } | Part::Loop
+        )
+    }
+
+    /// Whether it closes one.
+    pub fn closes(&self) -> bool {
+        matches!(
+            self,
+            Part::EndAnd | Part::EndOr | Part::EndRepeat | Part::EndLoop
+        )
+    }
+
+    /// How the text writes it, without name and fields.
+    pub fn keyword(&self) -> &'static str {
+        match self {
+            Part::Function(_) => "function",
+            Part::And => "and",
+            Part::Branch => "branch",
+            Part::EndAnd => "end and",
+            Part::Or => "or",
+            Part::EndOr => "end or",
+            Part::Repeat { .. } => "repeat",
+            Part::EndRepeat => "end repeat",
+            Part::Loop => "loop",
+            Part::EndLoop => "end loop",
+            Part::ExitLoop => "exit loop",
+            Part::End => "end",
+        }
+    }
+}
+
+impl Plant {
+    /// The plant of a file that the proved reader accepts, with made-up names.
+    pub fn read(file: &[u8]) -> Result<Plant, Refusal> {
+        effbd::read_diagram(file)?;
+        Ok(Plant::of_records(&records(file)))
+    }
+
+    /// The plant of these records, with made-up names: of those that are items, and those that are rows.
+    pub fn of_records(records: &[Record]) -> Plant {
+        let items = records.iter().filter(|record| record.kind == ITEM);
+        let items = items.enumerate().map(|(number, record)| Item {
+            name: format!("item-{number}"),
+            count: record.fields.first().copied().unwrap_or(0),
+        });
+        let rows = records.iter().filter_map(Part::of);
+        let rows = rows.enumerate().map(|(number, part)| {
+            let function = matches!(part, Part::Function(_));
+            let name = function.then(|| format!("function-{number}"));
+            Row { part, name }
+        });
+        Plant {
+            title: None,
+            items: items.collect(),
+            rows: rows.collect(),
+        }
+    }
+
+    /// Its file, as its parts say, right or not; `None` where a number of rows, items or bytes passes 16 bits.
+    pub fn file(&self) -> Option<Vec<u8>> {
+        let rows = u16::try_from(self.rows.len()).ok()?;
+        let items = u16::try_from(self.items.len()).ok()?;
+        let mut file = record(HEAD, &[EDITION, rows, items])?;
+        for item in &self.items {
+            file.extend(record(ITEM, &[item.count])?);
+        }
+        for row in &self.rows {
+            file.extend(record(row.part.kind(), &row.part.fields())?);
+        }
+        Some(file)
+    }
+
+    /// What a row is called: its name, or its keyword with its number.
+    pub fn row_name(&self, row: usize) -> String {
+        match &self.rows[row].name {
+            Some(name) => name.clone(),
+            None => format!("{} (row {row})", self.rows[row].part.keyword()),
+        }
+    }
+}

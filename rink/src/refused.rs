@@ -1,0 +1,286 @@
+//! The proved reader's refusals in words: which record or row is meant, and why.
+//!
+//! The verdict is the reader's. What is said here explains it to a mechanic, and is never asked whether a file is right.
+
+use crate::plant::{records, Function, Part, Plant, Record};
+use effbd::{refusal, Refusal};
+
+/// What a refusal of a file names.
+#[derive(Clone, Copy, PartialEq, Eq, Debug)]
+pub enum Subject {
+    Head,
+    Item(usize),
+    Row(usize),
+    /// Bytes behind the last record.
+    Behind,
+}
+
+/// A refusal of a file: what it names, where that stands, and why it was refused.
+#[derive(Clone, PartialEq, Eq, Debug)]
+pub struct Found {
+    pub refusal: Refusal,
+    pub subject: Subject,
+    pub offset: usize,
+    why: String,
+}
+
+impl Found {
+    /// Why, with the number of the refusal.
+    pub fn words(&self) -> String {
+        let Refusal { number, .. } = self.refusal;
+        format!("{} (refusal {number}, {})", self.why, self.refusal.words())
+    }
+
+    /// Where: the row or record and its offset.
+    pub fn place(&self) -> String {
+        let offset = self.offset;
+        match self.subject {
+            Subject::Head => "the head, offset 0".to_string(),
+            Subject::Item(item) => format!("item {item}, offset {offset}"),
+            Subject::Row(row) => format!("row {row}, offset {offset}"),
+            Subject::Behind => format!("behind the last record, offset {offset}"),
+        }
+    }
+}
+
+/// What a refusal of this file says; `named` is how a reader of it calls a row, such as `row 3`.
+pub fn find(file: &[u8], refusal: Refusal, named: impl Fn(usize) -> String) -> Found {
+    let records = records(file);
+    let items = records
+        .first()
+        .map_or(0, |head| usize::from(field(head, 2)));
+    let (index, offset) = if nesting(refusal) {
+        let index = 1 + items + refusal.value as usize;
+        (
+            index,
+            records.get(index).map_or(file.len(), |row| row.offset),
+        )
+    } else {
+        let offset = refusal.value as usize;
+        let index = records.iter().take_while(|record| record.offset < offset);
+        (index.count(), offset)
+    };
+    let subject = match index {
+        _ if refusal.number == refusal::BYTES_AFTER_LAST => Subject::Behind,
+        0 => Subject::Head,
+        _ if index <= items => Subject::Item(index - 1),
+        _ => Subject::Row(index - 1 - items),
+    };
+    let why = match refusal.number {
+        refusal::CUT_SHORT => cut_short(&file[offset.min(file.len())..]),
+        refusal::BYTES_AFTER_LAST => {
+            format!("{} bytes stand behind the last record", file.len() - offset)
+        }
+        _ if nesting(refusal) => nesting_words(&Plant::of_records(&records), refusal, named),
+        _ => record_words(
+            &file[offset.min(file.len())..],
+            records.get(index),
+            subject,
+            refusal,
+            items,
+        ),
+    };
+    Found {
+        refusal,
+        subject,
+        offset,
+        why: if why.is_empty() {
+            refusal.words().to_string()
+        } else {
+            why
+        },
+    }
+}
+
+/// Whether the refusal's value is a row.
+fn nesting(refusal: Refusal) -> bool {
+    matches!(
+        refusal.number,
+        refusal::NESTING_BROKEN | refusal::LOOP_EXIT_MISPLACED | refusal::TOO_MANY_OPEN
+    )
+}
+
+fn field(record: &Record, index: usize) -> u16 {
+    record.fields.get(index).copied().unwrap_or(0)
+}
+
+fn cut_short(rest: &[u8]) -> String {
+    let left = rest.len();
+    match rest {
+        [] => "the file ends where a record is due".to_string(),
+        [low, high, _, _, ..] => {
+            let length = u16::from_le_bytes([*low, *high]);
+            format!("the record has {length} bytes, and only {left} are left")
+        }
+        _ => format!("a record is due, and only {left} bytes are left"),
+    }
+}
+
+/// Why a record was refused that has its length and kind at least.
+fn record_words(
+    bytes: &[u8],
+    record: Option<&Record>,
+    subject: Subject,
+    refusal: Refusal,
+    items: usize,
+) -> String {
+    let [length_low, length_high, kind_low, kind_high, ..] = *bytes else {
+        return String::new();
+    };
+    let kind = u16::from_le_bytes([kind_low, kind_high]);
+    let length = u16::from_le_bytes([length_low, length_high]);
+    match (refusal.number, record) {
+        (refusal::KIND_NOT_DUE, _) => {
+            let due = match subject {
+                Subject::Head => "the head, kind 1,",
+                Subject::Item(_) => "an item, kind 2,",
+                _ => "a row",
+            };
+            format!("a record of kind {kind} stands where {due} is due")
+        }
+        (refusal::LENGTH_WRONG, _) => {
+            format!("{length} bytes are no length of a record of kind {kind}")
+        }
+        (refusal::HEAD_VALUE_OFF, Some(head)) => head_words(head),
+        (refusal::FIELD_OFF, Some(record)) => match Part::of(record) {
+            Some(Part::Function(function)) => function_words(&function, items),
+            Some(Part::Repeat { count }) => {
+                format!("it repeats {count} times: 2 to 255 are allowed")
+            }
+            _ => String::new(),
+        },
+        _ => String::new(),
+    }
+}
+
+fn head_words(head: &Record) -> String {
+    let (edition, rows, items) = (field(head, 0), field(head, 1), field(head, 2));
+    let (most_rows, most_items) = (effbd::MOST_ROWS, effbd::MOST_ITEMS);
+    if edition != 1 {
+        format!("edition {edition}: only edition 1 is known")
+    } else if usize::from(items) > most_items {
+        format!("{items} items: at most {most_items} are allowed")
+    } else if rows == 0 {
+        format!("no row: a plant has 1 to {most_rows} rows, the last of them `end`")
+    } else {
+        format!("{rows} rows: at most {most_rows} are allowed")
+    }
+}
+
+fn function_words(function: &Function, items: usize) -> String {
+    let Function {
+        shortest,
+        longest,
+        uses,
+    } = function;
+    if shortest > longest {
+        return format!("the shortest time, {shortest} ticks, is above the longest, {longest}");
+    }
+    let mut before = None;
+    for used in uses {
+        let item = used.item;
+        if usize::from(item) >= items {
+            return format!("it uses item {item}, and there is no such item");
+        }
+        if before >= Some(item) {
+            return format!(
+                "it uses item {item} behind item {}: items rise",
+                before.unwrap_or(0)
+            );
+        }
+        if (used.take, used.give) == (0, 0) {
+            return format!("it takes 0 and gives 0 of item {item}: one of them is 1 or more");
+        }
+        before = Some(item);
+    }
+    String::new()
+}
+
+/// Why a row may not stand where it does; the rows before it nest well.
+fn nesting_words(plant: &Plant, refusal: Refusal, named: impl Fn(usize) -> String) -> String {
+    let row = refusal.value as usize;
+    let Some(found) = plant.rows.get(row) else {
+        return String::new();
+    };
+    let keyword = found.part.keyword();
+    let open = open_before(plant, row);
+    let innermost = open.last().copied();
+    let around = innermost.map_or("nothing is open here".to_string(), |open| {
+        format!(
+            "the innermost open construct is the `{}` of {}",
+            plant.rows[open].part.keyword(),
+            named(open)
+        )
+    });
+    match refusal.number {
+        refusal::TOO_MANY_OPEN => "a 13th construct would be open here: at most 12 are".to_string(),
+        refusal::LOOP_EXIT_MISPLACED => exit_words(plant, row, &open, &around),
+        _ if row > 0 && needs_branch(&plant.rows[row - 1].part) && found.part != Part::Branch => {
+            format!(
+                "`{keyword}` right behind `{}`: a `branch` is due",
+                plant.rows[row - 1].part.keyword()
+            )
+        }
+        _ if found.part == Part::End && innermost.is_none() => {
+            "`end` stands before the last row".to_string()
+        }
+        _ if found.part == Part::End => {
+            format!("`end` stands where a construct is still open: {around}")
+        }
+        _ if found.part == Part::Branch => {
+            format!("a `branch` belongs to an `and` or `or`, and {around}")
+        }
+        _ if found.part.closes()
+            && innermost.is_some_and(|open| closed_by(&plant.rows[open].part) == found.part) =>
+        {
+            format!("`{keyword}` after one branch: two or more are due")
+        }
+        _ if found.part.closes() => format!("`{keyword}` closes nothing: {around}"),
+        _ if row + 1 == plant.rows.len() => {
+            format!("the last row is `{keyword}`: it has to be `end`")
+        }
+        _ => format!("`{keyword}` may not follow the rows before it"),
+    }
+}
+
+/// The open rows of the constructs around a row, the innermost last.
+fn open_before(plant: &Plant, row: usize) -> Vec<usize> {
+    let mut open = Vec::new();
+    for (number, before) in plant.rows[..row].iter().enumerate() {
+        if before.part.opens() {
+            open.push(number);
+        } else if before.part.closes() {
+            open.pop();
+        }
+    }
+    open
+}
+
+fn needs_branch(part: &Part) -> bool {
+    matches!(part, Part::And | Part::Or)
+}
+
+/// The close of a construct.
+fn closed_by(open: &Part) -> Part {
+    match open {
+        Part::And => Part::EndAnd,
+        Part::Or => Part::EndOr,
+        Part::Loop => Part::EndLoop,
+        _ => Part::EndRepeat,
+    }
+}
+
+fn exit_words(plant: &Plant, row: usize, open: &[usize], around: &str) -> String {
+    let part = |open: &usize| &plant.rows[*open].part;
+    if !open.iter().any(|open| *part(open) == Part::Loop) {
+        "`exit loop` stands in no loop".to_string()
+    } else if !open.last().is_some_and(|open| needs_branch(part(open))) {
+        format!("`exit loop` stands at the end of a branch, and {around}")
+    } else {
+        let next = plant
+            .rows
+            .get(row + 1)
+            .map_or("nothing", |next| next.part.keyword());
+        format!("`exit loop` is the last row of its branch, and `{next}` follows")
+    }
+}

@@ -1,0 +1,111 @@
+//! How the rows of an accepted diagram nest.
+
+use crate::plant::{Part, Plant};
+
+/// A run of rows: constructs and single rows, in order.
+pub type Run = Vec<Node>;
+
+/// A row that stands alone, or a construct with the runs inside it.
+#[derive(Clone, PartialEq, Eq, Debug)]
+pub enum Node {
+    /// FUNCTION, LE or END.
+    Single { row: usize },
+    /// IT or LP.
+    Around {
+        open: usize,
+        body: Run,
+        close: usize,
+    },
+    /// AND or OR.
+    Branched {
+        open: usize,
+        branches: Vec<Branch>,
+        close: usize,
+    },
+}
+
+/// A branch: its BRANCH row and the run behind it.
+#[derive(Clone, PartialEq, Eq, Debug)]
+pub struct Branch {
+    pub row: usize,
+    pub run: Run,
+}
+
+/// The run of an accepted diagram's rows.
+pub fn of(plant: &Plant) -> Run {
+    let mut row = 0;
+    run(plant, &mut row)
+}
+
+/// The run that begins at `row`, which becomes the row behind it.
+fn run(plant: &Plant, row: &mut usize) -> Run {
+    let mut nodes = Vec::new();
+    while let Some(found) = plant.rows.get(*row) {
+        let part = &found.part;
+        if part.closes() || *part == Part::Branch {
+            break;
+        }
+        let open = *row;
+        *row += 1;
+        nodes.push(match part {
+            Part::And | Part::Or => branched(plant, open, row),
+            Part::Repeat { .. } | Part::Loop => {
+                let body = run(plant, row);
+                *row += 1;
+                let close = *row - 1;
+                Node::Around { open, body, close }
+            }
+            _ => Node::Single { row: open },
+        });
+    }
+    nodes
+}
+
+/// The branches behind `open`, up to the close.
+fn branched(plant: &Plant, open: usize, row: &mut usize) -> Node {
+    let mut branches = Vec::new();
+    while plant.rows[*row].part == Part::Branch {
+        let branch = *row;
+        *row += 1;
+        let run = run(plant, row);
+        branches.push(Branch { row: branch, run });
+    }
+    *row += 1;
+    Node::Branched {
+        open,
+        branches,
+        close: *row - 1,
+    }
+}
+
+/// Of each row: the open row of the innermost construct around it. An open and a close belong to what is around their construct,
+/// a BRANCH to its own.
+pub fn owners(plant: &Plant) -> Vec<Option<usize>> {
+    let mut open: Vec<usize> = Vec::new();
+    let mut owners = Vec::new();
+    for (row, found) in plant.rows.iter().enumerate() {
+        if found.part.closes() {
+            open.pop();
+        }
+        owners.push(open.last().copied());
+        if found.part.opens() {
+            open.push(row);
+        }
+    }
+    owners
+}
+
+/// How many constructs are open together, at most.
+pub fn depth(plant: &Plant) -> usize {
+    let mut deepest = 0;
+    let mut open = 0usize;
+    for row in &plant.rows {
+        if row.part.opens() {
+            open += 1;
+        } else if row.part.closes() {
+            open = open.saturating_sub(1);
+        }
+        deepest = deepest.max(open);
+    }
+    deepest
+}

@@ -1,0 +1,574 @@
+//! A plant as a text table: one item or row a line, with names, indented as it nests.
+//!
+//! `parse` takes any text apart into parts and lays no rule of the diagram on them: `make` has the proved reader judge their bytes, and
+//! shows a refusal at the line whose record or row it names.
+
+use crate::plant::{Function, Item, Part, Plant, Row, Use};
+use crate::refused;
+use crate::times::{self, NoTime};
+use std::fmt::Write;
+
+/// A place in a text; lines and columns count from 1, columns in letters.
+#[derive(Clone, Copy, PartialEq, Eq, Debug)]
+pub struct Place {
+    pub line: usize,
+    pub column: usize,
+}
+
+/// What is wrong with a text, in words, and where.
+#[derive(Clone, PartialEq, Eq, Debug)]
+pub struct Fault {
+    pub place: Place,
+    pub words: String,
+}
+
+impl Fault {
+    pub fn at(place: Place, words: impl Into<String>) -> Fault {
+        Fault {
+            place,
+            words: words.into(),
+        }
+    }
+
+    /// The fault with its line of the text, for a reader's eyes.
+    pub fn shown(&self, name: &str, text: &str) -> String {
+        let Place { line, column } = self.place;
+        let shown = text.lines().nth(line - 1).unwrap_or("");
+        // Control characters would reach the terminal.
+        let shown = shown.replace(|letter: char| letter.is_control() && letter != '\t', "?");
+        let before: String = shown
+            .chars()
+            .take(column - 1)
+            .map(|letter| if letter == '\t' { '\t' } else { ' ' })
+            .collect();
+        format!(
+            "{name}:{line}:{column}: {}\n    {shown}\n    {before}^\n",
+            self.words
+        )
+    }
+}
+
+/// A text taken apart: the plant, and the place of each item and row.
+#[derive(Clone, PartialEq, Eq, Debug)]
+pub struct Parsed {
+    pub plant: Plant,
+    pub items: Vec<Place>,
+    pub rows: Vec<Place>,
+    /// Behind the last line.
+    pub end: Place,
+}
+
+/// Letters of a name, at most: longer ones would not fit a drawing.
+pub const MOST_LETTERS: usize = 40;
+
+/// The words that a line begins with.
+const FIRST_WORDS: &str =
+    "plant, item, function, and, or, branch, repeat, loop, exit loop, end and, end or, end repeat, end loop, end";
+
+/// The bytes of a text's plant, accepted by the proved reader, and the plant.
+pub fn make(text: &str) -> Result<(Vec<u8>, Plant), Fault> {
+    let parsed = parse(text)?;
+    let Some(file) = parsed.plant.file() else {
+        let words = "more items, rows or uses than a file can count";
+        return Err(Fault::at(parsed.end, words));
+    };
+    match effbd::read_diagram(&file) {
+        Ok(_) => Ok((file, parsed.plant)),
+        Err(refusal) => {
+            let line = |row: usize| {
+                let place = parsed.place_of(refused::Subject::Row(row));
+                format!("line {}", place.line)
+            };
+            let found = refused::find(&file, refusal, line);
+            let place = parsed.place_of(found.subject);
+            Err(Fault::at(place, found.words()))
+        }
+    }
+}
+
+impl Parsed {
+    /// The line of what a refusal names. The head has none: too many items or rows are shown at the first too many.
+    fn place_of(&self, subject: refused::Subject) -> Place {
+        let place = match subject {
+            refused::Subject::Head if self.items.len() > effbd::MOST_ITEMS => {
+                self.items.get(effbd::MOST_ITEMS)
+            }
+            refused::Subject::Head => self.rows.get(effbd::MOST_ROWS),
+            refused::Subject::Item(item) => self.items.get(item),
+            refused::Subject::Row(row) => self.rows.get(row),
+            refused::Subject::Behind => None,
+        };
+        place.copied().unwrap_or(self.end)
+    }
+}
+
+/// A text from bytes: UTF-8, without a byte order mark.
+pub fn decoded(bytes: &[u8]) -> Result<&str, Fault> {
+    match std::str::from_utf8(bytes) {
+        Ok(text) => Ok(text.strip_prefix('\u{feff}').unwrap_or(text)),
+        Err(fault) => {
+            let right = std::str::from_utf8(&bytes[..fault.valid_up_to()]).unwrap_or("");
+            let column = right.rsplit('\n').next().unwrap_or("").chars().count() + 1;
+            let line = right.matches('\n').count() + 1;
+            let words = "this byte is no letter of a text in UTF-8";
+            Err(Fault::at(Place { line, column }, words))
+        }
+    }
+}
+
+/// The items and rows that a text lists.
+pub fn parse(text: &str) -> Result<Parsed, Fault> {
+    let lines = text.lines().count();
+    let mut parsed = Parsed {
+        plant: Plant::default(),
+        items: Vec::new(),
+        rows: Vec::new(),
+        end: Place {
+            line: lines.max(1),
+            column: text.lines().last().unwrap_or("").chars().count() + 1,
+        },
+    };
+    for (number, line) in text.lines().enumerate() {
+        let mut words = Words::of(line, number + 1)?;
+        if words.peek().is_some() {
+            parsed.line(&mut words)?;
+            words.done()?;
+        }
+    }
+    Ok(parsed)
+}
+
+impl Parsed {
+    /// Adds what a line says.
+    fn line(&mut self, words: &mut Words) -> Result<(), Fault> {
+        let first = words.next("")?;
+        let part = match first.text {
+            "plant" => return self.title(first.place, words),
+            "item" => return self.item(first.place, words),
+            "function" => return self.function(first.place, words),
+            "and" => Part::And,
+            "or" => Part::Or,
+            "branch" => Part::Branch,
+            "repeat" => Part::Repeat {
+                count: words.number("how often it repeats, such as `repeat 3`")?,
+            },
+            "loop" => Part::Loop,
+            "exit" => exited(words)?,
+            "end" => ended(words)?,
+            other => {
+                let words = format!(
+                    "`{other}` is no beginning of a line; a line begins with {FIRST_WORDS}"
+                );
+                return Err(Fault::at(first.place, words));
+            }
+        };
+        let name = match part {
+            Part::And | Part::Or | Part::Branch | Part::Repeat { .. } | Part::Loop => {
+                words.optional_name()?
+            }
+            _ => None,
+        };
+        self.row(first.place, part, name);
+        Ok(())
+    }
+
+    fn row(&mut self, place: Place, part: Part, name: Option<String>) {
+        self.plant.rows.push(Row { part, name });
+        self.rows.push(place);
+    }
+
+    fn title(&mut self, place: Place, words: &mut Words) -> Result<(), Fault> {
+        if self.plant.title.is_some() {
+            return Err(Fault::at(place, "the plant has its name already"));
+        }
+        self.plant.title = Some(words.rest("the plant's name, such as `plant North rink`")?);
+        Ok(())
+    }
+
+    fn item(&mut self, place: Place, words: &mut Words) -> Result<(), Fault> {
+        let named = words.next("the item's name and count, such as `item oil 3`")?;
+        let name = named.name()?;
+        if !self.plant.rows.is_empty() {
+            return Err(Fault::at(place, "items stand before the first row"));
+        }
+        if self.item_number(&name).is_some() {
+            return Err(Fault::at(
+                named.place,
+                format!("there is an item `{name}` already"),
+            ));
+        }
+        let count = words.number("the item's count, such as `item oil 3`")?;
+        self.plant.items.push(Item { name, count });
+        self.items.push(place);
+        Ok(())
+    }
+
+    fn item_number(&self, name: &str) -> Option<usize> {
+        self.plant.items.iter().position(|item| item.name == name)
+    }
+
+    fn function(&mut self, place: Place, words: &mut Words) -> Result<(), Fault> {
+        const SUCH: &str = "the function's name and times, such as `function pump-down 20..50`";
+        let name = words.next(SUCH)?.name()?;
+        let (shortest, longest) = words.next(SUCH)?.times()?;
+        let uses = self.uses(words)?;
+        let function = Function {
+            shortest,
+            longest,
+            uses,
+        };
+        self.row(place, Part::Function(function), Some(name));
+        Ok(())
+    }
+
+    /// What a function takes and gives, by rising items.
+    fn uses(&self, words: &mut Words) -> Result<Vec<Use>, Fault> {
+        // Of each item named: its number, and the take and give that were named.
+        let mut named: Vec<(usize, [Option<u16>; 2])> = Vec::new();
+        while let Some(way) = words.peek() {
+            let which = match way.text {
+                "take" => 0,
+                "give" => 1,
+                other => {
+                    let words = format!("`{other}` where `take` or `give` is due");
+                    return Err(Fault::at(way.place, words));
+                }
+            };
+            words.next("")?;
+            let item = self.item_of(words.next("an item and how many, such as `take oil 1`")?)?;
+            let amount = words.number("how many, such as `take oil 1`")?;
+            let known = named.iter().position(|(other, _)| *other == item);
+            let known = known.unwrap_or_else(|| {
+                named.push((item, [None; 2]));
+                named.len() - 1
+            });
+            if named[known].1[which].replace(amount).is_some() {
+                let words = format!("{} {} stands twice", way.text, self.plant.items[item].name);
+                return Err(Fault::at(way.place, words));
+            }
+        }
+        named.sort();
+        let uses = named.iter().map(|(item, [take, give])| Use {
+            item: *item as u16,
+            take: take.unwrap_or(0),
+            give: give.unwrap_or(0),
+        });
+        Ok(uses.collect())
+    }
+
+    fn item_of(&self, word: Word) -> Result<usize, Fault> {
+        self.item_number(word.text).ok_or_else(|| {
+            let items: Vec<&str> = self
+                .plant
+                .items
+                .iter()
+                .map(|item| item.name.as_str())
+                .collect();
+            let listed = if items.is_empty() {
+                "no item is listed".to_string()
+            } else {
+                format!("the items are {}", items.join(", "))
+            };
+            Fault::at(word.place, format!("no item `{}`: {listed}", word.text))
+        })
+    }
+}
+
+fn exited(words: &mut Words) -> Result<Part, Fault> {
+    let what = words.next("what is left: `exit loop`")?;
+    match what.text {
+        "loop" => Ok(Part::ExitLoop),
+        other => Err(Fault::at(
+            what.place,
+            format!("`exit {other}`: only `exit loop` is known"),
+        )),
+    }
+}
+
+fn ended(words: &mut Words) -> Result<Part, Fault> {
+    let Some(what) = words.peek() else {
+        return Ok(Part::End);
+    };
+    let part = match what.text {
+        "and" => Part::EndAnd,
+        "or" => Part::EndOr,
+        "repeat" => Part::EndRepeat,
+        "loop" => Part::EndLoop,
+        other => {
+            let words = format!("`end {other}`: known are end and, end or, end repeat, end loop, and `end` alone for the last row");
+            return Err(Fault::at(what.place, words));
+        }
+    };
+    words.next("")?;
+    Ok(part)
+}
+
+/// A word of a line.
+#[derive(Clone, Copy, Debug)]
+struct Word<'a> {
+    place: Place,
+    text: &'a str,
+}
+
+impl Word<'_> {
+    /// Its text as a name.
+    fn name(&self) -> Result<String, Fault> {
+        let refused = |words: String| Err(Fault::at(self.place, words));
+        if !self.text.starts_with(char::is_alphabetic) {
+            return refused(format!(
+                "`{}` is no name: a name begins with a letter",
+                self.text
+            ));
+        }
+        let fine = |letter: char| letter.is_alphanumeric() || "-_./+&'".contains(letter);
+        if let Some(odd) = self.text.chars().find(|letter| !fine(*letter)) {
+            return refused(format!(
+                "`{odd}` in a name: a name has letters, digits and - _ . / + & '"
+            ));
+        }
+        if self.text.chars().count() > MOST_LETTERS {
+            return refused(format!("a name has at most {MOST_LETTERS} letters"));
+        }
+        Ok(self.text.to_string())
+    }
+
+    fn number(&self) -> Result<u16, Fault> {
+        let words = match times::ticks(self.text) {
+            Ok(number) => return Ok(number),
+            Err(NoTime::Long) => format!("{} is too large: 65535 is the most", self.text),
+            Err(_) => format!("`{}` is no number", self.text),
+        };
+        Err(Fault::at(self.place, words))
+    }
+
+    /// A time in ticks, or in seconds with an `s` behind.
+    fn ticks(&self) -> Result<u16, Fault> {
+        let Some(seconds) = self.text.strip_suffix('s') else {
+            return self.number();
+        };
+        let words = match times::ticks_of_seconds(seconds) {
+            Ok(ticks) => return Ok(ticks),
+            Err(NoTime::Odd) => format!("`{}` is no time", self.text),
+            Err(NoTime::Fine) => {
+                format!("`{}` is finer than a tick, which is 0.1 s", self.text)
+            }
+            Err(NoTime::Long) => {
+                format!("{} is too long: 6553.5s is the longest time", self.text)
+            }
+        };
+        Err(Fault::at(self.place, words))
+    }
+
+    /// Shortest and longest time: `20..50`, `2.0s..5.0s`, or one time for both.
+    fn times(&self) -> Result<(u16, u16), Fault> {
+        let Some((shortest, longest)) = self.text.split_once("..") else {
+            let both = self.ticks()?;
+            return Ok((both, both));
+        };
+        let behind = Place {
+            column: self.place.column + shortest.chars().count() + 2,
+            ..self.place
+        };
+        let part = |place, text| Word { place, text }.ticks();
+        Ok((part(self.place, shortest)?, part(behind, longest)?))
+    }
+}
+
+/// The words of a line, from left to right.
+struct Words<'a> {
+    line: usize,
+    text: &'a str,
+    /// Columns before `text`.
+    passed: usize,
+}
+
+impl<'a> Words<'a> {
+    /// The words before a comment, which `#` begins.
+    fn of(line: &'a str, number: usize) -> Result<Words<'a>, Fault> {
+        let control = |letter: char| letter.is_control() && letter != '\t';
+        if let Some(column) = line.chars().position(control) {
+            let place = Place {
+                line: number,
+                column: column + 1,
+            };
+            return Err(Fault::at(
+                place,
+                "a control character, which a text has not",
+            ));
+        }
+        Ok(Words {
+            line: number,
+            text: line.split('#').next().unwrap_or(""),
+            passed: 0,
+        })
+    }
+
+    /// The next word, which stays.
+    fn peek(&self) -> Option<Word<'a>> {
+        let start = self.text.find(|letter: char| !letter.is_whitespace())?;
+        let rest = &self.text[start..];
+        let length = rest.find(char::is_whitespace).unwrap_or(rest.len());
+        let place = Place {
+            line: self.line,
+            column: self.passed + self.text[..start].chars().count() + 1,
+        };
+        Some(Word {
+            place,
+            text: &rest[..length],
+        })
+    }
+
+    fn pass(&mut self, word: Word<'a>) {
+        let column = word.place.column - 1 + word.text.chars().count();
+        let passed = column - self.passed;
+        let bytes = self.text.chars().take(passed).map(char::len_utf8).sum();
+        self.text = &self.text[bytes..];
+        self.passed = column;
+    }
+
+    /// The place behind the last word.
+    fn end(&self) -> Place {
+        Place {
+            line: self.line,
+            column: self.passed + self.text.trim_end().chars().count() + 1,
+        }
+    }
+
+    /// The next word; where the line ends, a fault that says what is missing.
+    fn next(&mut self, missing: &str) -> Result<Word<'a>, Fault> {
+        let word = self
+            .peek()
+            .ok_or_else(|| Fault::at(self.end(), format!("missing: {missing}")))?;
+        self.pass(word);
+        Ok(word)
+    }
+
+    fn number(&mut self, missing: &str) -> Result<u16, Fault> {
+        self.next(missing)?.number()
+    }
+
+    fn optional_name(&mut self) -> Result<Option<String>, Fault> {
+        match self.peek() {
+            None => Ok(None),
+            Some(_) => Ok(Some(self.next("")?.name()?)),
+        }
+    }
+
+    /// All words that are left, as they stand.
+    fn rest(&mut self, missing: &str) -> Result<String, Fault> {
+        let rest = self.text.trim();
+        if rest.is_empty() {
+            return Err(Fault::at(self.end(), format!("missing: {missing}")));
+        }
+        self.text = "";
+        Ok(rest.to_string())
+    }
+
+    fn done(&self) -> Result<(), Fault> {
+        match self.peek() {
+            None => Ok(()),
+            Some(word) => Err(Fault::at(
+                word.place,
+                format!("`{}` is too much on this line", word.text),
+            )),
+        }
+    }
+}
+
+/// How `show` writes times, and whether it tells the rows' numbers.
+#[derive(Clone, Copy, Default)]
+pub struct Style {
+    pub seconds: bool,
+    pub numbers: bool,
+}
+
+/// The text of a plant; `make` of it gives the plant's bytes.
+pub fn show(plant: &Plant, style: Style) -> String {
+    let mut text = String::new();
+    if let Some(title) = &plant.title {
+        text += &format!("plant {title}\n");
+    }
+    for item in &plant.items {
+        let _ = writeln!(text, "item {} {}", item.name, item.count);
+    }
+    if !text.is_empty() {
+        text += "\n";
+    }
+    let mut indent = 0;
+    for (number, row) in plant.rows.iter().enumerate() {
+        let depth = before(&row.part, indent);
+        let line = format!("{}{}", "  ".repeat(depth), row_line(plant, row, style));
+        if style.numbers {
+            let _ = writeln!(text, "{line:<60} # row {number}");
+        } else {
+            let _ = writeln!(text, "{line}");
+        }
+        indent = behind(&row.part, depth);
+    }
+    text
+}
+
+/// Where a row stands, if a run at its place stands at `indent`: a branch stands between its construct and its rows.
+fn before(part: &Part, indent: usize) -> usize {
+    match part {
+        Part::Branch => indent.saturating_sub(1),
+        Part::EndAnd | Part::EndOr => indent.saturating_sub(2),
+        Part::EndRepeat | Part::EndLoop => indent.saturating_sub(1),
+        _ => indent,
+    }
+}
+
+/// Where a run behind the row stands.
+fn behind(part: &Part, depth: usize) -> usize {
+    match part {
+        Part::And | Part::Or => depth + 2,
+        Part::Branch | Part::Repeat { .. } | Part::Loop => depth + 1,
+        _ => depth,
+    }
+}
+
+fn row_line(plant: &Plant, row: &Row, style: Style) -> String {
+    let mut line = row.part.keyword().to_string();
+    if let Part::Repeat { count } = row.part {
+        let _ = write!(line, " {count}");
+    }
+    if let Some(name) = &row.name {
+        let _ = write!(line, " {name}");
+    }
+    if let Part::Function(function) = &row.part {
+        let time = |ticks| time_text(ticks, style.seconds);
+        let _ = write!(
+            line,
+            " {}..{}",
+            time(function.shortest),
+            time(function.longest)
+        );
+        line += &uses_text(plant, function);
+    }
+    line
+}
+
+/// A time as the text writes it: in ticks, or in seconds.
+pub fn time_text(ticks: u16, seconds: bool) -> String {
+    if seconds {
+        format!("{}s", times::seconds(u64::from(ticks)))
+    } else {
+        ticks.to_string()
+    }
+}
+
+fn uses_text(plant: &Plant, function: &Function) -> String {
+    let one = |way: &str, used: &Use, amount: u16| {
+        let name = &plant.items[usize::from(used.item)].name;
+        (amount > 0).then(|| format!(" {way} {name} {amount}"))
+    };
+    let takes = function
+        .uses
+        .iter()
+        .filter_map(|used| one("take", used, used.take));
+    let gives = function
+        .uses
+        .iter()
+        .filter_map(|used| one("give", used, used.give));
+    takes.chain(gives).collect()
+}

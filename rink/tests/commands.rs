@@ -1,0 +1,415 @@
+//! The program as it is called: what it answers, its exit status, and what it says of wrong input of every kind.
+
+use std::fs;
+use std::io::Write;
+use std::path::{Path, PathBuf};
+use std::process::{Command, Output, Stdio};
+
+const DONE: i32 = 0;
+const REFUSED: i32 = 1;
+const TROUBLE: i32 = 2;
+
+const COMMANDS: [&str; 6] = ["make", "show", "draw", "annex", "play", "check"];
+
+/// An answer of the program.
+struct Answer {
+    status: i32,
+    output: Vec<u8>,
+    said: String,
+}
+
+impl Answer {
+    fn of(output: Output) -> Answer {
+        Answer {
+            status: output.status.code().expect("it ends by itself"),
+            output: output.stdout,
+            said: String::from_utf8(output.stderr).expect("it says letters"),
+        }
+    }
+
+    fn text(&self) -> &str {
+        std::str::from_utf8(&self.output).expect("a text")
+    }
+}
+
+fn program(arguments: &[&str]) -> Command {
+    let mut program = Command::new(env!("CARGO_BIN_EXE_rink"));
+    program.args(arguments).stdin(Stdio::null());
+    program
+}
+
+fn rink(arguments: &[&str]) -> Answer {
+    Answer::of(program(arguments).output().expect("it runs"))
+}
+
+/// With these bytes on standard input.
+fn fed(arguments: &[&str], input: &[u8]) -> Answer {
+    let mut child = program(arguments)
+        .stdin(Stdio::piped())
+        .stdout(Stdio::piped())
+        .stderr(Stdio::piped())
+        .spawn()
+        .expect("it runs");
+    let mut pipe = child.stdin.take().expect("a pipe");
+    // It may end without having read all.
+    let _ = pipe.write_all(input);
+    drop(pipe);
+    Answer::of(child.wait_with_output().expect("it ends"))
+}
+
+/// It ends with this status and says this.
+fn says(answer: &Answer, status: i32, words: &str) {
+    let Answer { said, .. } = answer;
+    assert_eq!(answer.status, status, "{said}");
+    assert!(said.contains(words), "{words:?} is not in {said:?}");
+}
+
+fn example(name: &str) -> String {
+    let examples = Path::new(env!("CARGO_MANIFEST_DIR")).join("../examples");
+    examples.join(name).to_str().expect("letters").to_string()
+}
+
+/// A folder of this test's own, empty.
+fn folder(name: &str) -> PathBuf {
+    let folder = Path::new(env!("CARGO_TARGET_TMPDIR")).join(name);
+    let _ = fs::remove_dir_all(&folder);
+    fs::create_dir_all(&folder).expect("a folder");
+    folder
+}
+
+#[test]
+fn help_of_each_command() {
+    for command in COMMANDS {
+        let answer = rink(&[command, "--help"]);
+        assert_eq!(answer.status, DONE);
+        assert!(answer.text().contains(&format!("rink {command}")));
+        assert!(rink(&["--help"])
+            .text()
+            .contains(&format!("rink {command}")));
+        assert_eq!(rink(&[command, "-h"]).output, answer.output);
+    }
+    assert_eq!(rink(&["help"]).output, rink(&["--help"]).output);
+    says(&rink(&[]), TROUBLE, "rink make");
+}
+
+#[test]
+fn wrong_arguments() {
+    says(&rink(&["frob"]), TROUBLE, "no command frob");
+    for command in COMMANDS {
+        says(&rink(&[command]), TROUBLE, "no file named");
+        says(
+            &rink(&[command, "--frob", "x"]),
+            TROUBLE,
+            "no option --frob",
+        );
+        says(
+            &rink(&[command, "x", "y"]),
+            TROUBLE,
+            "one file at a time, not x and y",
+        );
+        says(&rink(&[command, "x", "-o"]), TROUBLE, "-o without a value");
+        says(
+            &rink(&[command, "x", "-o", "y", "-o", "z"]),
+            TROUBLE,
+            "-o stands twice",
+        );
+    }
+    let plant = example("a.dia");
+    says(
+        &rink(&["draw", "--dot", "--tina", &plant]),
+        TROUBLE,
+        "not both",
+    );
+    says(
+        &rink(&["play", "--station", "x", &plant]),
+        TROUBLE,
+        "--station",
+    );
+    says(
+        &rink(&["play", "--station", "65536", &plant]),
+        TROUBLE,
+        "--station",
+    );
+    says(&rink(&["play", "-"]), TROUBLE, "--script");
+}
+
+#[test]
+fn wrong_paths() {
+    let folder = folder("wrong-paths");
+    let inside = folder.join("none/x").to_str().expect("letters").to_string();
+    let folder = folder.to_str().expect("letters");
+    for command in COMMANDS {
+        says(
+            &rink(&[command, &inside]),
+            TROUBLE,
+            "no such file or folder",
+        );
+        says(&rink(&[command, folder]), TROUBLE, "it is a folder");
+    }
+    let plant = example("a.plant");
+    says(
+        &rink(&["make", &plant, "-o", &inside]),
+        TROUBLE,
+        "no such file or folder",
+    );
+    says(
+        &rink(&["make", &plant, "-o", folder]),
+        TROUBLE,
+        "it is a folder",
+    );
+    let under_file = format!("{plant}/x");
+    says(
+        &rink(&["make", &under_file]),
+        TROUBLE,
+        "a folder of its path is a file",
+    );
+    let diagram = example("a.dia");
+    says(
+        &rink(&["show", &diagram, "--names", &inside]),
+        TROUBLE,
+        "no such file or folder",
+    );
+    says(
+        &rink(&["play", &diagram, "--script", &inside]),
+        TROUBLE,
+        "no such file or folder",
+    );
+}
+
+#[test]
+fn full_disk() {
+    let full = || {
+        fs::File::options()
+            .write(true)
+            .open("/dev/full")
+            .expect("a full disk")
+    };
+    let plant = example("a.dia");
+    for command in ["show", "draw", "annex", "check"] {
+        let output = program(&[command, &plant]).stdout(full()).output();
+        let answer = Answer::of(output.expect("it runs"));
+        says(
+            &answer,
+            TROUBLE,
+            "standard output: no room is left on the disk",
+        );
+        let answer = rink(&[command, &plant, "-o", "/dev/full"]);
+        says(&answer, TROUBLE, "/dev/full: no room is left on the disk");
+    }
+}
+
+/// Whoever reads the output may go: no message, and no panic.
+#[test]
+fn output_unread() {
+    let mut child = program(&["annex", &example("ice-making.dia")])
+        .stdout(Stdio::piped())
+        .stderr(Stdio::piped())
+        .spawn()
+        .expect("it runs");
+    drop(child.stdout.take());
+    let answer = Answer::of(child.wait_with_output().expect("it ends"));
+    assert_eq!((answer.status, answer.said.as_str()), (TROUBLE, ""));
+}
+
+/// Every shipped diagram is what its text makes, by a file's name and on standard input, into a file and to standard output.
+#[test]
+fn shipped_examples() {
+    let folder = folder("shipped");
+    let names = [
+        "a",
+        "f",
+        "g",
+        "h",
+        "pump-down",
+        "defrost",
+        "ice-making",
+        "pump-down-and-defrost",
+    ];
+    for name in names {
+        let text = example(&format!("{name}.plant"));
+        let diagram = fs::read(example(&format!("{name}.dia"))).expect("shipped");
+        assert_eq!(rink(&["make", &text]).output, diagram, "{name}");
+        let bytes = fs::read(&text).expect("shipped");
+        assert_eq!(fed(&["make", "-"], &bytes).output, diagram, "{name}");
+        let made = folder.join(name);
+        let answer = rink(&["make", &text, "-o", made.to_str().expect("letters")]);
+        assert_eq!((answer.status, answer.output.len()), (DONE, 0));
+        assert_eq!(fs::read(made).expect("made"), diagram, "{name}");
+    }
+}
+
+#[test]
+fn refused_files() {
+    let refused = example("refused.dia");
+    let words =
+        "row 1, offset 30: a record is due, and only 3 bytes are left (refusal 1, cut short)";
+    for command in ["show", "draw", "annex", "play"] {
+        let answer = rink(&[command, &refused]);
+        says(&answer, REFUSED, words);
+        assert!(answer.output.is_empty());
+    }
+    let answer = rink(&["check", &refused]);
+    assert_eq!(answer.status, REFUSED);
+    assert!(answer.text().contains(words));
+    for command in COMMANDS {
+        let answer = fed(&[command, "-"], b"");
+        assert_ne!(answer.status, DONE, "{command}");
+    }
+    says(
+        &fed(&["show", "-"], b""),
+        REFUSED,
+        "the file ends where a record is due",
+    );
+    let text = example("a.plant");
+    says(&rink(&["draw", &text]), REFUSED, "This looks like a text");
+    says(
+        &rink(&["make", &example("a.dia")]),
+        REFUSED,
+        "control character",
+    );
+    says(
+        &fed(&["make", "-"], b"item \xff"),
+        REFUSED,
+        "standard input:1:6:",
+    );
+    says(
+        &fed(&["make", "-"], b"loop\nend\n"),
+        REFUSED,
+        "standard input:2:1:",
+    );
+}
+
+/// Names are those of the text beside the file or named, if it makes the file; else they are made up.
+#[test]
+fn names_beside() {
+    let folder = folder("names");
+    let path = |name: &str| folder.join(name).to_str().expect("letters").to_string();
+    let text = "item oil 3\nfunction pump-down 2..5 take oil 1\nend\n";
+    let diagram = fed(&["make", "-"], text.as_bytes()).output;
+    fs::write(path("x.dia"), &diagram).expect("written");
+    let made_up = rink(&["show", &path("x.dia")]);
+    assert!(made_up
+        .text()
+        .contains("function function-0 2..5 take item-0 1"));
+    for ending in ["txt", "plant"] {
+        fs::write(path(&format!("x.{ending}")), text).expect("written");
+        let named = rink(&["show", &path("x.dia")]);
+        assert!(named.text().contains("function pump-down 2..5 take oil 1"));
+        assert_eq!(named.said, "");
+        assert_eq!(fed(&["make", "-"], &named.output).output, diagram);
+        fs::write(path(&format!("x.{ending}")), "end\n").expect("written");
+    }
+    let other = rink(&["show", &path("x.dia")]);
+    assert_eq!(other.output, made_up.output);
+    says(&other, DONE, "makes another diagram: names are made up");
+    fs::write(path("far"), text).expect("written");
+    let named = rink(&["show", "--names", &path("far"), &path("x.dia")]);
+    assert!(named.text().contains("pump-down"));
+    let wrong = rink(&["show", "--names", &path("x.plant"), &path("x.dia")]);
+    says(&wrong, REFUSED, "makes another diagram than");
+}
+
+#[test]
+fn limits_told() {
+    let answer = rink(&["check", &example("ice-making.dia")]);
+    for line in [
+        "accepted",
+        "rows             31 of 64",
+        "items             4 of 16",
+        "depth             3 of 12",
+    ] {
+        assert!(answer.text().lines().any(|other| other == line), "{line}");
+    }
+    assert!(answer.text().contains("net bytes"));
+}
+
+/// A lesson prints what is stored of it; one that does not come out names its line, behind what it printed up to there.
+#[test]
+fn lessons() {
+    let folder = folder("lessons");
+    let path = |name: &str| folder.join(name).to_str().expect("letters").to_string();
+    let plant = example("pump-down.dia");
+    let stored = fs::read(example("pump-down.lesson.txt")).expect("shipped");
+    let lesson = example("pump-down.lesson");
+    assert_eq!(rink(&["play", &plant, "--script", &lesson]).output, stored);
+    rink(&["play", &plant, "--script", &lesson, "-o", &path("played")]);
+    assert_eq!(fs::read(path("played")).expect("written"), stored);
+    let bytes = fs::read(&plant).expect("shipped");
+    let text = example("pump-down.plant");
+    let fed_plant = fed(
+        &["play", "-", "--script", &lesson, "--names", &text],
+        &bytes,
+    );
+    assert_eq!(fed_plant.output, stored);
+    let fed_lesson = |lesson: &str| fed(&["play", &plant, "--script", "-"], lesson.as_bytes());
+    let unmet = fed_lesson("step 0\n  expect refused\n");
+    says(&unmet, REFUSED, "standard input:2:");
+    assert!(unmet.text().contains("> step 0"));
+    let unknown = fed_lesson("step 0\nfrob\n");
+    says(&unknown, REFUSED, "standard input:2:1:");
+    assert!(unknown.output.is_empty());
+    says(
+        &rink(&["play", &plant, "-o", "x"]),
+        TROUBLE,
+        "it needs --script",
+    );
+    says(
+        &fed(&["play", "-", "--script", "-"], b""),
+        TROUBLE,
+        "can't both",
+    );
+}
+
+/// The game ends with its input.
+#[test]
+fn typed_game() {
+    let answer = fed(&["play", &example("a.dia")], b"1\ndeliver\nfrob\n");
+    assert_eq!((answer.status, answer.said.as_str()), (DONE, ""));
+    assert!(answer.text().contains("the controller takes telegram 1"));
+    assert!(answer.text().contains("frob"));
+}
+
+/// The formats of other programs name every arc, and TINA's the clears in comments.
+#[test]
+fn other_formats() {
+    let plant = example("h.dia");
+    let dot = rink(&["draw", "--dot", &plant]);
+    let tina = rink(&["draw", "--tina", &plant]);
+    assert_eq!(rink(&["draw", "--net", "--dot", &plant]).output, dot.output);
+    for arc in [
+        "p0 -> t0;",
+        "t0 -> p3;",
+        "p9 -> t2;",
+        "t2 -> p24;",
+        "clears 0 to 23",
+    ] {
+        assert!(dot.text().contains(arc), "{arc}");
+    }
+    for line in [
+        "# t2 clears 0 to 23",
+        "tr t4 : {stir ends} [1,9] p16 -> p12",
+        "pl p0 : {loop (row 0) ready} (1)",
+    ] {
+        assert!(tina.text().lines().any(|other| other == line), "{line}");
+    }
+    let repeat = rink(&["draw", "--tina", &example("f.dia")]);
+    assert!(repeat.text().contains("p0 p1*2 -> p2*2 p6"));
+}
+
+/// The page has the file's bytes and length, and needs nothing from elsewhere.
+#[test]
+fn annex_page() {
+    let page = rink(&["annex", &example("a.dia")]);
+    let text = page.text();
+    assert!(text.contains("34 bytes"));
+    assert!(text.contains("0000  0a 00 01 00 01 00 02 00 01 00 06 00 02 00 03 00\n"));
+    assert!(text.contains("<td>item 0</td><td>count of oil</td>"));
+    assert!(text.contains("<td>pump-down starts</td>"));
+    // A drawing's own parts are named by `url(#..)`.
+    let text_apart = text.replace("url(#", "");
+    for fetched in ["src=", "href=", "url(", "@import", "<script"] {
+        assert!(!text_apart.contains(fetched), "{fetched}");
+    }
+    let annex = fs::read_to_string(example("a.txt")).expect("shipped");
+    assert!(text.contains(&format!("<pre class=\"annex\">{annex}</pre>")));
+}

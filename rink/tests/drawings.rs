@@ -1,0 +1,630 @@
+//! The drawings of random and of extreme plants: nothing overlaps, every row, place, transition and arc is there once.
+
+use model::generate::{diagram, lasting_diagram, Random};
+use rink::draw::{self, Line, Node, Placed, Point, Sheet};
+use rink::net::Net;
+use rink::plant::{Function, Item, Part, Plant, Row, Use};
+use rink::structure;
+use std::collections::{BTreeMap, BTreeSet};
+
+/// A plant to draw, and where it comes from.
+struct Case {
+    said: String,
+    plant: Plant,
+}
+
+impl Case {
+    /// What a failure prints.
+    fn said(&self) -> String {
+        let file = self.plant.file().unwrap_or_default();
+        let bytes: String = file.iter().map(|byte| format!("{byte:02x}")).collect();
+        format!("{}, file {bytes}", self.said)
+    }
+
+    fn net(&self) -> Net {
+        let file = self.plant.file().expect("a plant of a file");
+        Net::of_diagram(&file).expect("an accepted plant")
+    }
+}
+
+const RANDOM_CASES: u64 = 1000;
+
+fn cases() -> Vec<Case> {
+    let mut cases: Vec<Case> = (0..RANDOM_CASES).map(random_case).collect();
+    cases.extend(extremes());
+    for case in &cases {
+        let file = case.plant.file().expect("a plant of a file");
+        assert!(effbd::read_diagram(&file).is_ok(), "{}", case.said());
+    }
+    cases
+}
+
+fn random_case(seed: u64) -> Case {
+    let mut random = Random::new(seed);
+    let file = match seed % 4 {
+        0 => lasting_diagram(&mut random, 64),
+        _ => diagram(&mut random),
+    };
+    let mut plant = Plant::read(&file).expect("a generated file is accepted");
+    name_all(&mut plant, &mut random);
+    Case {
+        said: format!("seed {seed}"),
+        plant,
+    }
+}
+
+/// New names for all rows and items that may have one.
+fn name_all(plant: &mut Plant, random: &mut Random) {
+    plant.title = random.chance(50).then(|| name(random));
+    for item in &mut plant.items {
+        item.name = name(random);
+    }
+    for row in &mut plant.rows {
+        let may = row.part.opens() || row.part == Part::Branch;
+        if row.name.is_some() || (may && random.chance(30)) {
+            row.name = Some(name(random));
+        }
+    }
+}
+
+/// A name of 1 to 40 letters: mostly short, some wide, some with what XML escapes.
+fn name(random: &mut Random) -> String {
+    let letters: &[char] = match random.below(8) {
+        0 => &['W', 'M', 'Ж', '漢'],
+        1 => &['&', '<', '>', '"', '\'', '\u{1}', 'x'],
+        2 => &['ä', 'é', 'ß', 'Ø', 'n'],
+        _ => &['a', 'e', 'm', 'n', 'r', 't', '-', '7'],
+    };
+    let length = match random.below(4) {
+        0 => 40,
+        _ => random.below(14) + 1,
+    };
+    (0..length).map(|_| random.pick(letters, 'x')).collect()
+}
+
+fn row(part: Part) -> Row {
+    let function = matches!(part, Part::Function(_));
+    Row {
+        name: function.then(|| "open-brine-valve".to_string()),
+        part,
+    }
+}
+
+fn function(uses: Vec<Use>) -> Part {
+    Part::Function(Function {
+        shortest: 20,
+        longest: 65_535,
+        uses,
+    })
+}
+
+fn plain() -> Part {
+    function(Vec::new())
+}
+
+/// Around `inside`, this many times, `opening` before and `closing` behind it.
+fn nested(times: usize, opening: &[Part], inside: &[Part], closing: &[Part]) -> Vec<Part> {
+    let mut parts = vec![opening; times].concat();
+    parts.extend_from_slice(inside);
+    parts.extend(vec![closing; times].concat());
+    parts
+}
+
+fn extreme(said: &str, parts: Vec<Part>) -> Case {
+    let rows = parts.into_iter().chain([Part::End]).map(row);
+    let items = (0..16).map(|number| Item {
+        name: format!("item-{number}"),
+        count: number * 4_000,
+    });
+    Case {
+        said: said.to_string(),
+        plant: Plant {
+            title: None,
+            items: items.collect(),
+            rows: rows.collect(),
+        },
+    }
+}
+
+fn extremes() -> Vec<Case> {
+    use Part::{And, Branch, EndAnd, EndLoop, EndOr, EndRepeat, ExitLoop, Loop, Or};
+    let it = Part::Repeat { count: 255 };
+    let uses = (0..16).map(|item| Use {
+        item,
+        take: item * 9,
+        give: 65_535 - item,
+    });
+    let mut branches = vec![And];
+    (0..30).for_each(|_| branches.extend([Branch, plain()]));
+    branches.push(EndAnd);
+    let exits = [
+        vec![
+            Loop,
+            it.clone(),
+            And,
+            Branch,
+            plain(),
+            it.clone(),
+            Or,
+            Branch,
+            ExitLoop,
+            Branch,
+            plain(),
+            EndOr,
+        ],
+        vec![
+            EndRepeat,
+            plain(),
+            Branch,
+            And,
+            Branch,
+            ExitLoop,
+            Branch,
+            ExitLoop,
+            EndAnd,
+            EndAnd,
+            plain(),
+        ],
+        vec![
+            EndRepeat,
+            Or,
+            Branch,
+            plain(),
+            ExitLoop,
+            Branch,
+            EndOr,
+            plain(),
+            EndLoop,
+            plain(),
+        ],
+    ];
+    let empty = [
+        vec![
+            Loop,
+            EndLoop,
+            it.clone(),
+            EndRepeat,
+            And,
+            Branch,
+            Branch,
+            EndAnd,
+        ],
+        vec![
+            Or, Branch, Branch, Branch, EndOr, Loop, Or, Branch, ExitLoop, Branch, ExitLoop, EndOr,
+            EndLoop,
+        ],
+    ];
+    let in_or = [Or, Branch, Branch];
+    let exit_deep = [And, Branch, ExitLoop, Branch, EndAnd];
+    let mut in_its = vec![Loop];
+    in_its.extend(nested(
+        10,
+        std::slice::from_ref(&it),
+        &exit_deep,
+        &[EndRepeat, plain()],
+    ));
+    in_its.push(EndLoop);
+    let mut all = vec![
+        extreme("END alone", Vec::new()),
+        extreme("a run of 64", vec![plain(); 63]),
+        extreme("12 LPs", nested(12, &[Loop], &[plain()], &[EndLoop])),
+        extreme(
+            "12 ITs, each with more behind",
+            nested(12, &[plain(), it.clone()], &[], &[EndRepeat, plain()]),
+        ),
+        extreme(
+            "12 ANDs",
+            nested(12, &[And, Branch, Branch], &[plain()], &[EndAnd]),
+        ),
+        extreme("12 ORs", nested(12, &in_or, &[plain()], &[EndOr])),
+        extreme("an AND of 30", branches),
+        extreme("LEs in ANDs in ITs", exits.concat()),
+        extreme("an LE in 10 ITs", in_its),
+        extreme("empty bodies and branches", empty.concat()),
+        extreme("16 uses", vec![function(uses.collect()), plain()]),
+    ];
+    all.extend(all.iter().map(widely_named).collect::<Vec<Case>>());
+    all
+}
+
+/// The same with names of 40 wide letters wherever there may be one.
+fn widely_named(case: &Case) -> Case {
+    let mut plant = case.plant.clone();
+    plant.title = Some("Ж".repeat(40));
+    for row in &mut plant.rows {
+        let may = row.part.opens() || row.part == Part::Branch;
+        if may || row.name.is_some() {
+            row.name = Some("W".repeat(39) + "-");
+        }
+    }
+    for item in &mut plant.items {
+        item.name = "漢".repeat(40);
+    }
+    Case {
+        said: format!("{}, wide names", case.said),
+        plant,
+    }
+}
+
+/// Of two stretches of numbers: how long they lie on one another.
+fn shared(first: (i32, i32), second: (i32, i32)) -> i32 {
+    first.1.min(second.1) - first.0.max(second.0)
+}
+
+fn across(placed: &Placed) -> (i32, i32) {
+    (placed.x, placed.x + placed.width)
+}
+
+fn upright(placed: &Placed) -> (i32, i32) {
+    (placed.y, placed.y + placed.height)
+}
+
+fn span(first: i32, second: i32) -> (i32, i32) {
+    (first.min(second), first.max(second))
+}
+
+/// Whether the inside of the box has a point of the level or upright stretch.
+fn runs_through(placed: &Placed, from: Point, to: Point) -> bool {
+    let (left, right) = across(placed);
+    let (top, bottom) = upright(placed);
+    let (first, last) = span(from.0, to.0);
+    let (high, low) = span(from.1, to.1);
+    first < right && last > left && high < bottom && low > top
+}
+
+fn check_boxes(sheet: &Sheet, said: &str) {
+    let boxes = sheet.boxes();
+    for (number, placed) in boxes.iter().enumerate() {
+        assert!(placed.width > 0 && placed.height > 0, "{placed:?}; {said}");
+        let inside = placed.x >= 0
+            && placed.y >= 0
+            && placed.x + placed.width <= sheet.width
+            && placed.y + placed.height <= sheet.height;
+        assert!(inside, "outside {placed:?}; {said}");
+        for other in &boxes[..number] {
+            let over = shared(across(placed), across(other)) > 0
+                && shared(upright(placed), upright(other)) > 0;
+            assert!(!over, "{placed:?} over {other:?}; {said}");
+        }
+    }
+}
+
+fn check_lines(sheet: &Sheet, said: &str) {
+    let boxes = sheet.boxes();
+    for line in &sheet.lines {
+        assert!(line.points.len() > 1, "{line:?}; {said}");
+        for stretch in line.points.windows(2) {
+            let [from, to] = [stretch[0], stretch[1]];
+            assert!(
+                from != to && (from.0 == to.0 || from.1 == to.1),
+                "{line:?}; {said}"
+            );
+            let inside = [from, to]
+                .iter()
+                .all(|(x, y)| (0..=sheet.width).contains(x) && (0..=sheet.height).contains(y));
+            assert!(inside, "outside {line:?}; {said}");
+            let hit = boxes.iter().find(|placed| runs_through(placed, from, to));
+            assert!(hit.is_none(), "{line:?} through {hit:?}; {said}");
+        }
+        for end in [line.points[0], line.points[line.points.len() - 1]] {
+            let at_box = boxes.iter().any(|placed| touched(placed, end));
+            let mut others = sheet.lines.iter().filter(|other| *other != line);
+            let at_line = others.any(|other| passes(other, end));
+            assert!(at_box || at_line, "ends nowhere {line:?}; {said}");
+        }
+    }
+}
+
+/// Whether the line goes through the point.
+fn passes(line: &Line, (x, y): Point) -> bool {
+    line.points.windows(2).any(|ends| {
+        let (left, right) = span(ends[0].0, ends[1].0);
+        let (top, bottom) = span(ends[0].1, ends[1].1);
+        (left..=right).contains(&x) && (top..=bottom).contains(&y)
+    })
+}
+
+/// Whether the point is on the side of the box.
+fn touched(placed: &Placed, (x, y): Point) -> bool {
+    let ((left, right), (top, bottom)) = (across(placed), upright(placed));
+    (left..=right).contains(&x) && (top..=bottom).contains(&y)
+}
+
+/// Two lines lie on one another only where they begin or end at the same.
+fn check_lines_apart(sheet: &Sheet, said: &str) {
+    for (number, line) in sheet.lines.iter().enumerate() {
+        for other in &sheet.lines[..number] {
+            let kin = line.from == other.from || line.to == other.to;
+            assert!(
+                kin || !lie_together(line, other),
+                "{line:?} on {other:?}; {said}"
+            );
+        }
+    }
+}
+
+fn lie_together(line: &Line, other: &Line) -> bool {
+    let pairs = line.points.windows(2);
+    pairs.into_iter().any(|one| {
+        other.points.windows(2).any(|two| {
+            let level = [one[1], two[0], two[1]].iter().all(|at| at.1 == one[0].1);
+            let upright = [one[1], two[0], two[1]].iter().all(|at| at.0 == one[0].0);
+            let along = |of: fn(Point) -> i32| {
+                shared(span(of(one[0]), of(one[1])), span(of(two[0]), of(two[1])))
+            };
+            (level && along(|at| at.0) > 0) || (upright && along(|at| at.1) > 0)
+        })
+    })
+}
+
+fn check_sheet(sheet: &Sheet, said: &str) {
+    check_boxes(sheet, said);
+    check_lines(sheet, said);
+    check_lines_apart(sheet, said);
+}
+
+/// The attributes of an element, by their names.
+type Attributes = BTreeMap<String, String>;
+
+/// The elements of well-formed XML; otherwise what is wrong with it.
+fn elements(svg: &str) -> Result<Vec<Attributes>, String> {
+    let mut open: Vec<&str> = Vec::new();
+    let mut found = Vec::new();
+    let mut rest = svg;
+    while let Some(start) = rest.find('<') {
+        text_right(&rest[..start])?;
+        let (tag, behind) = rest[start + 1..]
+            .split_once('>')
+            .ok_or("a tag without end")?;
+        rest = behind;
+        if let Some(name) = tag.strip_prefix('/') {
+            if open.pop() != Some(name) {
+                return Err(format!("</{name}> closes nothing"));
+            }
+            continue;
+        }
+        let inside = tag.strip_suffix('/').unwrap_or(tag);
+        let (name, attributes) = inside.split_once(' ').unwrap_or((inside, ""));
+        if name.is_empty() || !name.chars().all(|letter| letter.is_ascii_alphanumeric()) {
+            return Err(format!("an element named {name:?}"));
+        }
+        found.push(attributes_of(attributes)?);
+        if inside == tag {
+            open.push(name);
+        }
+    }
+    if open.is_empty() && rest.trim().is_empty() {
+        Ok(found)
+    } else {
+        Err(format!("open at the end: {open:?}"))
+    }
+}
+
+fn attributes_of(text: &str) -> Result<Attributes, String> {
+    let mut attributes = Attributes::new();
+    let mut rest = text.trim_start();
+    while !rest.is_empty() {
+        let (name, behind) = rest
+            .split_once("=\"")
+            .ok_or(format!("no value: {rest:?}"))?;
+        let (value, behind) = behind.split_once('"').ok_or(format!("no end: {rest:?}"))?;
+        if name.is_empty() || name.contains(|letter: char| letter.is_whitespace() || letter == '"')
+        {
+            return Err(format!("an attribute named {name:?}"));
+        }
+        text_right(value)?;
+        if attributes
+            .insert(name.to_string(), value.to_string())
+            .is_some()
+        {
+            return Err(format!("{name} twice"));
+        }
+        if !behind.is_empty() && !behind.starts_with(' ') {
+            return Err(format!("no space behind {name}"));
+        }
+        rest = behind.trim_start();
+    }
+    Ok(attributes)
+}
+
+/// Text may hold known entities, and nothing that XML forbids.
+fn text_right(text: &str) -> Result<(), String> {
+    let entities = ["amp;", "lt;", "gt;", "quot;"];
+    let mut parts = text.split('&');
+    let first = parts.next().unwrap_or_default();
+    if first.contains('>') {
+        return Err(format!("a bare > in {first:?}"));
+    }
+    if text.contains(|letter: char| letter.is_control() && letter != '\n') {
+        return Err(format!("a control letter in {text:?}"));
+    }
+    match parts.find(|part| !entities.iter().any(|entity| part.starts_with(entity))) {
+        Some(part) => Err(format!("an unknown entity: &{part}")),
+        None => Ok(()),
+    }
+}
+
+/// How often each value of an attribute stands there.
+fn counted(found: &[Attributes], attribute: &str) -> BTreeMap<String, usize> {
+    let mut counts = BTreeMap::new();
+    for value in found.iter().filter_map(|element| element.get(attribute)) {
+        *counts.entry(value.clone()).or_insert(0) += 1;
+    }
+    counts
+}
+
+fn once(values: impl Iterator<Item = String>) -> BTreeMap<String, usize> {
+    values.map(|value| (value, 1)).collect()
+}
+
+#[test]
+fn diagrams_have_room() {
+    for case in cases() {
+        check_sheet(&draw::diagram_sheet(&case.plant), &case.said());
+    }
+}
+
+#[test]
+fn nets_have_room() {
+    for case in cases() {
+        check_sheet(&draw::net_sheet(&case.plant, &case.net()), &case.said());
+    }
+}
+
+#[test]
+fn every_row_is_drawn_once() {
+    for case in cases() {
+        let svg = draw::diagram(&case.plant);
+        let found = elements(&svg).unwrap_or_else(|fault| panic!("{fault}: {}", case.said()));
+        let rows = once((0..case.plant.rows.len()).map(|row| row.to_string()));
+        assert_eq!(counted(&found, "data-row"), rows, "{}", case.said());
+    }
+}
+
+/// Of each row that opens a construct: the row that closes it. Of every other row: itself.
+fn closes(plant: &Plant) -> Vec<usize> {
+    let mut closes: Vec<usize> = (0..plant.rows.len()).collect();
+    let mut open = Vec::new();
+    for (row, found) in plant.rows.iter().enumerate() {
+        if found.part.opens() {
+            open.push(row);
+        } else if found.part.closes() {
+            closes[open.pop().expect("an open row")] = row;
+        }
+    }
+    closes
+}
+
+/// The lines that the rows ask for: from row to row, from LEs, and to and from items.
+fn flow(plant: &Plant) -> Vec<(Node, Node)> {
+    let (owners, closes) = (structure::owners(plant), closes(plant));
+    let part = |row: usize| &plant.rows[row].part;
+    // Where the flow that goes to a row comes to: at the end of a branch it is the close.
+    let target = |row: usize| match (part(row), owners[row]) {
+        (Part::Branch, Some(open)) => Node::Row(closes[open]),
+        _ => Node::Row(row),
+    };
+    let mut flow = vec![(Node::Start, Node::Row(0))];
+    for row in 0..plant.rows.len() {
+        let from = Node::Row(row);
+        match part(row) {
+            Part::End => {}
+            Part::ExitLoop => {
+                let mut around = owners[row].expect("an LE stands in a construct");
+                while *part(around) != Part::Loop {
+                    around = owners[around].expect("an LE stands in a loop");
+                }
+                flow.push((from, Node::Behind(closes[around])));
+            }
+            Part::And | Part::Or => {
+                let own =
+                    |branch: &usize| *part(*branch) == Part::Branch && owners[*branch] == Some(row);
+                let branches = (0..plant.rows.len()).filter(own);
+                flow.extend(branches.map(|branch| (from, Node::Row(branch))));
+            }
+            Part::Function(function) => {
+                flow.push((from, target(row + 1)));
+                flow.extend(function.uses.iter().flat_map(|used| used_lines(row, used)));
+            }
+            _ => flow.push((from, target(row + 1))),
+        }
+        if matches!(part(row), Part::Loop | Part::Repeat { .. }) {
+            flow.push((Node::Row(closes[row]), from));
+        }
+    }
+    flow.sort();
+    flow
+}
+
+fn used_lines(row: usize, used: &Use) -> Vec<(Node, Node)> {
+    let item = usize::from(used.item);
+    let (block, item) = (Node::Row(row), Node::Item { row, item });
+    let take = (used.take > 0).then_some((item, block));
+    let give = (used.give > 0).then_some((block, item));
+    take.into_iter().chain(give).collect()
+}
+
+#[test]
+fn diagrams_flow_as_the_rows_say() {
+    for case in cases() {
+        let lines = draw::lines(&case.plant);
+        let mut drawn: Vec<(Node, Node)> = lines.iter().map(|line| (line.from, line.to)).collect();
+        drawn.sort();
+        assert_eq!(drawn, flow(&case.plant), "{}", case.said());
+    }
+}
+
+/// An arc as the drawing and the net have it: take or give, transition, place, weight.
+type DrawnArc = (String, String, String, String);
+
+fn drawn_arcs(found: &[Attributes]) -> Vec<DrawnArc> {
+    let arcs = found.iter().filter_map(|element| {
+        Some((
+            element.get("data-arc")?.clone(),
+            element.get("data-transition")?.clone(),
+            element.get("data-place")?.clone(),
+            element.get("data-weight")?.clone(),
+        ))
+    });
+    let mut arcs: Vec<DrawnArc> = arcs.collect();
+    arcs.sort();
+    arcs
+}
+
+fn net_arcs(net: &Net) -> Vec<DrawnArc> {
+    let mut arcs = Vec::new();
+    for (number, transition) in net.transitions.iter().enumerate() {
+        let number = number.to_string();
+        for (kind, of_kind) in [("take", &transition.takes), ("give", &transition.gives)] {
+            arcs.extend(of_kind.iter().map(|arc| {
+                (
+                    kind.to_string(),
+                    number.clone(),
+                    arc.place.to_string(),
+                    arc.weight.to_string(),
+                )
+            }));
+        }
+    }
+    arcs.sort();
+    arcs
+}
+
+#[test]
+fn nets_are_drawn_whole() {
+    for case in cases() {
+        let net = case.net();
+        let svg = draw::net(&case.plant, &net);
+        let found = elements(&svg).unwrap_or_else(|fault| panic!("{fault}: {}", case.said()));
+        let transitions = (0..net.transitions.len()).map(|number| format!("t{number}"));
+        let places = (0..net.marks.len()).filter(|place| net.used(*place));
+        let nodes = once(transitions.chain(places.map(|place| format!("p{place}"))));
+        assert_eq!(counted(&found, "data-node"), nodes, "{}", case.said());
+        assert_eq!(drawn_arcs(&found), net_arcs(&net), "{}", case.said());
+        let clears = net
+            .transitions
+            .iter()
+            .flat_map(|transition| &transition.clears);
+        let clears = clears.map(|(first, last)| format!(">clears {first}..{last}<"));
+        let told: BTreeSet<String> = clears.filter(|said| !svg.contains(said)).collect();
+        assert!(told.is_empty(), "{told:?} not told: {}", case.said());
+    }
+}
+
+#[test]
+fn the_checker_of_xml_can_refuse() {
+    let wrong = [
+        "<g>",
+        "</g>",
+        "<g></p>",
+        "<g a=\"1\" a=\"2\"/>",
+        "<g a=1/>",
+        "<g>&nbsp;</g>",
+        "<g>a > b</g>",
+        "<g a=\"1\"b=\"2\"/>",
+    ];
+    for svg in wrong {
+        assert!(elements(svg).is_err(), "{svg}");
+    }
+    assert!(elements("<g a=\"&lt;\"><p/>x &amp; y</g>\n").is_ok());
+}

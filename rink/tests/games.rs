@@ -1,0 +1,555 @@
+//! Games of both bus ends: lessons with their stored output, random games, the terminal on piped input, scripts that are wrong.
+
+use effbd::{Move, STEP, WAIT};
+use model::generate::{diagram, Random};
+use rink::plant::{Function, Item, Part, Plant, Row, Use};
+use rink::play::{parse, screen, scripted, terminal, Command, Game, Outcome, Then, Which};
+
+const STATION: u16 = 7;
+/// Characters of a line, at most.
+const COLUMNS: usize = 100;
+
+/// The example of a plant, with names.
+fn pump_down() -> Game {
+    let file = include_bytes!("../../examples/pump-down-and-defrost.dia").to_vec();
+    let mut plant = Plant::read(&file).expect("an accepted example");
+    plant.title = Some("pump-down and defrost".to_string());
+    for (row, name) in [
+        (0, "pump-down"),
+        (1, "circulate"),
+        (4, "stop order"),
+        (7, "defrost rounds"),
+        (10, "drain coil"),
+        (11, "hot gas"),
+        (13, "fan stop"),
+        (15, "settle"),
+        (19, "one compressor"),
+        (21, "two compressors"),
+        (23, "equalise"),
+        (26, "refill"),
+    ] {
+        plant.rows[row].name = Some(name.to_string());
+    }
+    let items = ["compressor order", "charge", "meltwater", "stop button"];
+    for (item, name) in plant.items.iter_mut().zip(items) {
+        item.name = name.to_string();
+    }
+    Game::new(plant, file, STATION).expect("an accepted example")
+}
+
+fn function(name: &str, shortest: u16, longest: u16, uses: &[(u16, u16, u16)]) -> Row {
+    let uses = uses
+        .iter()
+        .map(|&(item, take, give)| Use { item, take, give });
+    Row {
+        part: Part::Function(Function {
+            shortest,
+            longest,
+            uses: uses.collect(),
+        }),
+        name: Some(name.to_string()),
+    }
+}
+
+fn row(part: Part, name: &str) -> Row {
+    let name = Some(name.to_string()).filter(|name| !name.is_empty());
+    Row { part, name }
+}
+
+fn game(items: &[(&str, u16)], rows: Vec<Row>) -> Game {
+    let items = items.iter().map(|&(name, count)| Item {
+        name: name.to_string(),
+        count,
+    });
+    let plant = Plant {
+        title: None,
+        items: items.collect(),
+        rows,
+    };
+    let file = plant.file().expect("a small plant");
+    Game::new(plant, file, STATION).expect("a right plant")
+}
+
+/// A plant in which every refusal can be met.
+fn feeding() -> Game {
+    game(
+        &[("oil", 1), ("brine", 65_535)],
+        vec![
+            row(Part::And, "start-up"),
+            row(Part::Branch, ""),
+            function("fill", 2, 5, &[(0, 1, 0)]),
+            row(Part::Branch, ""),
+            function("pump", 10, 20, &[]),
+            row(Part::EndAnd, ""),
+            row(Part::Or, "choose"),
+            row(Part::Branch, "by-air"),
+            function("fan", 0, 0, &[(0, 2, 0)]),
+            row(Part::Branch, "by-brine"),
+            function("feed", 1, 3, &[(1, 0, 1)]),
+            row(Part::EndOr, ""),
+            row(Part::End, ""),
+        ],
+    )
+}
+
+/// That a lesson prints what is stored; what it printed stands in a file where it differs.
+fn plays_as_stored(game: Game, script: &str, name: &str, stored: &str) {
+    let printed = scripted(game, script).unwrap_or_else(|fault| panic!("{fault}"));
+    fits(&printed);
+    if printed == stored {
+        return;
+    }
+    let path = format!("{}/{name}", env!("CARGO_TARGET_TMPDIR"));
+    std::fs::write(&path, &printed).expect("a folder for tests");
+    let mut lines = (1..).zip(printed.lines().zip(stored.lines()));
+    let differing = lines.find(|(_, (printed, stored))| printed != stored);
+    panic!("not as stored, line, printed and stored: {differing:?}; all of it: {path}");
+}
+
+/// That no line is too wide, and that the text is plain.
+fn fits(text: &str) {
+    for line in text.lines() {
+        assert!(line.chars().count() <= COLUMNS, "too wide: {line}");
+        assert!(!line.chars().any(char::is_control), "not plain: {line:?}");
+    }
+}
+
+#[test]
+fn lost_repeated_and_late_telegrams() {
+    let script = include_str!("games/bus.script");
+    let stored = include_str!("games/bus.txt");
+    plays_as_stored(pump_down(), script, "bus.txt", stored);
+}
+
+#[test]
+fn every_refusal_of_play() {
+    let script = include_str!("games/refusals.script");
+    let stored = include_str!("games/refusals.txt");
+    plays_as_stored(feeding(), script, "refusals.txt", stored);
+    for number in [21, 22, 23, 24, 25, 26, 30, 31, 32, 33] {
+        let words = format!("(refusal {number})");
+        let joined = stored.replace("\n    ", " ");
+        assert!(joined.contains(&words), "no {words}");
+    }
+}
+
+/// A random game's seed and file, printed where it fails.
+struct Case {
+    seed: u64,
+    file: Vec<u8>,
+    lines: Vec<String>,
+}
+
+impl Drop for Case {
+    fn drop(&mut self) {
+        if std::thread::panicking() {
+            eprintln!("seed {}, file {:?}", self.seed, self.file);
+            eprintln!("commands:\n{}", self.lines.join("\n"));
+        }
+    }
+}
+
+/// A line that a person might type, sense or nonsense.
+fn line(random: &mut Random, game: &Game) -> String {
+    let rows = game.plant().rows.len();
+    let near = (game.sent_count() as usize).saturating_sub(3);
+    let number = near + random.below(5);
+    match random.below(32) {
+        0..=9 => format!("{}", 1 + random.below(game.choices().len() + 1)),
+        10 | 11 => format!("step {}", random.below(rows + 2)),
+        12 => format!("step {}", game.plant().row_name(random.below(rows))),
+        13 | 14 => format!("wait {}", random.word()),
+        15 => format!("wait {}.{}s", random.below(30), random.below(10)),
+        16 | 17 => "deliver".to_string(),
+        18 => format!("deliver {number}"),
+        19 => "deliver all".to_string(),
+        20 => format!("lose {number}"),
+        21 => format!("repeat {number}"),
+        22 => format!("delay {number}"),
+        23 => random
+            .pick(&["lose", "delay", "repeat", "resend"], "")
+            .to_string(),
+        24 => random
+            .pick(&["auto on", "auto off", "auto"], "")
+            .to_string(),
+        25 => random.pick(&["noise", "foreign"], "").to_string(),
+        26 => format!("foreign {number}"),
+        27 => random
+            .pick(&["show", "all", "moves", "log", "help"], "")
+            .to_string(),
+        28 => random
+            .pick(&["expect agree", "expect taken", "say so", "# so"], "")
+            .to_string(),
+        29 if random.chance(10) => "restart".to_string(),
+        29 => format!("expect behind {}", random.below(3)),
+        30 => String::from_utf8_lossy(&random.bytes(6)).replace(['\n', '\r'], " "),
+        _ => random
+            .pick(&["", "step", "wait x", "Quit!", "deliver deliver"], "")
+            .to_string(),
+    }
+}
+
+/// That the ends agree just where the model's image says so, and always where the controller is not behind.
+fn agrees_as_the_model_says(game: &Game, file: &[u8]) {
+    let image = model::image::image(file, game.diagram_state().words);
+    let same = image.as_deref() == Some(game.net_state().words);
+    assert_eq!(game.agree(), same);
+    assert!(same || game.behind() > 0);
+}
+
+/// That the moves listed are those that the model accepts.
+fn lists_what_the_model_accepts(game: &Game, file: &[u8]) {
+    let accepts = |code, argument| {
+        let mut state = game.diagram_state().words.to_vec();
+        model::diagram_step::step(file, &mut state, code, argument).is_ok()
+    };
+    let choices = game.choices();
+    for choice in &choices {
+        assert!(accepts(choice.made.code(), choice.made.argument()));
+    }
+    for row in 0..game.plant().rows.len() as u16 {
+        let listed = choices.iter().any(|choice| choice.made == Move::Step(row));
+        assert_eq!(listed, accepts(STEP, row), "row {row}");
+    }
+    let longest = game.longest_wait();
+    assert!(longest == 0 || accepts(WAIT, longest));
+    assert!(longest == u16::MAX || !accepts(WAIT, longest + 1));
+}
+
+/// Plays one line; whether it was understood and went as it should.
+fn plays(game: &mut Game, line: &str) -> bool {
+    let Ok(Some(command)) = parse(game.plant(), line) else {
+        return false;
+    };
+    let picked = match command {
+        Command::Pick(number) => (1..=game.choices().len()).contains(&number),
+        _ => false,
+    };
+    let Ok(report) = game.act(&command) else {
+        return false;
+    };
+    assert!(!report.lines.is_empty());
+    // Whatever holds a wait has a name.
+    let said = report.lines.join(" ");
+    assert!(!said.contains("passes: nothing") && !said.contains("nothing must end"));
+    if picked {
+        assert!(matches!(game.outcomes()[0], Outcome::Accepted(_)), "{line}");
+    }
+    true
+}
+
+#[test]
+fn random_games() {
+    let mut moves = 0;
+    for seed in 0..400 {
+        let mut random = Random::new(seed);
+        let file = diagram(&mut random);
+        let mut case = Case {
+            seed,
+            file: file.clone(),
+            lines: Vec::new(),
+        };
+        let new = || {
+            let plant = Plant::read(&file).expect("an accepted file");
+            Game::new(plant, file.clone(), STATION).expect("an accepted file")
+        };
+        let mut game = new();
+        for _ in 0..80 {
+            let line = line(&mut random, &game);
+            case.lines.push(line.clone());
+            if !plays(&mut game, &line) {
+                case.lines.pop();
+            }
+            agrees_as_the_model_says(&game, &file);
+        }
+        lists_what_the_model_accepts(&game, &file);
+        fits(&screen(&game, false).join("\n"));
+        fits(&screen(&game, true).join("\n"));
+        moves += game.sent_count();
+
+        // The same as a lesson: what was understood and as expected is no fault.
+        let printed = scripted(new(), &case.lines.join("\n")).expect("a right script");
+        fits(&printed);
+
+        for command in [Command::Resend, Command::Deliver(Which::All)] {
+            game.act(&command).expect("no expectation");
+        }
+        assert_eq!(game.behind(), 0);
+        assert!(game.agree());
+        agrees_as_the_model_says(&game, &file);
+    }
+    assert!(moves > 4_000, "random games that hardly move: {moves}");
+}
+
+/// What the terminal prints for this input.
+fn typed(game: Game, input: &[u8]) -> String {
+    let mut output = Vec::new();
+    terminal(game, input, &mut output).expect("a Vec takes every byte");
+    String::from_utf8(output).expect("text")
+}
+
+#[test]
+fn terminal_on_piped_input() {
+    let input = b"help\n1\nfoo\nstep nothing\nwait\n\n\xff\xfe\x1b[2J\n7\ndeliver\nexpect refused\n1\nstep 0";
+    let printed = typed(pump_down(), input);
+    fits(&printed);
+    for words in [
+        "`foo` is no command; help lists them",
+        "no row is called `nothing`",
+        "wait how long? ticks (wait 20) or seconds (wait 2.0s)",
+        "is no command; help lists them",
+        "the list has no move 7: they are 1 to 2",
+        "the controller takes telegram 1: transition 0 fires, pump-down starts",
+        "not as expected: expected a refusal, but there was a taken telegram 1",
+        "the panel accepts: wait 50 ticks (5.0 s)",
+        "the panel accepts: step pump-down (row 0): ends",
+    ] {
+        assert!(printed.contains(words), "no {words:?} in\n{printed}");
+    }
+    assert!(printed.ends_with("> \n"), "{printed}");
+}
+
+#[test]
+fn terminal_ends() {
+    for (input, end) in [
+        (&b""[..], "> \n"),
+        (b"\n", "> \n"),
+        (b"quit\n1\n", "> the game ends\n"),
+        (b"quit", "> the game ends\n"),
+    ] {
+        let printed = typed(feeding(), input);
+        assert!(printed.ends_with(end), "{input:?}: {printed}");
+    }
+}
+
+#[test]
+fn a_refused_move_shows_no_screen_again() {
+    let printed = typed(feeding(), b"wait 1\n");
+    assert_eq!(printed.matches("CONTROLLER").count(), 1, "{printed}");
+    let printed = typed(feeding(), b"step 0\n");
+    assert_eq!(printed.matches("CONTROLLER").count(), 2, "{printed}");
+}
+
+/// A plant with names that need care: two alike, one with spaces, one that is long, one that would paint the terminal.
+fn fans() -> Game {
+    let long = "x".repeat(300);
+    let names = ["fan", "fan", "Hot Gas", &long, "\u{1b}[31mred"];
+    let mut rows: Vec<Row> = names.iter().map(|name| function(name, 1, 1, &[])).collect();
+    rows.push(row(Part::End, ""));
+    game(&[("one item", 1), ("twin", 0), ("twin", 0)], rows)
+}
+
+#[test]
+fn wrong_scripts() {
+    for (script, line, column, words) in [
+        (
+            "frobnicate",
+            1,
+            1,
+            "`frobnicate` is no command; help lists them",
+        ),
+        (
+            "show\n\n  Frob it",
+            3,
+            3,
+            "`Frob` is no command; help lists them",
+        ),
+        ("show all", 1, 6, "`all` is too much here"),
+        ("step", 1, 5, "step which row? its name or its number"),
+        ("# so\nstep  pump", 2, 7, "no row is called `pump`"),
+        (
+            "step fan",
+            1,
+            6,
+            "rows 0 and 1 are called `fan`: say the number",
+        ),
+        ("step 65536", 1, 6, "`65536` is too large for a row"),
+        (
+            "wait",
+            1,
+            5,
+            "wait how long? ticks (wait 20) or seconds (wait 2.0s)",
+        ),
+        (
+            "wait 65536",
+            1,
+            6,
+            "one wait has at most 65535 ticks (6553.5 s)",
+        ),
+        (
+            "wait 6553.6s",
+            1,
+            6,
+            "one wait has at most 65535 ticks (6553.5 s)",
+        ),
+        ("wait 20 tocks", 1, 9, "`tocks` is too much here"),
+        ("deliver some", 1, 9, "`some` is no telegram's number"),
+        (
+            "deliver 4294967296",
+            1,
+            9,
+            "`4294967296` is no telegram's number",
+        ),
+        ("lose -1", 1, 6, "`-1` is no telegram's number"),
+        ("ä", 1, 1, "`ä` is no command; help lists them"),
+        ("repeat ä ä", 1, 8, "`ä` is no telegram's number"),
+        ("delay 1 2", 1, 9, "`2` is too much here"),
+        ("auto", 1, 5, "auto on, or auto off?"),
+        ("auto maybe", 1, 6, "auto on, or auto off?"),
+        ("expect refused x", 1, 16, "`x` is no refusal's number"),
+        ("expect behind", 1, 14, "behind by how many telegrams?"),
+        ("expect behind x", 1, 15, "`x` is no number of telegrams"),
+        (
+            "expect ready 6",
+            1,
+            14,
+            "there is no row 6: the last is end (row 5)",
+        ),
+        ("expect idle", 1, 12, "which row? its name or its number"),
+        (
+            "expect count",
+            1,
+            13,
+            "count of which item? its name, then the count",
+        ),
+        ("expect count one", 1, 17, "which count?"),
+        (
+            "expect count two item 1",
+            1,
+            14,
+            "no item, or more than one, is called `two item`",
+        ),
+        (
+            "expect count twin 0",
+            1,
+            14,
+            "no item, or more than one, is called `twin`",
+        ),
+        ("expect count one item x", 1, 23, "`x` is no count"),
+        // Understood, but not as expected.
+        (
+            "expect accepted",
+            1,
+            1,
+            "expected an accepted move, but there was nothing",
+        ),
+        (
+            "step 0\n expect refused",
+            2,
+            2,
+            "expected a refusal, but there was an accepted move",
+        ),
+        (
+            "step 2\nexpect refused 23",
+            2,
+            1,
+            "expected a refusal 23, but there was a refusal 22",
+        ),
+        (
+            "step 0\nexpect taken",
+            2,
+            1,
+            "expected a taken telegram, but there was an accepted move",
+        ),
+        (
+            "step 0\nexpect agree",
+            2,
+            1,
+            "the controller is 1 telegram behind",
+        ),
+        (
+            "step 0\nexpect behind 2",
+            2,
+            1,
+            "the controller is 1 telegram behind, not 2",
+        ),
+        (
+            "step 0\nexpect ready 0",
+            2,
+            1,
+            "fan (row 0) is running, not ready",
+        ),
+        ("expect count one item 2", 1, 1, "one item has 1, not 2"),
+    ] {
+        let fault = scripted(fans(), script).expect_err(script);
+        let found = (fault.line, fault.column, fault.words.as_str());
+        assert_eq!(found, (line, column, words), "{script}");
+        let said = format!("line {line}, column {column}: {words}");
+        assert_eq!(fault.to_string(), said);
+    }
+    let times = ["2.x", "2.55s", "x", "2.0", ".5s", "s", "-1", "1.s", "+3"];
+    for time in times {
+        let fault = scripted(fans(), &format!("wait {time}")).expect_err(time);
+        assert_eq!((fault.line, fault.column), (1, 6));
+        assert!(fault.words.contains("is no time"), "{fault}");
+    }
+}
+
+#[test]
+fn a_fault_keeps_what_was_printed() {
+    let fault = scripted(fans(), "step 0\nexpect refused\n").expect_err("not refused");
+    assert!(fault
+        .output
+        .contains("the panel accepts: step fan (row 0): starts"));
+    let fault = scripted(fans(), "step 0\nfrob\n").expect_err("no command");
+    assert_eq!(fault.output, "");
+}
+
+/// Two ANDs one behind the other: each close waits for its own branches.
+#[test]
+fn a_close_names_its_own_branches() {
+    let part = |part| row(part, "");
+    let and = || {
+        let parts = [Part::And, Part::Branch, Part::Branch, Part::EndAnd];
+        parts.into_iter().map(part)
+    };
+    let rows = and().chain(and()).chain([part(Part::End)]);
+    let printed = scripted(game(&[], rows.collect()), "step 7").expect("a right script");
+    let words = "end and (row 7) waits for its branches: branch (row 5) and branch (row 6)";
+    assert!(printed.contains(words), "{printed}");
+}
+
+#[test]
+fn right_scripts() {
+    let script = "\u{feff}\tSTEP 0\r\nwait 1\r\nstep 0\r\nstep \"fan\" \n";
+    let fault = scripted(fans(), script).expect_err("two rows");
+    assert_eq!((fault.line, fault.column), (4, 6));
+    for script in [
+        "",
+        "\n\n# nothing",
+        "step 0\nwait 0.1s\nstep 0\nwait 1 tick\nexpect refused 26",
+        "auto on\n1\n1\n1\n1\n1\n1\nstep hot gas\nexpect accepted\nexpect taken 7",
+        "expect count One item 1\nexpect count \"one item\" 1\nexpect idle \"hot gas\"",
+        "say\nsay  what is said\nquit\nexpect agree 4 or so".trim_end_matches(" 4 or so"),
+    ] {
+        scripted(fans(), script).unwrap_or_else(|fault| panic!("{script}: {fault}"));
+    }
+}
+
+#[test]
+fn long_names_fit() {
+    let script = "1\n".repeat(13) + "show\nall\nlog\nmoves\nwait 5\nsay\t\u{1b}[2J\n";
+    let printed = scripted(fans(), &script).expect("a right script");
+    fits(&printed);
+    fits(&typed(fans(), script.as_bytes()));
+    assert!(printed.contains('…') && printed.contains("?[31mred"));
+}
+
+#[test]
+fn names_of_another_plant_are_not_taken() {
+    let file = include_bytes!("../../examples/a.dia").to_vec();
+    let game = Game::new(Plant::default(), file.clone(), STATION).expect("an accepted file");
+    assert_eq!(game.plant().rows[0].name.as_deref(), Some("function-0"));
+    let refused = Game::new(Plant::default(), file[..33].to_vec(), STATION);
+    let refused = refused.err().expect("a file that is cut short");
+    assert_eq!((refused.number, refused.value), (1, 30));
+}
+
+#[test]
+fn quit_ends_a_lesson() {
+    let mut game = fans();
+    let report = game.act(&Command::Quit).expect("no expectation");
+    assert_eq!(report.then, Then::Quit);
+    let printed = scripted(fans(), "quit\nexpect accepted").expect("ended before");
+    assert!(printed.ends_with("> quit\nthe game ends\n"));
+}

@@ -1,0 +1,317 @@
+//! Texts and diagram files: what `show` writes `make` gives back, and every wrong text is told where and why.
+
+use model::generate::{damaged_diagram, diagram, diagram_up_to, lasting_diagram, Random};
+use rink::plant::{Plant, Row};
+use rink::text::{self, Fault, Place, Style};
+
+const ROUND_TRIPS: usize = 10_000;
+
+/// A random diagram file that the proved reader accepts.
+fn accepted_file(random: &mut Random) -> Vec<u8> {
+    loop {
+        let file = match random.below(4) {
+            0 => lasting_diagram(random, 64),
+            1 => diagram_up_to(random, 64),
+            2 => damaged_diagram(random),
+            _ => diagram(random),
+        };
+        if effbd::read_diagram(&file).is_ok() {
+            return file;
+        }
+    }
+}
+
+/// A name of odd letters, or none.
+fn random_name(random: &mut Random) -> Option<String> {
+    let letters: Vec<char> = "aZé&'+/._-09Ж".chars().collect();
+    let length = random.below(text::MOST_LETTERS);
+    let rest: String = (0..length).map(|_| random.pick(&letters, 'x')).collect();
+    random.chance(70).then(|| format!("n{rest}"))
+}
+
+/// The plant with other names wherever a name may stand.
+fn renamed(mut plant: Plant, random: &mut Random) -> Plant {
+    plant.title = random_name(random);
+    for (number, item) in plant.items.iter_mut().enumerate() {
+        item.name = format!("i{number}-{}", random.below(1000));
+    }
+    for Row { part, name } in &mut plant.rows {
+        if name.is_some() {
+            *name = Some(random_name(random).unwrap_or("take".to_string()));
+        } else if part.opens() || *part == rink::plant::Part::Branch {
+            *name = random_name(random);
+        }
+    }
+    plant
+}
+
+/// `make` after `show` gives the same bytes, with made-up names and with any others, and the same names.
+#[test]
+fn shown_and_made_again() {
+    for seed in 0..ROUND_TRIPS as u64 {
+        let random = &mut Random::new(seed);
+        let file = accepted_file(random);
+        let plant = Plant::read(&file).expect("accepted");
+        let named = renamed(plant.clone(), random);
+        for plant in [plant, named] {
+            let style = Style {
+                seconds: random.chance(50),
+                numbers: random.chance(50),
+            };
+            let shown = text::show(&plant, style);
+            let made = text::make(&shown);
+            assert_eq!(
+                made,
+                Ok((file.clone(), plant)),
+                "seed {seed}\n{shown}{file:?}"
+            );
+        }
+    }
+}
+
+/// A file that is refused has no text: the refusal is the proved reader's.
+#[test]
+fn refused_files_are_not_shown() {
+    let mut refused = 0;
+    for seed in 0..5_000 {
+        let file = damaged_diagram(&mut Random::new(seed));
+        let answer = effbd::read_diagram(&file);
+        let read = Plant::read(&file);
+        assert_eq!(read.as_ref().err(), answer.as_ref().err(), "seed {seed}");
+        let Err(refusal) = answer else { continue };
+        let found = rink::refused::find(&file, refusal, |row| format!("row {row}"));
+        assert!(found.offset <= file.len(), "seed {seed}, {found:?}");
+        let number = format!("refusal {}", refusal.number);
+        assert!(found.words().contains(&number), "seed {seed}, {found:?}");
+        refused += 1;
+    }
+    assert!(refused > 1_000, "{refused} refused");
+}
+
+/// Any bytes are made or told where they are wrong, inside the text or right behind it.
+#[test]
+fn any_text_is_answered() {
+    const WORDS: [&str; 24] = [
+        "plant",
+        "item",
+        "function",
+        "and",
+        "or",
+        "branch",
+        "repeat",
+        "loop",
+        "exit",
+        "end",
+        "take",
+        "give",
+        "oil",
+        "3",
+        "20..50",
+        "2.0s..5.0s",
+        "70000",
+        "..",
+        "é",
+        "#",
+        "\n",
+        "\n",
+        "\t",
+        "\u{1}",
+    ];
+    for seed in 0..20_000 {
+        let random = &mut Random::new(seed);
+        let count = random.below(40);
+        let words: Vec<&str> = (0..count).map(|_| random.pick(&WORDS, "")).collect();
+        let text = words.join(" ");
+        if let Err(Fault { place, words }) = text::make(&text) {
+            let line = text.lines().nth(place.line - 1).unwrap_or("");
+            assert!(
+                place.column <= line.chars().count() + 1,
+                "seed {seed}, {place:?}\n{text}"
+            );
+            assert!(!words.is_empty(), "seed {seed}\n{text}");
+        }
+        let bytes = random.bytes(count);
+        let _ = text::decoded(&bytes).map(text::make);
+    }
+}
+
+/// A wrong text, the place that is told, and words that are said of it.
+fn wrong(text: &str, line: usize, column: usize, said: &str) {
+    let Err(fault) = text::make(text) else {
+        panic!("made: {text}");
+    };
+    assert_eq!(fault.place, Place { line, column }, "{text}{}", fault.words);
+    assert!(fault.words.contains(said), "{text}{}", fault.words);
+}
+
+#[test]
+fn wrong_words() {
+    wrong("itm oil 3\nend\n", 1, 1, "`itm` is no beginning of a line");
+    wrong("Function f 1..2\nend\n", 1, 1, "`Function`");
+    wrong("item\nend\n", 1, 5, "missing: the item's name");
+    wrong("item oil\nend\n", 1, 9, "missing: the item's count");
+    wrong("item oil three\nend\n", 1, 10, "`three` is no number");
+    wrong("item oil -3\nend\n", 1, 10, "`-3` is no number");
+    wrong("item oil 65536\nend\n", 1, 10, "65535 is the most");
+    wrong("item 3 oil\nend\n", 1, 6, "begins with a letter");
+    wrong("item o(l 3\nend\n", 1, 6, "`(` in a name");
+    wrong(
+        &format!("item {} 3\nend\n", "o".repeat(41)),
+        1,
+        6,
+        "at most 40 letters",
+    );
+    wrong("item oil 3\nitem oil 4\nend\n", 2, 6, "`oil` already");
+    wrong("item oil 3 4\nend\n", 1, 12, "`4` is too much");
+    wrong("end\nitem oil 3\n", 2, 1, "before the first row");
+    wrong("plant\nend\n", 1, 6, "missing: the plant's name");
+    wrong("plant a\nplant b\nend\n", 2, 1, "already");
+    wrong(
+        "function f\nend\n",
+        1,
+        11,
+        "missing: the function's name and times",
+    );
+    wrong("function 20..50\nend\n", 1, 10, "begins with a letter");
+    wrong("function f x..50\nend\n", 1, 12, "`x` is no number");
+    wrong("function f 20..x\nend\n", 1, 16, "`x` is no number");
+    wrong("function f 20..\nend\n", 1, 16, "`` is no number");
+    wrong("function f 2.05s..3s\nend\n", 1, 12, "finer than a tick");
+    wrong(
+        "function f 1s..9999.9s\nend\n",
+        1,
+        16,
+        "6553.5s is the longest",
+    );
+    wrong("function f 1s..x.9s\nend\n", 1, 16, "`x.9s` is no time");
+    wrong(
+        "function f 1..2 use oil 1\nend\n",
+        1,
+        17,
+        "`take` or `give` is due",
+    );
+    wrong(
+        "function f 1..2 take oil 1\nend\n",
+        1,
+        22,
+        "no item is listed",
+    );
+    wrong(
+        "item oil 1\nfunction f 1..2 take ice 1\nend\n",
+        2,
+        22,
+        "the items are oil",
+    );
+    wrong(
+        "item oil 1\nfunction f 1..2 take\nend\n",
+        2,
+        21,
+        "missing: an item",
+    );
+    wrong(
+        "item oil 1\nfunction f 1..2 take oil\nend\n",
+        2,
+        25,
+        "missing: how many",
+    );
+    wrong(
+        "item oil 1\nfunction f 1..2 take oil 1 take oil 2\nend\n",
+        2,
+        28,
+        "take oil stands twice",
+    );
+    wrong("repeat\nend repeat\nend\n", 1, 7, "missing: how often");
+    wrong("exit\nend\n", 1, 5, "missing: what is left");
+    wrong("exit and\nend\n", 1, 6, "only `exit loop`");
+    wrong("end if\n", 1, 5, "`end if`");
+    wrong("end loop now\n", 1, 10, "`now` is too much");
+    wrong("fun\u{1}ction\n", 1, 4, "control character");
+}
+
+/// Refusals of the proved reader, at the line of the record or row that they name.
+#[test]
+fn refused_texts() {
+    wrong("", 1, 1, "refusal 4");
+    wrong("# nothing\n", 1, 10, "no row");
+    let functions = |count: usize| "function f 1..2\n".repeat(count);
+    wrong(
+        &format!("{}end\n", functions(64)),
+        65,
+        1,
+        "65 rows: at most 64",
+    );
+    let items: String = (0..17)
+        .map(|number| format!("item i{number} 0\n"))
+        .collect();
+    wrong(&format!("{items}end\n"), 17, 1, "17 items: at most 16");
+    wrong(
+        &functions(70_000),
+        70_000,
+        16,
+        "more items, rows or uses than a file can count",
+    );
+    wrong(
+        "\n  function f 50..20\nend\n",
+        2,
+        3,
+        "shortest time, 50 ticks, is above the longest, 20 (refusal 5",
+    );
+    wrong(
+        "item i 0\nitem oil 1\nfunction f 1..2 take oil 0\nend\n",
+        3,
+        1,
+        "takes 0 and gives 0 of item 1",
+    );
+    wrong("repeat 1\nend repeat\nend\n", 1, 1, "2 to 255 are allowed");
+    wrong(
+        "repeat 256\nend repeat\nend\n",
+        1,
+        1,
+        "2 to 255 are allowed",
+    );
+    wrong("function f 1..2\n", 1, 1, "it has to be `end`");
+    wrong("end\nend\n", 1, 1, "before the last row");
+    wrong("loop\nend\n", 2, 1, "the `loop` of line 1");
+    wrong(
+        "# x\nloop\nand\nbranch\nend and\nend loop\nend\n",
+        5,
+        1,
+        "after one branch",
+    );
+    wrong("and\nfunction f 1..2\n", 2, 1, "a `branch` is due");
+    wrong("branch\nend\n", 1, 1, "nothing is open");
+    wrong("loop\nend and\nend\n", 2, 1, "`end and` closes nothing");
+    wrong("exit loop\nend\n", 1, 1, "stands in no loop (refusal 8");
+    wrong("loop\nexit loop\nend loop\nend\n", 2, 1, "end of a branch");
+    wrong(
+        "loop\nor\nbranch\nexit loop\nfunction f 1..2\nbranch\nend or\nend loop\nend\n",
+        4,
+        1,
+        "`function` follows",
+    );
+    let loops = format!("{}{}end\n", "loop\n".repeat(13), "end loop\n".repeat(13));
+    wrong(&loops, 13, 1, "13th construct");
+}
+
+/// Ticks and seconds, one time for both, free indentation, comments and other line ends say the same.
+#[test]
+fn ways_to_write() {
+    let first = text::make("item oil 3\nfunction pump 20..50 take oil 1 give oil 2\nend\n");
+    let second = text::make(
+        "\u{9}item  oil 3 # three\r\n\r\nfunction pump 2s..5.0s give oil 2 take oil 1\r\n   end",
+    );
+    assert_eq!(first, second);
+    assert!(first.is_ok());
+    let one = text::make("function f 0.7s\nend\n").expect("made").0;
+    assert_eq!(one, text::make("function f 7..7\nend\n").expect("made").0);
+    let marked = text::decoded(b"\xef\xbb\xbfend\n").map(text::make);
+    assert!(matches!(marked, Ok(Ok(_))));
+    let fault = text::decoded(b"item oil 3\nfunction \xff").expect_err("no UTF-8");
+    assert_eq!(
+        fault.place,
+        Place {
+            line: 2,
+            column: 10
+        }
+    );
+}
