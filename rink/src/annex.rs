@@ -3,7 +3,7 @@
 use crate::draw::{self, escaped};
 use crate::net::{home, place_words, transition_words, Home, Net};
 use crate::plant::Plant;
-use crate::text::{show, time_text, Style};
+use crate::text::{item_lines, row_lines, time_text};
 use effbd::Refusal;
 use std::fmt::Write;
 
@@ -27,7 +27,9 @@ tr.never td { color: #777; }
 .net { display: flow-root; }
 .net pre { float: left; width: 33%; border-right: 1px solid #000; padding-right: 2%; box-sizing: border-box; }
 .net .names { margin-left: 36%; }
-.names table + table { margin-top: 1em; }
+table + table { margin-top: 1em; }
+.text { width: auto; }
+.text td { border: 0; padding: 0 .6em; }
 .bytes { break-inside: avoid; }
 @media print {
   body { max-width: none; margin: 0; padding: 0; }
@@ -43,10 +45,6 @@ pub fn page(plant: &Plant, file: &[u8], with_net: bool) -> Result<String, Refusa
     let net = Net::of_diagram(file)?;
     let annex = String::from_utf8_lossy(&effbd::annex_text(file)).into_owned();
     let title = escaped(plant.title.as_deref().unwrap_or("Plant"));
-    let style = Style {
-        seconds: true,
-        numbers: true,
-    };
     let heading = format!(
         "<h1>Annex: {title}</h1>\n<p>{} rows, {} items; the net has {} places and {} transitions. A tick is 0.1 s.</p>\n",
         plant.rows.len(),
@@ -54,13 +52,9 @@ pub fn page(plant: &Plant, file: &[u8], with_net: bool) -> Result<String, Refusa
         net.marks.len(),
         net.transitions.len(),
     );
-    let rows = format!(
-        "<h2>Rows</h2>\n<pre class=\"rows\">{}</pre>\n",
-        escaped(&show(plant, style))
-    );
     let sections = [
         drawing_section(&heading, &draw::diagram_sheet(plant)),
-        section("", &rows),
+        section("", &rows_section(plant)),
         section("", &net_section(plant, &net, &annex)),
         match with_net {
             true => drawing_section("<h2>Net, drawn</h2>\n", &draw::net_sheet(plant, &net)),
@@ -87,6 +81,28 @@ fn drawing_section(heading: &str, sheet: &draw::Sheet) -> String {
         "drawing"
     };
     section(class, &format!("{heading}{}", sheet.svg()))
+}
+
+/// Items and rows as the text has them, each with its number.
+fn rows_section(plant: &Plant) -> String {
+    let line = |(number, line): (usize, &String)| {
+        let line = escaped(line);
+        format!("<tr><td class=\"n\">{number}</td><td><pre>{line}</pre></td></tr>\n")
+    };
+    let table = |caption: &str, lines: &[String]| {
+        let lines: String = lines.iter().enumerate().map(line).collect();
+        match lines.as_str() {
+            "" => String::new(),
+            lines => format!(
+                "<table class=\"text\">\n<caption>{caption}</caption>\n<tbody>\n{lines}</tbody>\n</table>\n"
+            ),
+        }
+    };
+    format!(
+        "<h2>Items and rows</h2>\n{}{}",
+        table("Items", &item_lines(plant)),
+        table("Rows", &row_lines(plant, true))
+    )
 }
 
 /// The annex program's text as it stands, and beside it the names of its places and transitions.

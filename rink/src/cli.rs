@@ -6,7 +6,7 @@ use crate::play::{self, Game};
 use crate::text::{self, Fault, Place, Style};
 use crate::{annex, draw, formats, limits, refused};
 use std::fs::File;
-use std::io::{self, ErrorKind, Read, Write};
+use std::io::{self, ErrorKind, IsTerminal, Read, Write};
 use std::path::Path;
 
 /// How a command ended when not well.
@@ -353,7 +353,12 @@ fn names_of(text: &Path, file: &[u8]) -> Option<Plant> {
 fn make(given: &[String]) -> Ended {
     let arguments = Arguments::of("make", given, &[], &["-o"])?;
     let (file, _) = made(&arguments.file)?;
-    write_out(arguments.value("-o"), &file)
+    let output = arguments.value("-o").filter(|output| *output != "-");
+    if output.is_none() && io::stdout().is_terminal() {
+        let words = "a diagram file is no text for a terminal: name a file, by `> NAME.dia` or `-o NAME.dia`\n";
+        return Err(Failure::Trouble(words.to_string()));
+    }
+    write_out(output, &file)
 }
 
 fn show(given: &[String]) -> Ended {

@@ -486,26 +486,41 @@ pub struct Style {
 pub fn show(plant: &Plant, style: Style) -> String {
     let mut text = String::new();
     if let Some(title) = &plant.title {
-        text += &format!("plant {title}\n");
+        let _ = writeln!(text, "plant {title}");
     }
-    for item in &plant.items {
-        let _ = writeln!(text, "item {} {}", item.name, item.count);
+    for line in item_lines(plant) {
+        let _ = writeln!(text, "{line}");
     }
     if !text.is_empty() {
         text += "\n";
     }
-    let mut indent = 0;
-    for (number, row) in plant.rows.iter().enumerate() {
-        let depth = before(&row.part, indent);
-        let line = format!("{}{}", "  ".repeat(depth), row_line(plant, row, style));
+    for (number, line) in row_lines(plant, style.seconds).iter().enumerate() {
         if style.numbers {
             let _ = writeln!(text, "{line:<60} # row {number}");
         } else {
             let _ = writeln!(text, "{line}");
         }
-        indent = behind(&row.part, depth);
     }
     text
+}
+
+/// The lines of the items.
+pub fn item_lines(plant: &Plant) -> Vec<String> {
+    let line = |item: &Item| format!("item {} {}", item.name, item.count);
+    plant.items.iter().map(line).collect()
+}
+
+/// The lines of the rows, indented as they nest.
+pub fn row_lines(plant: &Plant, seconds: bool) -> Vec<String> {
+    let mut indent = 0;
+    let mut lines = Vec::new();
+    for row in &plant.rows {
+        let depth = before(&row.part, indent);
+        let line = row_line(plant, row, seconds);
+        lines.push(format!("{}{line}", "  ".repeat(depth)));
+        indent = behind(&row.part, depth);
+    }
+    lines
 }
 
 /// Where a row stands, if a run at its place stands at `indent`: a branch stands between its construct and its rows.
@@ -527,7 +542,7 @@ fn behind(part: &Part, depth: usize) -> usize {
     }
 }
 
-fn row_line(plant: &Plant, row: &Row, style: Style) -> String {
+fn row_line(plant: &Plant, row: &Row, seconds: bool) -> String {
     let mut line = row.part.keyword().to_string();
     if let Part::Repeat { count } = row.part {
         let _ = write!(line, " {count}");
@@ -536,7 +551,7 @@ fn row_line(plant: &Plant, row: &Row, style: Style) -> String {
         let _ = write!(line, " {name}");
     }
     if let Part::Function(function) = &row.part {
-        let time = |ticks| time_text(ticks, style.seconds);
+        let time = |ticks| time_text(ticks, seconds);
         let _ = write!(
             line,
             " {}..{}",

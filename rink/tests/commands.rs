@@ -198,15 +198,20 @@ fn full_disk() {
     }
 }
 
-/// Whoever reads the output may go: no message, and no panic.
+/// Whoever reads the output may go: no message, and no panic. The diagram comes after the reader has gone.
 #[test]
 fn output_unread() {
-    let mut child = program(&["annex", &example("ice-making.dia")])
+    let mut child = program(&["annex", "-"])
+        .stdin(Stdio::piped())
         .stdout(Stdio::piped())
         .stderr(Stdio::piped())
         .spawn()
         .expect("it runs");
     drop(child.stdout.take());
+    let diagram = fs::read(example("ice-making.dia")).expect("shipped");
+    let mut pipe = child.stdin.take().expect("a pipe");
+    pipe.write_all(&diagram).expect("it reads all");
+    drop(pipe);
     let answer = Answer::of(child.wait_with_output().expect("it ends"));
     assert_eq!((answer.status, answer.said.as_str()), (TROUBLE, ""));
 }
