@@ -35,6 +35,8 @@ const TRANSITION: u16 = 34;
 const TAKE: u16 = 35;
 const CLEAR: u16 = 36;
 const GIVE: u16 = 37;
+/// Where the head has the number of transitions.
+const TRANSITIONS_AT: usize = 6;
 
 /// The net file of a diagram file, as the proved translation writes it.
 pub fn translated(file: &[u8]) -> Result<Vec<u8>, Refusal> {
@@ -42,6 +44,20 @@ pub fn translated(file: &[u8]) -> Result<Vec<u8>, Refusal> {
     let length = effbd::translate(file, &mut area)?;
     area.truncate(length as usize);
     Ok(area)
+}
+
+/// The file of a net that has the places of this one and one of its transitions alone.
+pub fn alone(net: &[u8], transition: usize) -> Vec<u8> {
+    let starts: Vec<usize> = records(net)
+        .iter()
+        .filter(|record| record.kind == TRANSITION)
+        .map(|record| record.offset)
+        .collect();
+    let end = starts.get(transition + 1).copied().unwrap_or(net.len());
+    let mut alone = net[..starts[0]].to_vec();
+    alone[TRANSITIONS_AT..TRANSITIONS_AT + 2].copy_from_slice(&1u16.to_le_bytes());
+    alone.extend(&net[starts[transition]..end]);
+    alone
 }
 
 impl Net {
@@ -84,7 +100,7 @@ impl Net {
         found
     }
 
-    /// Whether an arc or a clear names the place, or it has a mark: others stay empty for ever.
+    /// Whether an arc names the place, or it has a mark: others stay empty for ever.
     pub fn used(&self, place: usize) -> bool {
         let named = |arcs: &[Arc]| arcs.iter().any(|arc| usize::from(arc.place) == place);
         self.marks[place] > 0

@@ -238,6 +238,16 @@ fn plays(game: &mut Game, line: &str) -> bool {
     true
 }
 
+/// That the transitions shown as enabled are those whose takes the marks cover.
+fn enabled_where_covered(game: &Game) {
+    for (number, transition) in game.net().transitions.iter().enumerate() {
+        let mut takes = transition.takes.iter();
+        let state = game.net_state();
+        let covered = takes.all(|arc| state.mark(usize::from(arc.place)) >= arc.weight);
+        assert_eq!(game.enabled(number), covered, "transition {number}");
+    }
+}
+
 #[test]
 fn random_games() {
     let mut moves = 0;
@@ -261,6 +271,7 @@ fn random_games() {
                 case.lines.pop();
             }
             agrees_as_the_model_says(&game, &file);
+            enabled_where_covered(&game);
         }
         lists_what_the_model_accepts(&game, &file);
         fits(&screen(&game, false).join("\n"));

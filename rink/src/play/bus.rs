@@ -62,9 +62,12 @@ impl Game {
 
     /// Hands a telegram to the controller.
     fn hand(&mut self, telegram: UnderWay) -> String {
-        let does = self.firing_words(telegram.made);
+        let before = self.controller.state.clone();
         match self.take(&telegram.bytes) {
-            Ok(count) => format!("the controller takes telegram {count}: {does}"),
+            Ok(count) => {
+                let did = self.taken_words(telegram.made, &before);
+                format!("the controller takes telegram {count}: {did}")
+            }
             Err(refused) => {
                 let UnderWay { number, again, .. } = telegram;
                 self.set_fate(number, Fate::Refused(refused.number));
@@ -93,11 +96,11 @@ impl Game {
         answer
     }
 
-    /// What a move does to the net.
-    fn firing_words(&self, made: Move) -> String {
+    /// What a move did to the net, which stood at `before`.
+    fn taken_words(&self, made: Move, before: &[u16]) -> String {
         let fired = match made {
             Move::Wait(ticks) => return format!("waits {}", ticks_words(u64::from(ticks))),
-            Move::Step(row) => self.net_state().fired(&self.net, row),
+            Move::Step(row) => self.fired(row, before),
         };
         match fired {
             None => move_words(&self.plant, made),

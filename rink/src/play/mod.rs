@@ -15,6 +15,7 @@ mod script;
 mod short;
 mod states;
 mod terminal;
+mod transitions;
 pub mod words;
 
 pub use act::{Report, Then};
@@ -26,7 +27,7 @@ pub use script::{scripted, ScriptFault};
 pub use states::{Activity, DiagramState, NetState};
 pub use terminal::terminal;
 
-use crate::net::{translated, Net};
+use crate::net::{alone, translated, Net};
 use crate::plant::Plant;
 use effbd::{Answer, Move, Refusal, TELEGRAM_LENGTH};
 
@@ -81,6 +82,8 @@ pub struct Game {
     file: Vec<u8>,
     net_file: Vec<u8>,
     net: Net,
+    /// Of each transition the net file that has it alone.
+    alone: Vec<Vec<u8>>,
     station: u16,
     panel: End,
     controller: End,
@@ -104,8 +107,11 @@ impl Game {
         };
         let net_file = translated(&file)?;
         let (panel, controller) = fresh(&file, &net_file)?;
+        let net = Net::taken_apart(&net_file);
+        let transitions = 0..net.transitions.len();
         Ok(Game {
-            net: Net::taken_apart(&net_file),
+            alone: transitions.map(|number| alone(&net_file, number)).collect(),
+            net,
             plant,
             file,
             net_file,

@@ -172,7 +172,7 @@ fn controller_lines(game: &Game, everything: bool) -> Vec<String> {
             mark => mark.to_string(),
         },
     });
-    let enabled = (0..net.transitions.len()).filter(|&number| state.enabled(net, number));
+    let enabled = (0..net.transitions.len()).filter(|&number| game.enabled(number));
     let transitions = enabled.map(|number| Entry {
         number: format!("t{number}"),
         name: transition_words(plant, net, number),

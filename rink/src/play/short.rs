@@ -75,7 +75,7 @@ fn short_line(game: &Game, busy: Vec<String>, counts: Vec<(usize, u16)>) -> Stri
 fn place_short(game: &Game, place: usize) -> String {
     let words = place_words(&game.plant, place);
     let state = game.net_state();
-    match (state.timed(&game.net, place), home(&game.plant, place)) {
+    match (game.timed(place), home(&game.plant, place)) {
         (Some(number), _) => format!("{words} {}", transition_clock(game, number)),
         (None, Home::Row { which: 0, .. }) => words,
         (None, _) => format!("{words} {}", state.mark(place)),

@@ -78,35 +78,12 @@ impl NetState<'_> {
         self.words[self.places + transition]
     }
 
-    /// Whether the marks cover a transition's takes. Only for show: whether it fires, the proved step says.
-    pub fn enabled(&self, net: &Net, transition: usize) -> bool {
-        let mut takes = net.transitions[transition].takes.iter();
-        takes.all(|arc| self.mark(usize::from(arc.place)) >= arc.weight)
-    }
-
-    /// The enabled transition that takes from a place and may be waited for.
-    pub fn timed(&self, net: &Net, place: usize) -> Option<usize> {
-        let mut numbers = 0..net.transitions.len();
-        numbers.find(|&number| {
-            let transition = &net.transitions[number];
-            let mut takes = transition.takes.iter();
-            let taken = takes.any(|arc| usize::from(arc.place) == place);
-            taken && transition.to > 0 && self.enabled(net, number)
-        })
-    }
-
     /// Whether a place has the turns left of an IT that is neither ready nor in a turn.
     pub fn at_rest(&self, plant: &Plant, place: usize) -> bool {
         match home(plant, place) {
             Home::Row { which: 2, .. } => self.mark(place - 2) == 0 && self.mark(place - 1) == 0,
             _ => false,
         }
-    }
-
-    /// The enabled transition that a step of this row fires.
-    pub fn fired(&self, net: &Net, row: u16) -> Option<usize> {
-        let mut numbers = 0..net.transitions.len();
-        numbers.find(|&number| net.transitions[number].label == row && self.enabled(net, number))
     }
 }
 
