@@ -174,13 +174,14 @@ static void put(uint8_t *bytes, size_t *end, uint16_t length, uint16_t kind, con
 
 static uint8_t large[10000];
 
-/* Into `large` a diagram of so many rows, FUNCTIONs that take and give of each item and END, and so many items; its length. */
-static size_t large_diagram(uint16_t rows, uint16_t items) {
+/* Into `large` a diagram of so many rows, FUNCTIONs that take and give of each item and END, and so many items of a kind, 2 plain or 3
+ * triggers; its length. */
+static size_t large_diagram(uint16_t rows, uint16_t items, uint16_t kind) {
     size_t end = 0;
     uint16_t head[3] = {1, rows, items}, count[1] = {1}, function[2 + 3 * (EFFBD_MOST_ITEMS + 1)] = {0, 0};
     put(large, &end, 10, 1, head);
     for (uint16_t item = 0; item < items; item++) {
-        put(large, &end, 6, 2, count);
+        put(large, &end, 6, kind, count);
         function[2 + 3 * item] = item;
         function[3 + 3 * item] = function[4 + 3 * item] = 1;
     }
@@ -206,13 +207,22 @@ static uint64_t large_net(uint16_t places, uint16_t transitions) {
 }
 
 static void largest(void) {
+    enum { PLAIN = 2, TRIGGER = 3, PLAIN_NET = 20660, LONGEST_NET = 526676 };
+    static const char refused[] = "refused 10 526676\n";
     static uint8_t area[EFFBD_NET_ROOM], text[EFFBD_ANNEX_ROOM];
-    IS(effbd_read(large, large_diagram(EFFBD_MOST_ROWS + 1, EFFBD_MOST_ITEMS)), EFFBD_HEAD_VALUE_OFF, 0);
-    IS(effbd_read(large, large_diagram(EFFBD_MOST_ROWS, EFFBD_MOST_ITEMS + 1)), EFFBD_HEAD_VALUE_OFF, 0);
-    size_t length = large_diagram(EFFBD_MOST_ROWS, EFFBD_MOST_ITEMS);
+    IS(effbd_read(large, large_diagram(EFFBD_MOST_ROWS + 1, EFFBD_MOST_ITEMS, TRIGGER)), EFFBD_HEAD_VALUE_OFF, 0);
+    IS(effbd_read(large, large_diagram(EFFBD_MOST_ROWS, EFFBD_MOST_ITEMS + 1, TRIGGER)), EFFBD_HEAD_VALUE_OFF, 0);
+    size_t length = large_diagram(EFFBD_MOST_ROWS, EFFBD_MOST_ITEMS, PLAIN);
+    IS(effbd_read(large, length), EFFBD_ACCEPTED, 3 * EFFBD_MOST_ROWS + EFFBD_MOST_ITEMS);
+    IS(effbd_translate(large, length, area, sizeof area), EFFBD_ACCEPTED, PLAIN_NET);
+    HOLDS(effbd_annex(large, length, area, EFFBD_ANNEX_NET_ROOM, text, sizeof text) == 28508);
+    length = large_diagram(EFFBD_MOST_ROWS, EFFBD_MOST_ITEMS, TRIGGER);
     IS(effbd_read(large, length), EFFBD_ACCEPTED, EFFBD_MOST_STATE_WORDS);
-    IS(effbd_translate(large, length, area, sizeof area), EFFBD_ACCEPTED, 20660);
-    HOLDS(effbd_annex(large, length, area, sizeof area, text, sizeof text) == 28508);
+    IS(effbd_translate(large, length, area, LONGEST_NET - 1), EFFBD_AREA_SHORT, LONGEST_NET);
+    IS(effbd_translate(large, length, area, sizeof area), EFFBD_ACCEPTED, LONGEST_NET);
+    IS(tpn_read(area, LONGEST_NET), EFFBD_ACCEPTED, EFFBD_MOST_PLACES + 2 * (EFFBD_MOST_ROWS - 1));
+    HOLDS(effbd_annex(large, length, area, EFFBD_ANNEX_NET_ROOM, text, sizeof text) == strlen(refused));
+    HOLDS(memcmp(text, refused, strlen(refused)) == 0);
     IS(large_net(EFFBD_MOST_PLACES, EFFBD_MOST_TRANSITIONS), EFFBD_ACCEPTED, EFFBD_MOST_NET_STATE_WORDS);
     IS(large_net(EFFBD_MOST_PLACES + 1, EFFBD_MOST_TRANSITIONS), EFFBD_HEAD_VALUE_OFF, 0);
     IS(large_net(EFFBD_MOST_PLACES, EFFBD_MOST_TRANSITIONS + 1), EFFBD_HEAD_VALUE_OFF, 0);

@@ -13,9 +13,9 @@
  *     uint64_t answer = effbd_step(file, file_count, state, state_count, EFFBD_WAIT, 20);
  *     if (effbd_number(answer) == EFFBD_WAIT_HELD) { .. a step is due before time may pass .. }
  *
- * Order of refusals. A file is looked at first (1 to 9), then the number of words of a state (20), its words (20), the move (21 to 26), the
- * leader's count (27), the area (10). The follower looks at the telegram (30 to 33) before all of these. Of a log, after the file: its
- * length (40), the row (41), its moves (42).
+ * Order of refusals. A file is looked at first (1 to 9 and, right after 5 at the same record, 43), then the number of words of a state
+ * (20), its words (20), the move (21 to 26), the leader's count (27), the area (10). The follower looks at the telegram (30 to 33) before
+ * all of these. Of a log, after the file: its length (40), the row (41), its moves (42).
  */
 #ifndef EFFBD_H
 #define EFFBD_H
@@ -34,12 +34,13 @@ extern "C" {
 /* What to lend where nothing was read yet. */
 #define EFFBD_MOST_ROWS 64              /* of a diagram */
 #define EFFBD_MOST_ITEMS 16             /* of a diagram */
-#define EFFBD_MOST_PLACES 208           /* of a net */
+#define EFFBD_MOST_PLACES 1216          /* of a net */
 #define EFFBD_MOST_TRANSITIONS 128      /* of a net */
-#define EFFBD_MOST_STATE_WORDS 208      /* of a diagram: 3 for each row, 1 for each item */
-#define EFFBD_MOST_NET_STATE_WORDS 336  /* of a net: 1 for each place, 1 for each transition */
-#define EFFBD_NET_ROOM 65536            /* bytes that have room for the net of any diagram */
-#define EFFBD_ANNEX_ROOM 393216         /* bytes that have room for the annex text of any file */
+#define EFFBD_MOST_STATE_WORDS 1216     /* of a diagram: 3 for each row, 1 for each item, 1 for each copy of a trigger */
+#define EFFBD_MOST_NET_STATE_WORDS 1344 /* of a net: 1 for each place, 1 for each transition */
+#define EFFBD_NET_ROOM 551304           /* bytes that have room for the net of any diagram, by proof */
+#define EFFBD_ANNEX_NET_ROOM 65536      /* bytes that the annex program lends for the net */
+#define EFFBD_ANNEX_ROOM 393216         /* bytes that have room for the annex text of any file, the net lent EFFBD_ANNEX_NET_ROOM */
 #define EFFBD_TELEGRAM_LENGTH 14        /* bytes */
 #define EFFBD_SETPOINT_LENGTH 4         /* bytes of one move of a log: code, then row or ticks, 16 bits each, low byte first */
 #define EFFBD_MOST_LOG_MOVES 65535      /* of a log */
@@ -72,13 +73,15 @@ enum effbd_refusal {
     EFFBD_LOG_OFF = 40,
     EFFBD_NOT_FUNCTION = 41,
     EFFBD_MOVE_REFUSED = 42,
+    EFFBD_TRIGGER_OFF = 43,
 };
 
 /* Number (EFFBD_ACCEPTED or a refusal) and value of an answer. */
 static inline uint32_t effbd_number(uint64_t answer) { return (uint32_t)(answer >> 32); }
 static inline uint32_t effbd_value(uint64_t answer) { return (uint32_t)answer; }
 
-/* A diagram file. Accepted: the number of words of its state, 3N + M. */
+/* A diagram file. Accepted: the number of words of its state, 3 for each row, 1 for each item, 1 for each copy of a trigger: there is one
+ * for each FUNCTION row that takes it. */
 uint64_t effbd_read(const uint8_t *file, size_t file_count);
 
 /* The part of a diagram file that has the uses of FUNCTION row `row`, 6 bytes a use (item, take, give). Never refuses: answers
@@ -97,7 +100,8 @@ uint64_t effbd_fresh(const uint8_t *file, size_t file_count, uint16_t *state, si
  * EFFBD_STATE_OFF where state_count is not the number of words that effbd_read answers, or where the words are no state of this diagram. */
 uint64_t effbd_step(const uint8_t *file, size_t file_count, uint16_t *state, size_t state_count, uint16_t code, uint16_t argument);
 
-/* The net of a diagram, into the first bytes of an area; those beyond the net keep their values. Accepted: the net's length.
+/* The net of a diagram, into the first bytes of an area; those beyond the net keep their values. Accepted: the net's length, at most
+ * EFFBD_NET_ROOM.
  * EFFBD_AREA_SHORT returns the bytes needed, so that an area (NULL, 0) asks for them. */
 uint64_t effbd_translate(const uint8_t *file, size_t file_count, uint8_t *area, size_t area_count);
 
@@ -105,7 +109,7 @@ uint64_t effbd_translate(const uint8_t *file, size_t file_count, uint8_t *area, 
  * their values. Never refuses: answers the length of the text, which no zero byte ends. Where that is above text_count, the first
  * text_count bytes of the text are written, so that a text (NULL, 0) asks for the length. Where effbd_translate would refuse the file, or
  * the net's area with EFFBD_AREA_SHORT, the text is the one line `refused NUMBER VALUE` and `net` keeps its bytes. The annex program lends
- * EFFBD_NET_ROOM bytes for the net; EFFBD_ANNEX_ROOM bytes hold every text. */
+ * EFFBD_ANNEX_NET_ROOM bytes for the net; EFFBD_ANNEX_ROOM bytes then hold every text. */
 uint64_t effbd_annex(const uint8_t *file, size_t file_count, uint8_t *net, size_t net_count, uint8_t *text, size_t text_count);
 
 /* A net file: just the net's bytes, without the rest of the area. Accepted: the number of words of its state, places and transitions. */
@@ -167,6 +171,7 @@ static inline const char *effbd_words(uint32_t number) {
     case EFFBD_LOG_OFF: return "log too long or not whole";
     case EFFBD_NOT_FUNCTION: return "row is no FUNCTION";
     case EFFBD_MOVE_REFUSED: return "a move of the log refused";
+    case EFFBD_TRIGGER_OFF: return "trigger's take or give above 1";
     default: return "no number of the table";
     }
 }

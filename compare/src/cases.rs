@@ -6,11 +6,13 @@ use crate::Verdict;
 use model::bus::Telegram;
 use model::diagram::Row;
 use model::generate::{
-    accepted_log, bus_list, damaged_diagram, damaged_log, damaged_net, diagram, foreign_net,
-    lasting_diagram, net_state, odd_state, passing_state, round_log, walk, Random,
+    accepted_log, bus_list, crowded_diagram, damaged_diagram, damaged_log, damaged_net, diagram,
+    foreign_net, lasting_diagram, lasting_trigger_diagram, net_state, odd_state, passing_state,
+    round_log, walk, Random,
 };
-use model::history::{moves_to_try, net_of, Call, History};
+use model::history::{moves_to_try, Call, History};
 use model::logs::MOST_MOVES;
+use model::translate::net_of;
 
 /// A kind of case.
 pub struct Kind {
@@ -34,10 +36,18 @@ pub const KINDS: [Kind; 9] = [
     kind("starts in logs", starts_in_logs),
 ];
 
+/// An accepted file. One with a long net costs as much as a hundred others.
+fn plant(random: &mut Random) -> Vec<u8> {
+    match random.below(100) {
+        0 => crowded_diagram(random),
+        _ => diagram(random),
+    }
+}
+
 /// A file: accepted, damaged, or any bytes.
 fn any_diagram(random: &mut Random) -> Vec<u8> {
     match random.below(8) {
-        0..=3 => diagram(random),
+        0..=3 => plant(random),
         4..=6 => damaged_diagram(random),
         _ => {
             let length = random.below(200);
@@ -49,7 +59,7 @@ fn any_diagram(random: &mut Random) -> Vec<u8> {
 /// A file that is mostly accepted.
 fn likely_diagram(random: &mut Random) -> Vec<u8> {
     if random.chance(90) {
-        diagram(random)
+        plant(random)
     } else {
         any_diagram(random)
     }
@@ -57,7 +67,7 @@ fn likely_diagram(random: &mut Random) -> Vec<u8> {
 
 fn any_net(random: &mut Random) -> Vec<u8> {
     match random.below(8) {
-        0..=1 => net_of(&diagram(random)).unwrap_or_default(),
+        0..=1 => net_of(&plant(random)).unwrap_or_default(),
         2..=4 => foreign_net(random),
         5..=6 => damaged_net(random),
         _ => {
@@ -84,7 +94,7 @@ fn any_net_area_length(random: &mut Random, needed: usize) -> usize {
         0 => 65_534,
         1 => 65_535,
         2 => 65_536,
-        3 => 65_536 + random.below(400_000),
+        3 => 65_536 + random.below(600_000),
         _ => any_area_length(random, needed),
     }
 }
@@ -102,7 +112,7 @@ fn any_length(random: &mut Random, right: usize) -> usize {
     match random.below(8) {
         0 => right + 1,
         1 => right.saturating_sub(1),
-        2 => random.below(300),
+        2 => random.below(1_400),
         _ => right,
     }
 }
@@ -132,7 +142,7 @@ fn annex_text(random: &mut Random, _: &mut Met) -> Verdict {
 /// Every row, some that the file does not have, and any.
 fn uses_of_rows(random: &mut Random, _: &mut Met) -> Verdict {
     let file = if random.chance(70) {
-        diagram(random)
+        plant(random)
     } else {
         any_diagram(random)
     };
@@ -287,7 +297,7 @@ fn areas_due(calls: &[Call], history: &History) -> Vec<Vec<u8>> {
 
 /// A list of calls on both ends, held against the model's history: demand 3 of the proved functions.
 fn call_list(random: &mut Random, met: &mut Met) -> Verdict {
-    let file = diagram(random);
+    let file = plant(random);
     let station = random.word();
     let list = bus_list(random, &file, station, 40);
     play(met, &file, station, &list).map_err(|why| {
@@ -362,10 +372,14 @@ fn logging_diagram(random: &mut Random) -> Vec<u8> {
     let row_count = match random.below(10) {
         0..=5 => 4 + random.below(12),
         6 => 4 + random.below(61),
-        7..=8 => return diagram(random),
+        7..=8 => return plant(random),
         _ => return any_diagram(random),
     };
-    lasting_diagram(random, row_count)
+    if random.chance(25) {
+        lasting_trigger_diagram(random, row_count)
+    } else {
+        lasting_diagram(random, row_count)
+    }
 }
 
 /// A log of a diagram: none, accepted moves, or rounds of them; some with something done to it.

@@ -5,8 +5,8 @@ use compare::calls::{annex, translate};
 use compare::met::Met;
 use model::annex::annex_in;
 use model::examples;
-use model::generate::{diagram, Random};
-use model::history::net_of;
+use model::generate::{crowded_diagram, diagram, Random};
+use model::translate::net_of;
 
 fn compare_areas(file: &[u8]) {
     let needed = net_of(file).expect("an accepted diagram").len();
@@ -19,6 +19,7 @@ fn compare_areas(file: &[u8]) {
         65_535,
         65_536,
         65_537,
+        effbd::NET_ROOM,
         1_000_000,
     ];
     for length in lengths {
@@ -35,7 +36,7 @@ fn area_of(length: usize) -> Vec<u8> {
 /// The text of each area for the net, a refusal's where the net does not fit.
 fn compare_texts(file: &[u8]) {
     let needed = net_of(file).expect("an accepted diagram").len();
-    for net_length in [0, needed - 1, needed, effbd::NET_ROOM] {
+    for net_length in [0, needed - 1, needed, effbd::ANNEX_NET_ROOM] {
         let net = area_of(net_length);
         let whole = annex_in(file, &mut net.clone()).len();
         for length in [0, 1, whole - 1, whole, whole + 1, effbd::ANNEX_ROOM] {
@@ -55,10 +56,16 @@ fn plants() -> Vec<Vec<u8>> {
         examples::h(),
         examples::many_open(12),
         examples::many_rows(64),
+        examples::longest_plain_net(),
+        examples::door_open(),
+        examples::unheard_trigger(1),
         examples::longest_net(),
     ];
     let mut random = Random::new(65_535);
-    let random_plants = (0..40).map(|_| diagram(&mut random));
+    let random_plants = (0..44).map(|number| match number {
+        0..40 => diagram(&mut random),
+        _ => crowded_diagram(&mut random),
+    });
     examples.into_iter().chain(random_plants).collect()
 }
 

@@ -14,7 +14,7 @@ fn constants_are_those_of_the_model() {
     assert_eq!(effbd::MOST_ITEMS, diagram::MOST_ITEMS);
     assert_eq!(effbd::MOST_PLACES, net::MOST_PLACES);
     assert_eq!(effbd::MOST_TRANSITIONS, net::MOST_TRANSITIONS);
-    assert_eq!(effbd::NET_ROOM, annex::AREA_LENGTH);
+    assert_eq!(effbd::ANNEX_NET_ROOM, annex::AREA_LENGTH);
     assert_eq!(effbd::TELEGRAM_LENGTH, bus::TELEGRAM_LENGTH);
     assert_eq!(effbd::SETPOINT_LENGTH, logs::SETPOINT_LENGTH);
     assert_eq!(effbd::MOST_LOG_MOVES, logs::MOST_MOVES);
@@ -29,7 +29,7 @@ fn the_largest_states_have_the_words_said() {
     let file = examples::longest_net();
     let mut area = vec![0; effbd::NET_ROOM];
     assert_eq!(read_diagram(&file), Ok(effbd::MOST_STATE_WORDS as u32));
-    assert_eq!(translate(&file, &mut area), Ok(20_660));
+    assert_eq!(translate(&file, &mut area), Ok(526_676));
     let (places, transitions) = (effbd::MOST_PLACES, effbd::MOST_TRANSITIONS);
     let mut net = record(NET_HEAD, &[places as u16, transitions as u16]);
     for _ in 0..places {
@@ -115,6 +115,8 @@ fn annex_texts_are_whole() {
     let files = [
         examples::a(),
         examples::h(),
+        examples::door_open(),
+        examples::longest_plain_net(),
         examples::longest_net(),
         examples::many_rows(65),
         Vec::new(),

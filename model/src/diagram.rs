@@ -1,13 +1,15 @@
-//! Diagram files: "Diagram records" (refusals 1 to 6) and "Nesting" (7 to 9).
+//! Diagram files: "Diagram records" (refusals 1 to 6) and "Nesting" (7 to 9);
+//! document 02's request 2, "Triggers reach everyone" (43).
 
 use crate::records::{
-    push_record, record, word, Reader, Record, AND_CLOSE, AND_OPEN, BRANCH, END, FUNCTION, HEAD,
-    ITEM, IT_CLOSE, IT_OPEN, LOOP_EXIT, LP_CLOSE, LP_OPEN, OR_CLOSE, OR_OPEN, USE_LENGTH,
+    record, word, Reader, Record, AND_CLOSE, AND_OPEN, BRANCH, END, FUNCTION, HEAD, ITEM, IT_CLOSE,
+    IT_OPEN, LOOP_EXIT, LP_CLOSE, LP_OPEN, OR_CLOSE, OR_OPEN, TRIGGER, USE_LENGTH,
 };
 use crate::refusal::{
     refusal, Answer, Refusal, FIELD_OFF, HEAD_VALUE_OFF, LOOP_EXIT_MISPLACED, NESTING_BROKEN,
-    TOO_MANY_OPEN,
+    TOO_MANY_OPEN, TRIGGER_OFF,
 };
+use std::ops::Range;
 
 pub const EDITION: u16 = 1;
 pub const MOST_ROWS: usize = 64;
@@ -17,11 +19,28 @@ pub const MOST_OPEN: usize = 12;
 
 /// An accepted diagram.
 pub struct Diagram<'a> {
-    /// Initial count of each item.
-    pub items: Vec<u16>,
+    pub items: Vec<Item>,
     pub rows: Vec<Row<'a>>,
     /// Every AND, OR, IT and LP, in the order of their opens.
     pub constructs: Vec<Construct>,
+}
+
+/// An item, with its initial count.
+#[derive(Clone, PartialEq, Eq, Debug)]
+pub enum Item {
+    /// "One count, whoever takes from it."
+    Plain(u16),
+    /// "A count for each FUNCTION row taking it, each starting at the initial
+    /// count."
+    Trigger { count: u16, receivers: Receivers },
+}
+
+/// The rows that take a trigger, rising, and the word of the first one's copy
+/// in the state; the others' follow.
+#[derive(Clone, Default, PartialEq, Eq, Debug)]
+pub struct Receivers {
+    pub rows: Vec<usize>,
+    first_word: usize,
 }
 
 /// A row, with the index of the construct that it opens, parts or closes.
@@ -101,14 +120,85 @@ impl Construct {
 }
 
 impl Diagram<'_> {
-    /// Words of its state: activity, turns and clock per row, then the counts.
+    /// Words of its state: activity, turns and clock per row, the items' counts,
+    /// then "the copies follow the items, by item and then row".
     pub fn state_length(&self) -> usize {
-        3 * self.rows.len() + self.items.len()
+        let copies: usize = self.receivers().map(|receivers| receivers.rows.len()).sum();
+        self.item_word(self.items.len()) + copies
     }
 
-    /// Word of an item's count in the state; also its place in the net.
+    /// Word of an item's count in the state, of a trigger the shared one that
+    /// remains 0; also its place in the net.
     pub fn item_word(&self, item: usize) -> usize {
         3 * self.rows.len() + item
+    }
+
+    /// Word of the count that a row's take of an item is from, a receiver's own
+    /// copy of a trigger; also its place in the net.
+    pub fn taken_word(&self, item: usize, row: usize) -> usize {
+        match &self.items[item] {
+            Item::Plain(_) => self.item_word(item),
+            Item::Trigger { receivers, .. } => {
+                let before = receivers.rows.partition_point(|receiver| *receiver < row);
+                receivers.first_word + before
+            }
+        }
+    }
+
+    /// Words of the counts that a give of an item adds to, of a trigger all the
+    /// copies; also their places in the net.
+    pub fn given_words(&self, item: usize) -> Range<usize> {
+        match &self.items[item] {
+            Item::Plain(_) => self.item_word(item)..self.item_word(item) + 1,
+            Item::Trigger { receivers, .. } => {
+                receivers.first_word..receivers.first_word + receivers.rows.len()
+            }
+        }
+    }
+
+    /// Initial counts of the items and copies, as they stand in the state.
+    pub fn initial_counts(&self) -> Vec<u16> {
+        let mut counts = Vec::with_capacity(self.state_length() - 3 * self.rows.len());
+        for item in &self.items {
+            counts.push(match item {
+                Item::Plain(count) => *count,
+                Item::Trigger { .. } => 0,
+            });
+        }
+        for item in &self.items {
+            if let Item::Trigger { count, receivers } = item {
+                counts.resize(counts.len() + receivers.rows.len(), *count);
+            }
+        }
+        counts
+    }
+
+    fn receivers(&self) -> impl Iterator<Item = &Receivers> {
+        self.items.iter().filter_map(|item| match item {
+            Item::Plain(_) => None,
+            Item::Trigger { receivers, .. } => Some(receivers),
+        })
+    }
+
+    /// Finds the rows that take each trigger and the words of their copies.
+    fn add_receivers(&mut self) {
+        for (number, row) in self.rows.iter().enumerate() {
+            let Row::Function(function) = row else {
+                continue;
+            };
+            for used in function.each_use().filter(|used| used.take > 0) {
+                if let Item::Trigger { receivers, .. } = &mut self.items[used.item] {
+                    receivers.rows.push(number);
+                }
+            }
+        }
+        let mut next_word = self.item_word(self.items.len());
+        for item in &mut self.items {
+            if let Item::Trigger { receivers, .. } = item {
+                receivers.first_word = next_word;
+                next_word += receivers.rows.len();
+            }
+        }
     }
 
     /// "The row that entering s changes": the BRANCH row of the branch just
@@ -167,32 +257,50 @@ pub fn parse(file: &[u8]) -> Result<Diagram<'_>, Refusal> {
     )?;
     let mut items = Vec::with_capacity(item_count);
     for _ in 0..item_count {
-        items.push(reader.due(|kind| kind == ITEM, 0)?.field(0));
+        items.push(item(&mut reader)?);
     }
     let mut records = Vec::with_capacity(row_count);
     for _ in 0..row_count {
-        records.push(row_record(&mut reader, item_count)?);
+        records.push(row_record(&mut reader, &items)?);
     }
     if !reader.at_end() {
         return Err(reader.refuse_more());
     }
     let (rows, constructs) = nest(&records)?;
-    Ok(Diagram {
+    let mut diagram = Diagram {
         items,
         rows,
         constructs,
+    };
+    diagram.add_receivers();
+    Ok(diagram)
+}
+
+/// An item; who takes a trigger only the rows tell.
+fn item(reader: &mut Reader) -> Result<Item, Refusal> {
+    let record = reader.due(|kind| kind == ITEM || kind == TRIGGER, 0)?;
+    let count = record.field(0);
+    Ok(match record.kind {
+        TRIGGER => Item::Trigger {
+            count,
+            receivers: Receivers::default(),
+        },
+        _ => Item::Plain(count),
     })
 }
 
-/// A row's record with its fields checked.
-fn row_record<'a>(reader: &mut Reader<'a>, item_count: usize) -> Result<Record<'a>, Refusal> {
-    let record = reader.due(|kind| (FUNCTION..=END).contains(&kind), item_count)?;
-    let holds = match record.kind {
-        FUNCTION => function_holds(&function_fields(&record), item_count),
-        IT_OPEN => (2..=255).contains(&record.field(0)),
-        _ => true,
-    };
-    record.require(holds, FIELD_OFF)?;
+/// A row's record with its fields checked: 5, then 43.
+fn row_record<'a>(reader: &mut Reader<'a>, items: &[Item]) -> Result<Record<'a>, Refusal> {
+    let record = reader.due(|kind| (FUNCTION..=END).contains(&kind), items.len())?;
+    match record.kind {
+        FUNCTION => {
+            let function = function_fields(&record);
+            record.require(function_holds(&function, items.len()), FIELD_OFF)?;
+            record.require(triggers_hold(&function, items), TRIGGER_OFF)?;
+        }
+        IT_OPEN => record.require((2..=255).contains(&record.field(0)), FIELD_OFF)?,
+        _ => {}
+    }
     Ok(record)
 }
 
@@ -214,6 +322,14 @@ fn function_holds(function: &Function, item_count: usize) -> bool {
         lowest_item = used.item + 1;
     }
     function.alpha <= function.beta
+}
+
+/// No "trigger's take or give above 1", in uses whose items there are.
+fn triggers_hold(function: &Function, items: &[Item]) -> bool {
+    function.each_use().all(|used| match items[used.item] {
+        Item::Plain(_) => true,
+        Item::Trigger { .. } => used.take <= 1 && used.give <= 1,
+    })
 }
 
 /// Rows and constructs; "rows upward, at a row 7, 8, 9".
@@ -354,13 +470,17 @@ impl Nesting {
     }
 }
 
-/// A diagram file of these initial counts and row records.
-pub fn file(items: &[u16], rows: &[Vec<u8>]) -> Vec<u8> {
+/// A diagram file of plain items with these initial counts, and row records.
+pub fn file(counts: &[u16], rows: &[Vec<u8>]) -> Vec<u8> {
+    let items: Vec<Vec<u8>> = counts.iter().map(|count| record(ITEM, &[*count])).collect();
+    file_of(&items, rows)
+}
+
+/// A diagram file of these item and row records.
+pub fn file_of(items: &[Vec<u8>], rows: &[Vec<u8>]) -> Vec<u8> {
     let head_fields = [EDITION, rows.len() as u16, items.len() as u16];
     let mut bytes = record(HEAD, &head_fields);
-    for count in items {
-        push_record(&mut bytes, ITEM, &[*count]);
-    }
+    bytes.extend(items.iter().flatten());
     bytes.extend(rows.iter().flatten());
     bytes
 }

@@ -1,7 +1,7 @@
 //! "Diagram state and moves": fresh states, the state check 20, steps and
 //! waits with refusals 21 to 26.
 
-use crate::diagram::{parse, Diagram, Function, Row};
+use crate::diagram::{parse, Diagram, Function, Item, Row};
 use crate::refusal::{
     refusal, Answer, Refusal, CODE_OFF, ITEM_SHORT, NOT_STANDING, STATE_OFF, SUM_TOO_LARGE,
     TICKS_LACKING, WAIT_HELD,
@@ -48,7 +48,7 @@ pub fn step(file: &[u8], state: &mut [u16], code: u16, argument: u16) -> Answer 
 /// "Fresh: all 0, initial counts, row 0 entered."
 pub fn fresh_state(diagram: &Diagram) -> Vec<u16> {
     let mut state = vec![0; 3 * diagram.rows.len()];
-    state.extend(&diagram.items);
+    state.extend(diagram.initial_counts());
     enter(diagram, &mut state, 0);
     state
 }
@@ -79,7 +79,8 @@ pub fn moved(
 }
 
 /// Refusal 20: "state length wrong; activity that this kind never has, turns
-/// above count or off an IT open, clock above β or off a running row".
+/// above count or off an IT open, clock above β or off a running row"; a
+/// trigger's "shared count and place remain 0 (else 20 in a diagram state)".
 pub fn check(diagram: &Diagram, state: &[u16]) -> Result<(), Refusal> {
     let fits = state.len() == diagram.state_length()
         && diagram.rows.iter().enumerate().all(|(number, row)| {
@@ -87,6 +88,10 @@ pub fn check(diagram: &Diagram, state: &[u16]) -> Result<(), Refusal> {
             has_activity(row, state[activity(number)])
                 && state[turns(number)] <= most_turns(row)
                 && state[clock(number)] <= most_clock(row, running)
+        })
+        && diagram.items.iter().enumerate().all(|(number, item)| {
+            let count = state[diagram.item_word(number)];
+            matches!(item, Item::Plain(_)) || count == 0
         });
     if fits {
         Ok(())
@@ -190,15 +195,16 @@ fn stepped(diagram: &Diagram, state: &[u16], argument: u16) -> Result<Vec<u16>, 
 }
 
 /// "FUNCTION ready, every count at least its take: takes are subtracted, it
-/// runs, clock 0"; otherwise 23 with the lowest item short.
+/// runs, clock 0"; otherwise 23 with the lowest item short. A trigger is taken
+/// from the row's own copy; a use that takes nothing has none.
 fn start_function(
     diagram: &Diagram,
     next: &mut [u16],
     row: usize,
     function: &Function,
 ) -> Result<(), Refusal> {
-    for used in function.each_use() {
-        let count = &mut next[diagram.item_word(used.item)];
+    for used in function.each_use().filter(|used| used.take > 0) {
+        let count = &mut next[diagram.taken_word(used.item, row)];
         *count = count
             .checked_sub(used.take)
             .ok_or(refusal(ITEM_SHORT, used.item))?;
@@ -209,7 +215,8 @@ fn start_function(
 }
 
 /// "Running, clock ≥ α: gives are added, clock 0, r + 1 is entered"; otherwise
-/// 24 with the ticks lacking, or 25 with the lowest item whose sum is too large.
+/// 24 with the ticks lacking, or 25 with the lowest item that has a sum too
+/// large, be it a copy's.
 fn finish_function(
     diagram: &Diagram,
     next: &mut [u16],
@@ -220,11 +227,12 @@ fn finish_function(
         let lacking = function.alpha - next[clock(row)];
         return Err(refusal(TICKS_LACKING, usize::from(lacking)));
     }
-    for used in function.each_use() {
-        let count = &mut next[diagram.item_word(used.item)];
-        *count = count
-            .checked_add(used.give)
-            .ok_or(refusal(SUM_TOO_LARGE, used.item))?;
+    for used in function.each_use().filter(|used| used.give > 0) {
+        for count in &mut next[diagram.given_words(used.item)] {
+            *count = count
+                .checked_add(used.give)
+                .ok_or(refusal(SUM_TOO_LARGE, used.item))?;
+        }
     }
     next[activity(row)] = IDLE;
     next[clock(row)] = 0;
@@ -261,7 +269,7 @@ fn waited(diagram: &Diagram, state: &[u16], ticks: u16) -> Result<Vec<u16>, Refu
 /// all its takes, an AND close could step, or some running clock + d > β."
 fn holds_wait(diagram: &Diagram, state: &[u16], number: usize, row: &Row, ticks: u16) -> bool {
     match (row, state[activity(number)]) {
-        (Row::Function(function), READY) => has_takes(diagram, state, function),
+        (Row::Function(function), READY) => has_takes(diagram, state, number, function),
         (Row::Function(function), RUNNING) => {
             u32::from(state[clock(number)]) + u32::from(ticks) > u32::from(function.beta)
         }
@@ -271,8 +279,9 @@ fn holds_wait(diagram: &Diagram, state: &[u16], number: usize, row: &Row, ticks:
     }
 }
 
-fn has_takes(diagram: &Diagram, state: &[u16], function: &Function) -> bool {
+fn has_takes(diagram: &Diagram, state: &[u16], row: usize, function: &Function) -> bool {
     function
         .each_use()
-        .all(|used| state[diagram.item_word(used.item)] >= used.take)
+        .filter(|used| used.take > 0)
+        .all(|used| state[diagram.taken_word(used.item, row)] >= used.take)
 }

@@ -1,11 +1,12 @@
-//! The diagrams of "Plant-room examples". C and D run A; I runs B's net. Then a
-//! plant with logs for the requests of document 02.
+//! The diagrams of "Plant-room examples". C and D run A; I runs B's net. Then
+//! plants for the requests of document 02, with logs.
 
-use crate::diagram::{file, function_record};
+use crate::diagram::{file, file_of, function_record, MOST_ITEMS, MOST_ROWS};
 use crate::diagram_step::{STEP, WAIT};
 use crate::logs::log;
 use crate::records::{
-    record, AND_CLOSE, AND_OPEN, BRANCH, END, IT_CLOSE, IT_OPEN, LOOP_EXIT, LP_CLOSE, LP_OPEN,
+    record, AND_CLOSE, AND_OPEN, BRANCH, END, ITEM, IT_CLOSE, IT_OPEN, LOOP_EXIT, LP_CLOSE,
+    LP_OPEN, TRIGGER,
 };
 
 /// Row records of length 4.
@@ -74,12 +75,83 @@ pub fn item_given_one(count: u16) -> Vec<u8> {
     file(&[count], &[function, record(END, &[])])
 }
 
-/// The longest net has 63 FUNCTIONs that take and give all 16 items.
-pub fn longest_net() -> Vec<u8> {
-    let uses: Vec<[u16; 3]> = (0..16).map(|item| [item, 1, 1]).collect();
-    let mut rows = vec![function_record(0, 0, &uses); 63];
+/// The longest net without triggers has 63 FUNCTIONs that take and give all 16
+/// items.
+pub fn longest_plain_net() -> Vec<u8> {
+    let function = function_record(0, 0, &uses_of_all(MOST_ITEMS));
+    let mut rows = vec![function; MOST_ROWS - 1];
     rows.push(record(END, &[]));
-    file(&[1; 16], &rows)
+    file(&[1; MOST_ITEMS], &rows)
+}
+
+/// Takes and gives 1 of each item.
+fn uses_of_all(items: usize) -> Vec<[u16; 3]> {
+    (0..items as u16).map(|item| [item, 1, 1]).collect()
+}
+
+/// "A 'door open' order goes to fan and pump": a door row gives the trigger, and
+/// beside it fan and pump take it, each from its own copy.
+pub fn door_open() -> Vec<u8> {
+    let door = function_record(0, 9, &[[0, 0, 1]]);
+    let taking = function_record(1, 9, &[[0, 1, 0]]);
+    let mut door_open = rows(&[AND_OPEN, BRANCH]);
+    door_open.push(door);
+    door_open.extend(rows(&[BRANCH]));
+    door_open.push(taking.clone());
+    door_open.extend(rows(&[BRANCH]));
+    door_open.push(taking);
+    door_open.extend(rows(&[AND_CLOSE, END]));
+    file_of(&[record(TRIGGER, &[0])], &door_open)
+}
+
+/// The rows of `door_open` that are FUNCTIONs.
+pub const DOOR: u16 = 2;
+pub const FAN: u16 = 4;
+pub const PUMP: u16 = 6;
+
+/// Item 0 a trigger, item 1 plain, with these initial counts: row 0 gives both,
+/// row 1 takes the trigger.
+pub fn trigger_before_plain(trigger: u16, plain: u16) -> Vec<u8> {
+    let rows = [
+        function_record(0, 0, &[[0, 0, 1], [1, 0, 1]]),
+        function_record(0, 0, &[[0, 1, 0]]),
+        record(END, &[]),
+    ];
+    let items = [record(TRIGGER, &[trigger]), record(ITEM, &[plain])];
+    file_of(&items, &rows)
+}
+
+/// A FUNCTION gives a trigger of this initial count that nobody takes.
+pub fn unheard_trigger(count: u16) -> Vec<u8> {
+    let function = function_record(0, 0, &[[0, 0, 1]]);
+    file_of(&[record(TRIGGER, &[count])], &[function, record(END, &[])])
+}
+
+/// So many FUNCTIONs, each of which takes and gives all of so many triggers, and
+/// END: every trigger has all of them as receivers. Each FUNCTION runs for 1 to
+/// 9 ticks.
+pub fn triggers(triggers: usize, receivers: usize) -> Vec<u8> {
+    let mut rows = receiver_rows(triggers, receivers);
+    rows.push(record(END, &[]));
+    file_of(&vec![record(TRIGGER, &[1]); triggers], &rows)
+}
+
+/// The FUNCTIONs of such a plant.
+pub fn receiver_rows(triggers: usize, receivers: usize) -> Vec<Vec<u8>> {
+    vec![function_record(1, 9, &uses_of_all(triggers)); receivers]
+}
+
+/// The same in an LP, so that it goes on for ever.
+pub fn triggers_again(triggers: usize, receivers: usize) -> Vec<u8> {
+    let mut again = rows(&[LP_OPEN]);
+    again.extend(receiver_rows(triggers, receivers));
+    again.extend(rows(&[LP_CLOSE, END]));
+    file_of(&vec![record(TRIGGER, &[1]); triggers], &again)
+}
+
+/// The longest net of all has 63 FUNCTIONs that take and give all 16 triggers.
+pub fn longest_net() -> Vec<u8> {
+    triggers(MOST_ITEMS, MOST_ROWS - 1)
 }
 
 /// LP, FUNCTION of any number of ticks, LP close, END: it runs again and again.

@@ -8,7 +8,10 @@ mod logs;
 mod nets;
 mod states;
 
-pub use diagrams::{damaged_diagram, diagram, diagram_up_to, lasting_diagram};
+pub use diagrams::{
+    crowded_diagram, damaged_diagram, diagram, diagram_up_to, lasting_diagram,
+    lasting_trigger_diagram, plain_diagram_up_to,
+};
 pub use lists::bus_list;
 pub use logs::{accepted_log, damaged_log, round_log};
 pub use nets::{damaged_net, foreign_net};
@@ -60,7 +63,10 @@ impl Random {
         match self.below(4) {
             0 => self.between(0, 5),
             1 => self.pick(&[0, 1, 2, 15, 16, 17, 63, 64, 65, 255, 256], 0),
-            2 => self.pick(&[207, 208, 209, 128, 129, 65_534, 65_535], 0),
+            2 => self.pick(
+                &[128, 129, 207, 208, 209, 1_215, 1_216, 1_217, 65_534, 65_535],
+                0,
+            ),
             _ => self.draw() as u16,
         }
     }

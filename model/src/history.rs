@@ -8,7 +8,7 @@ use crate::image::image;
 use crate::net;
 use crate::net_step;
 use crate::refusal::{refusal, Answer, Refusal, ITEM_SHORT, NOT_STANDING, SUM_TOO_LARGE};
-use crate::translate::translate;
+use crate::translate::net_of;
 
 /// "The list mixes, in any order, moves offered to the leader (any code, row or
 /// ticks, and any area) and bytes handed to the follower."
@@ -207,14 +207,6 @@ fn fresh_ends(file: &[u8]) -> Result<(End, End, Vec<u8>), Refusal> {
     Ok((leader, follower, net))
 }
 
-/// The net file translated from a diagram file.
-pub fn net_of(file: &[u8]) -> Result<Vec<u8>, Refusal> {
-    let mut net = vec![0; crate::annex::AREA_LENGTH];
-    let length = translate(file, &mut net)?;
-    net.truncate(length as usize);
-    Ok(net)
-}
-
 /// "Each call gets the state and count that the last one at its end returned or
 /// left."
 fn leader_call(
@@ -263,12 +255,12 @@ pub fn agreement(
     code: u16,
     argument: u16,
 ) -> Result<(), String> {
-    let rows = diagram::parse(file).map_err(describe)?.rows.len();
+    let diagram = diagram::parse(file).map_err(describe)?;
     let mut diagram_state = state.to_vec();
     let mut net_state = image(file, state).ok_or("no image")?;
     let by_diagram = diagram_step::step(file, &mut diagram_state, code, argument);
     let by_net = net_step::step(net, &mut net_state, code, argument);
-    let expected = by_diagram.map_err(|refused| net_refusal(refused, rows, argument));
+    let expected = by_diagram.map_err(|refused| net_refusal(&diagram, state, argument, refused));
     ensure(by_net == expected, || {
         format!("move {code} {argument} at {state:?}: {by_diagram:?} but net {by_net:?}")
     })?;
@@ -280,14 +272,31 @@ pub fn agreement(
     })
 }
 
-/// The net's refusal for the diagram's: 23 "the net says 22"; 25 names place
-/// 3N + k for item k; all others are the same.
-fn net_refusal(refused: Refusal, rows: usize, row: u16) -> Refusal {
+/// The net's refusal for the diagram's at a state: 23 "the net says 22"; 25 names
+/// the lowest place, which need not be of the lowest item, since the copies of a
+/// trigger stand behind all items; all others are the same.
+fn net_refusal(diagram: &Diagram, state: &[u16], row: u16, refused: Refusal) -> Refusal {
     match refused.number {
         ITEM_SHORT => refusal(NOT_STANDING, usize::from(row)),
-        SUM_TOO_LARGE => refusal(SUM_TOO_LARGE, 3 * rows + refused.value as usize),
+        SUM_TOO_LARGE => match lowest_full_place(diagram, state, usize::from(row)) {
+            Some(place) => refusal(SUM_TOO_LARGE, place),
+            None => refused,
+        },
         _ => refused,
     }
+}
+
+/// The lowest place of an item or copy that a FUNCTION's gives would take above
+/// 65,535; counts have the same number in the state and in the net.
+fn lowest_full_place(diagram: &Diagram, state: &[u16], row: usize) -> Option<usize> {
+    let Some(Row::Function(function)) = diagram.rows.get(row) else {
+        return None;
+    };
+    let full = function.each_use().flat_map(|used| {
+        let places = diagram.given_words(used.item);
+        places.filter(move |place| state[*place].checked_add(used.give).is_none())
+    });
+    full.min()
 }
 
 /// Moves that stand for "whatever code, row or ticks" at a state: codes off,

@@ -19,7 +19,7 @@ pub fn image_of(diagram: &Diagram, state: &[u16]) -> Vec<u16> {
 }
 
 /// "P is 1 for ready or done; Q is 1 for running, or the turns at an IT open; R
-/// is count less turns at an IT open; item counts equal."
+/// is count less turns at an IT open; item counts equal"; copies too.
 fn image_marks(diagram: &Diagram, state: &[u16]) -> Vec<u16> {
     let (row_words, counts) = state.split_at(3 * diagram.rows.len());
     let mut marks = vec![0; row_words.len()];

@@ -11,6 +11,7 @@
 //! | `net`, `net_step`, `translate`, `image` | Net |
 //! | `bus`, `history` | Bus ends |
 //! | `logs` | 1, Starts in any hour |
+//! | `diagram`, `diagram_step`, `translate` | 2, Triggers reach everyone |
 //! | `examples`, `annex` | Plant-room examples |
 //! | `generate` | random diagrams, nets, states, lists and logs for comparisons |
 //!

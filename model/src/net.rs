@@ -5,7 +5,7 @@ use crate::records::{push_record, Reader, Record, CLEAR, GIVE, NET_HEAD, PLACE, 
 use crate::refusal::{Answer, Refusal, FIELD_OFF, HEAD_VALUE_OFF};
 use std::ops::Range;
 
-pub const MOST_PLACES: usize = 208;
+pub const MOST_PLACES: usize = 1_216;
 pub const MOST_TRANSITIONS: usize = 128;
 /// Bytes of each kind of record.
 const HEAD_LENGTH: usize = 8;

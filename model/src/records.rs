@@ -5,6 +5,7 @@ use crate::refusal::{refusal, Refusal, BYTES_AFTER_LAST, CUT_SHORT, KIND_NOT_DUE
 
 pub const HEAD: u16 = 1;
 pub const ITEM: u16 = 2;
+pub const TRIGGER: u16 = 3;
 pub const FUNCTION: u16 = 16;
 pub const AND_OPEN: u16 = 17;
 pub const BRANCH: u16 = 18;
@@ -37,7 +38,7 @@ pub const USE_LENGTH: usize = 6;
 pub fn shape(kind: u16) -> Option<(usize, usize)> {
     Some(match kind {
         HEAD => (10, 3),
-        ITEM => (6, 1),
+        ITEM | TRIGGER => (6, 1),
         FUNCTION => (8, 2),
         AND_OPEN | BRANCH | AND_CLOSE => (4, 0),
         OR_OPEN | OR_CLOSE => (4, 0),

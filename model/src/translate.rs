@@ -2,12 +2,17 @@
 
 use crate::diagram::{parse, Construct, Diagram, Function, Row};
 use crate::net::{Arc, Net};
-use crate::refusal::{refusal, Answer, AREA_SHORT};
+use crate::refusal::{refusal, Answer, Refusal, AREA_SHORT};
+
+/// The net file of a diagram file.
+pub fn net_of(file: &[u8]) -> Result<Vec<u8>, Refusal> {
+    Ok(table(&parse(file)?).encode())
+}
 
 /// Writes the net of a diagram file; accepted: the net's length. "Area bytes
 /// beyond it keep their values."
 pub fn translate(file: &[u8], area: &mut [u8]) -> Answer {
-    let net = table(&parse(file)?).encode();
+    let net = net_of(file)?;
     let written = area
         .get_mut(..net.len())
         .ok_or(refusal(AREA_SHORT, net.len()))?;
@@ -42,11 +47,11 @@ pub fn table(diagram: &Diagram) -> Net {
 }
 
 /// "Fresh marks: 1 at the place that entering row 0 marks, R = count at each IT
-/// open, initial counts, else 0."
+/// open, initial counts, else 0"; those of copies too.
 fn fresh_marks(diagram: &Diagram) -> Vec<u16> {
     let mut marks = Vec::with_capacity(diagram.state_length());
     marks.resize(3 * diagram.rows.len(), 0);
-    marks.extend(&diagram.items);
+    marks.extend(diagram.initial_counts());
     marks[entry(diagram, 0)] = 1;
     for (row, count) in it_opens(diagram, 0, diagram.rows.len()) {
         marks[place_r(row)] = count;
@@ -124,14 +129,20 @@ fn add_row(net: &mut Net, diagram: &Diagram, number: usize, row: &Row) {
 }
 
 /// "FUNCTION: first takes P and its takes, gives Q; second, [α, β], takes Q,
-/// gives entry of r + 1 and its gives."
+/// gives entry of r + 1 and its gives", "zero weights left out". Of a trigger it
+/// takes its own copy and gives all of them.
 fn add_function(net: &mut Net, diagram: &Diagram, number: usize, function: &Function) {
     let label = number as u16;
     let mut takes = vec![(place_p(number), 1)];
     let mut gives = vec![(entry(diagram, number + 1), 1)];
     for used in function.each_use() {
-        takes.push((diagram.item_word(used.item), used.take));
-        gives.push((diagram.item_word(used.item), used.give));
+        if used.take > 0 {
+            takes.push((diagram.taken_word(used.item, number), used.take));
+        }
+        if used.give > 0 {
+            let given = diagram.given_words(used.item);
+            gives.extend(given.map(|place| (place, used.give)));
+        }
     }
     let running = (place_q(number), 1);
     add_at_once(net, label, takes, vec![running]);
@@ -176,10 +187,9 @@ fn add_gives(net: &mut Net, gives: Vec<Weighted>) {
     }
 }
 
-/// "Places rising, zero weights left out."
+/// "Places rising."
 fn rising(mut arcs: Vec<Weighted>) -> impl Iterator<Item = (u16, u16)> {
     arcs.sort_unstable();
     arcs.into_iter()
-        .filter(|(_, weight)| *weight != 0)
         .map(|(place, weight)| (place as u16, weight))
 }

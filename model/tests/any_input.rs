@@ -42,7 +42,8 @@ fn damaged_diagrams() {
         let file = generate::damaged_diagram(&mut random);
         let read = diagram::read(&file);
         note(&mut seen, read);
-        let mut area = vec![6; 30_000];
+        let needed = translate::net_of(&file).map_or(100, |net| net.len());
+        let mut area = vec![6; needed + 9];
         let translated = translate::translate(&file, &mut area);
         let uses = diagram::uses(&file, random.between(0, 70));
         assert!(uses.len() <= 96);
@@ -60,7 +61,7 @@ fn damaged_diagrams() {
             }
         }
     }
-    assert_saw(&seen, &[0, 1, 2, 3, 4, 5, 6, 7, 8, 9], 50);
+    assert_saw(&seen, &[0, 1, 2, 3, 4, 5, 6, 7, 8, 9, 43], 50);
 }
 
 #[test]

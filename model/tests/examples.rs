@@ -232,8 +232,8 @@ fn rows_64_and_65() {
 }
 
 #[test]
-fn longest_net() {
-    let net = net_of(&examples::longest_net());
+fn longest_plain_net() {
+    let net = net_of(&examples::longest_plain_net());
     assert_eq!(net.len(), 20_660);
     assert_eq!(net::read(&net), Ok(208 + 126));
 }

@@ -119,7 +119,8 @@ fn arc_fields() {
 #[test]
 fn heads_places_transitions() {
     assert_net_refused(&record(NET_HEAD, &[0, 0]), 4, 0);
-    assert_net_refused(&record(NET_HEAD, &[209, 0]), 4, 0);
+    assert_net_refused(&record(NET_HEAD, &[1_217, 0]), 4, 0);
+    assert_net_refused(&record(NET_HEAD, &[1_216, 0]), 1, 8);
     assert_net_refused(&record(NET_HEAD, &[1, 129]), 4, 0);
     assert_net_refused(&record(PLACE, &[0]), 2, 0);
     assert_net_refused(&[10, 0, 32, 0, 1, 0, 0, 0, 0, 0], 3, 0);

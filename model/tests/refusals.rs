@@ -5,12 +5,12 @@ mod common;
 
 use common::{fresh, fresh_net, net_of, refused};
 use model::bus::{self, Telegram};
-use model::diagram::{file, function_record, read};
+use model::diagram::{file, file_of, function_record, read};
 use model::diagram_step::{self, activity, clock, turns};
 use model::examples::{self, rows};
 use model::records::{
     record, shape, AND_CLOSE, AND_OPEN, BRANCH, END, FUNCTION, HEAD, ITEM, IT_CLOSE, IT_OPEN,
-    LOOP_EXIT, LP_CLOSE, LP_OPEN, OR_CLOSE, OR_OPEN,
+    LOOP_EXIT, LP_CLOSE, LP_OPEN, OR_CLOSE, OR_OPEN, TRIGGER,
 };
 use model::translate::translate;
 use model::{logs, net_step, Answer};
@@ -52,7 +52,7 @@ fn lengths_are_the_fields_lengths() {
         }
     }
     let kinds = (0..=u16::MAX).filter(|kind| shape(*kind).is_some());
-    assert_eq!(kinds.count(), 21);
+    assert_eq!(kinds.count(), 22);
 }
 
 #[test]
@@ -74,10 +74,10 @@ fn kinds_not_due() {
     for kind in [0, 2, 16, 27, 32, 65_535] {
         assert_file_refused(&a_with(2, kind), 2, 0);
     }
-    for kind in [0, 1, 3, 16, 27] {
+    for kind in [0, 1, 4, 16, 27] {
         assert_file_refused(&a_with(12, kind), 2, 10);
     }
-    for kind in [1, 2, 15, 28, 32, 35, 48] {
+    for kind in [1, 2, 3, 15, 28, 32, 35, 48] {
         assert_file_refused(&a_with(18, kind), 2, 16);
     }
 }
@@ -148,6 +148,72 @@ fn fields_off() {
         ];
         assert_eq!(read(&file(&[], &rows)), Ok(9));
     }
+}
+
+/// A plain item, a trigger and a plain item; FUNCTIONs with these uses from
+/// offset 28 on, and END.
+fn mixed_items(functions: &[&[[u16; 3]]]) -> Vec<u8> {
+    let items = [ITEM, TRIGGER, ITEM].map(|kind| record(kind, &[1]));
+    let mut rows: Vec<Vec<u8>> = functions
+        .iter()
+        .map(|uses| function_record(0, 0, uses))
+        .collect();
+    rows.push(record(END, &[]));
+    file_of(&items, &rows)
+}
+
+#[test]
+fn triggers_off() {
+    for (take, give) in [(2, 0), (0, 2), (1, 2), (2, 1), (256, 0), (0, 65_535)] {
+        let off: [&[[u16; 3]]; 3] = [
+            &[[1, take, give]],
+            &[[0, 2, 2], [1, take, give]],
+            &[[1, take, give], [2, 0, 3]],
+        ];
+        for uses in off {
+            assert_file_refused(&mixed_items(&[uses]), 43, 28);
+        }
+    }
+    // Plain items may have any take and give; a trigger 0 or 1 of each.
+    for (take, give) in [(1, 0), (0, 1), (1, 1)] {
+        let uses = [[0, 2, 65_535], [1, take, give], [2, 65_535, 2]];
+        let copies = u32::from(take);
+        assert_eq!(read(&mixed_items(&[&uses])), Ok(6 + 3 + copies));
+    }
+}
+
+/// "After 5 at the same record", wherever in it; a record before decides.
+#[test]
+fn triggers_off_after_fields_off() {
+    let five: [&[[u16; 3]]; 5] = [
+        &[[0, 0, 0], [1, 2, 0]],
+        &[[1, 2, 0], [2, 0, 0]],
+        &[[1, 2, 0], [3, 1, 0]],
+        &[[1, 2, 0], [1, 1, 0]],
+        &[[1, 2, 0], [0, 1, 0]],
+    ];
+    for uses in five {
+        assert_file_refused(&mixed_items(&[uses]), 5, 28);
+        // Record by record: the one before is 43, the one behind 5, and so round.
+        assert_file_refused(&mixed_items(&[&[[1, 2, 0]], uses]), 43, 28);
+        assert_file_refused(&mixed_items(&[uses, &[[1, 2, 0]]]), 5, 28);
+        assert_file_refused(&mixed_items(&[&[], &[[1, 0, 2]]]), 43, 36);
+    }
+    let late = [function_record(2, 1, &[[0, 2, 0]]), record(END, &[])];
+    let trigger = [record(TRIGGER, &[1])];
+    assert_file_refused(&file_of(&trigger, &late), 5, 16);
+    // Before the bytes behind the last record, and before the nesting.
+    let mut longer = mixed_items(&[&[[1, 2, 0]]]);
+    longer.push(0);
+    assert_file_refused(&longer, 43, 28);
+    let unclosed = [record(LP_OPEN, &[]), function_record(0, 0, &[[0, 0, 2]])];
+    assert_file_refused(&file_of(&trigger, &unclosed), 43, 20);
+    // More uses than items is 3, also of triggers.
+    let too_many = [
+        function_record(0, 0, &[[0, 2, 0], [1, 1, 0]]),
+        record(END, &[]),
+    ];
+    assert_file_refused(&file_of(&trigger, &too_many), 3, 16);
 }
 
 #[test]
@@ -351,6 +417,15 @@ fn states_off() {
     let or = nested(&[OR_OPEN, BRANCH, BRANCH, OR_CLOSE, END]);
     for (row, value) in [(0, 2), (0, 3), (1, 1), (1, 3), (2, 2), (3, 2), (3, 3)] {
         assert_state_off(&or, &with(&or, activity(row), value));
+    }
+    // A trigger's shared count remains 0; a copy has any.
+    let triggers = examples::trigger_before_plain(3, 4);
+    for value in [1, 3, 65_535] {
+        assert_state_off(&triggers, &with(&triggers, 9, value));
+    }
+    for word in [10, 11] {
+        let mut state = with(&triggers, word, 65_535);
+        assert_eq!(diagram_step::step(&triggers, &mut state, 1, 0), Ok(0));
     }
     // LP open, LP close and LE 0 and 1.
     let h = examples::h();

@@ -1,10 +1,11 @@
 //! The annex to a contract as one page: the annex program's text, what its numbers stand for, the drawing, the file's bytes.
 
 use crate::draw::{self, escaped};
-use crate::net::{home, place_words, transition_words, Home, Net};
-use crate::plant::Plant;
+use crate::net::{homes, place_words, transition_words, translated, Home, Net};
+use crate::plant::{Count, Plant};
+use crate::play::words::number_of;
 use crate::text::{item_lines, row_lines, time_text};
-use effbd::Refusal;
+use effbd::{refusal, Refusal};
 use std::fmt::Write;
 
 /// Looks for screen and paper; nothing is fetched from elsewhere.
@@ -42,20 +43,25 @@ table + table { margin-top: 1em; }
 
 /// The page of a plant and its file; with the net's drawing, if wanted.
 pub fn page(plant: &Plant, file: &[u8], with_net: bool) -> Result<String, Refusal> {
-    let net = Net::of_diagram(file)?;
+    let net_file = translated(file)?;
+    let net = Net::taken_apart(&net_file);
     let annex = String::from_utf8_lossy(&effbd::annex_text(file)).into_owned();
     let title = escaped(plant.title.as_deref().unwrap_or("Plant"));
     let heading = format!(
-        "<h1>Annex: {title}</h1>\n<p>{} rows, {} items; the net has {} places and {} transitions. A tick is 0.1 s.</p>\n",
+        "<h1>Annex: {title}</h1>\n<p>{} rows, {} items{}; the net has {} places and {} transitions. A tick is 0.1 s.</p>\n",
         plant.rows.len(),
         plant.items.len(),
+        match plant.triggers().count() as u64 {
+            0 => String::new(),
+            triggers => format!(", {} among them", number_of(triggers, "trigger")),
+        },
         net.marks.len(),
         net.transitions.len(),
     );
     let sections = [
         drawing_section(&heading, &draw::diagram_sheet(plant)),
         section("", &rows_section(plant)),
-        section("", &net_section(plant, &net, &annex)),
+        section("", &net_section(plant, &net, &annex, net_file.len())),
         match with_net {
             true => drawing_section("<h2>Net, drawn</h2>\n", &draw::net_sheet(plant, &net)),
             false => String::new(),
@@ -105,12 +111,26 @@ fn rows_section(plant: &Plant) -> String {
     )
 }
 
-/// The annex program's text as it stands, and beside it the names of its places and transitions.
-fn net_section(plant: &Plant, net: &Net, annex: &str) -> String {
+/// What is said of a net of so many bytes where the annex program does not print it.
+pub fn unprinted(length: usize) -> Option<String> {
+    let room = effbd::ANNEX_NET_ROOM;
+    let words = format!(
+        "the net has {length} bytes and is not printed: the annex program has room for {room}, and says \"refused {} {length}\"",
+        refusal::AREA_SHORT
+    );
+    (length > room).then_some(words)
+}
+
+/// What the lines of the annex program's text say.
+const LINES: &str = "\
+    <code>marks</code> has the mark of every place as the plant starts, <code>t</code> a transition's number, label (row) and interval in \
+    ticks, then what it takes, clears and gives: place and number of tokens, of a clear the first and last place";
+
+/// The annex program's text as it stands, and beside it the names of the net's places and transitions.
+fn net_section(plant: &Plant, net: &Net, annex: &str, length: usize) -> String {
+    let told = unprinted(length).map_or(LINES.to_string(), |words| escaped(&words));
     format!(
-        "<h2>Net</h2>\n<p>On the left the annex program's text: <code>marks</code> has the mark of every place as the plant starts, <code>t</code> a \
-         transition's number, label (row) and interval in ticks, then what it takes, clears and gives: place and number of tokens, of a \
-         clear the first and last place.</p>\n\
+        "<h2>Net</h2>\n<p>On the left the annex program's text: {told}.</p>\n\
          <div class=\"net\">\n<pre class=\"annex\">{}</pre>\n<div class=\"names\">\n{}{}</div>\n</div>\n",
         escaped(annex),
         places_table(plant, net),
@@ -123,10 +143,11 @@ fn places_table(plant: &Plant, net: &Net) -> String {
         "<table class=\"places\">\n<caption>Places</caption>\n\
          <thead><tr><th>place</th><th>of</th><th>a token says</th><th>at start</th></tr></thead>\n<tbody>\n",
     );
-    for (place, mark) in net.marks.iter().enumerate() {
-        let of = match home(plant, place) {
+    for ((place, mark), home) in net.marks.iter().enumerate().zip(homes(plant)) {
+        let of = match home {
             Home::Row { row, which } => format!("row {row}, {}", ["P", "Q", "R"][which]),
-            Home::Item(item) => format!("item {item}"),
+            Home::Count(Count::Item(item)) => format!("item {item}"),
+            Home::Count(Count::Copy { item, row }) => format!("item {item}, row {row}"),
         };
         let (class, words) = if net.used(place) {
             ("", escaped(&place_words(plant, place)))

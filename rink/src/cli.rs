@@ -40,10 +40,12 @@ or written.
 const MAKE_HELP: &str = "\
 rink make TEXT [-o FILE]      the diagram file (.dia) of a text (.plant)
 
-One item or row a line; `#` begins a comment; indentation is free.
+One item, trigger or row a line; `#` begins a comment; indentation is free.
 
   plant NAME                  the plant's name, for drawing and annex
   item NAME COUNT             items stand before the rows
+  trigger NAME COUNT          an item that reaches everyone: each function that
+                              takes it has a count of its own, a give adds to all
   function NAME 20..50 take ITEM 1 give ITEM 2
                               shortest and longest time, in ticks of 0.1 s or in
                               seconds (2.0s..5.0s); any number of takes and gives
@@ -101,10 +103,11 @@ and delay telegrams. `help` in the game lists its commands.
 ";
 
 const CHECK_HELP: &str = "\
-rink check FILE
+rink check FILE [--names TEXT] [-o NAME]
 
-`accepted`, with the limits used: rows, items, depth, the net's size; or the
-refusal in words, with row and offset.
+`accepted`, with the limits used: rows, items, depth, the net's and the state's
+size; the receivers of each trigger; whether the annex program prints the net. Or
+the refusal in words, with row and offset.
 ";
 
 const NAMES_HELP: &str = "
@@ -202,7 +205,7 @@ fn known(command: &str) -> Option<Known> {
         "draw" => (drawn, [DRAW_HELP, NAMES_HELP]),
         "annex" => (annexed, [ANNEX_HELP, NAMES_HELP]),
         "play" => (played, [PLAY_HELP, NAMES_HELP]),
-        "check" => (checked, [CHECK_HELP, ""]),
+        "check" => (checked, [CHECK_HELP, NAMES_HELP]),
         _ => return None,
     };
     Some(Known { run, help })
@@ -303,7 +306,7 @@ fn accepted(arguments: &Arguments) -> Result<(Vec<u8>, Plant), Failure> {
 
 /// A refusal of a file in words, and a hint where the file seems to be a text.
 fn refused_words(file: &[u8], refusal: effbd::Refusal) -> String {
-    let found = refused::find(file, refusal, |row| format!("row {row}"));
+    let found = refused::find(file, refusal, refused::numbered);
     let hint = match text::decoded(file) {
         Ok(text) if !text.contains('\0') && !text.is_empty() => {
             "This looks like a text: `rink make` makes a diagram file of it.\n"
@@ -373,19 +376,19 @@ fn show(given: &[String]) -> Ended {
 
 /// Its answer is a verdict: a refusal goes to the output too.
 fn checked(given: &[String]) -> Ended {
-    let arguments = Arguments::of("check", given, &[], &["-o"])?;
+    let arguments = Arguments::of("check", given, &[], &["--names", "-o"])?;
     let file = read_in(&arguments.file)?;
-    let answer = Plant::read(&file).and_then(|plant| limits::used(&plant, &file));
-    match answer {
-        Ok(text) => write_out(arguments.value("-o"), text.as_bytes()),
+    let output = arguments.value("-o");
+    let plant = match Plant::read(&file) {
+        Ok(plant) => with_names(&arguments, &file, plant)?,
         Err(refusal) => {
-            write_out(
-                arguments.value("-o"),
-                refused_words(&file, refusal).as_bytes(),
-            )?;
-            Err(Failure::Refused(String::new()))
+            write_out(output, refused_words(&file, refusal).as_bytes())?;
+            return Err(Failure::Refused(String::new()));
         }
-    }
+    };
+    let used = limits::used(&plant, &file);
+    let text = used.map_err(|refusal| untranslated(&arguments, refusal))?;
+    write_out(output, text.as_bytes())
 }
 
 fn drawn(given: &[String]) -> Ended {

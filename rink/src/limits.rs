@@ -1,7 +1,9 @@
 //! What `rink check` says of an accepted file: how much of each limit it uses.
 
+use crate::annex;
 use crate::net::{self, Net};
 use crate::plant::Plant;
+use crate::play::words::{number_of, rows_words};
 use crate::structure;
 use effbd::Refusal;
 use std::fmt::Write;
@@ -30,5 +32,25 @@ pub fn used(plant: &Plant, file: &[u8]) -> Result<String, Refusal> {
     line("net bytes", net_file.len(), effbd::NET_ROOM);
     line("state words", words as usize, effbd::MOST_STATE_WORDS);
     let _ = writeln!(text, "{:<12} {:>6}", "file bytes", file.len());
+    for trigger in plant.triggers() {
+        let _ = writeln!(text, "{}", trigger_line(plant, trigger));
+    }
+    if let Some(words) = annex::unprinted(net_file.len()) {
+        let _ = writeln!(text, "annex: {words}");
+    }
     Ok(text)
+}
+
+/// A trigger with its receivers. One that nobody takes has no count: whoever drew a give to it meant more.
+fn trigger_line(plant: &Plant, trigger: usize) -> String {
+    let takers: Vec<usize> = plant.takers(trigger).collect();
+    let name = &plant.items[trigger].name;
+    if takers.is_empty() {
+        return format!("trigger {name}: no receiver, what is given to it changes nothing");
+    }
+    let receivers = number_of(takers.len() as u64, "receiver");
+    format!(
+        "trigger {name}: {receivers}, {}",
+        rows_words(plant, &takers)
+    )
 }

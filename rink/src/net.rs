@@ -1,6 +1,6 @@
 //! The net of a plant: the proved translation's bytes, taken apart, with a name for every place and transition.
 
-use crate::plant::{records, Part, Plant};
+use crate::plant::{records, Count, Part, Plant};
 use effbd::Refusal;
 
 /// A time Petri net as its file has it.
@@ -9,6 +9,8 @@ pub struct Net {
     /// The mark of every place.
     pub marks: Vec<u16>,
     pub transitions: Vec<Transition>,
+    /// Of every place whether it has a mark or an arc names it.
+    used: Vec<bool>,
 }
 
 /// A transition with its interval and arcs.
@@ -46,18 +48,20 @@ pub fn translated(file: &[u8]) -> Result<Vec<u8>, Refusal> {
     Ok(area)
 }
 
-/// The file of a net that has the places of this one and one of its transitions alone.
-pub fn alone(net: &[u8], transition: usize) -> Vec<u8> {
-    let starts: Vec<usize> = records(net)
+/// Of each transition the file of a net that has the places of this one and that transition alone.
+pub fn alone(net: &[u8]) -> Vec<Vec<u8>> {
+    let mut bounds: Vec<usize> = records(net)
         .iter()
         .filter(|record| record.kind == TRANSITION)
         .map(|record| record.offset)
         .collect();
-    let end = starts.get(transition + 1).copied().unwrap_or(net.len());
-    let mut alone = net[..starts[0]].to_vec();
-    alone[TRANSITIONS_AT..TRANSITIONS_AT + 2].copy_from_slice(&1u16.to_le_bytes());
-    alone.extend(&net[starts[transition]..end]);
-    alone
+    bounds.push(net.len());
+    let mut places = net[..bounds[0]].to_vec();
+    places[TRANSITIONS_AT..TRANSITIONS_AT + 2].copy_from_slice(&1u16.to_le_bytes());
+    let transitions = bounds.windows(2).map(|ends| &net[ends[0]..ends[1]]);
+    transitions
+        .map(|own| [places.as_slice(), own].concat())
+        .collect()
 }
 
 impl Net {
@@ -97,17 +101,18 @@ impl Net {
                 }
             }
         }
+        found.used = found.marks.iter().map(|mark| *mark > 0).collect();
+        for transition in &found.transitions {
+            for arc in transition.takes.iter().chain(&transition.gives) {
+                found.used[usize::from(arc.place)] = true;
+            }
+        }
         found
     }
 
     /// Whether an arc names the place, or it has a mark: others stay empty for ever.
     pub fn used(&self, place: usize) -> bool {
-        let named = |arcs: &[Arc]| arcs.iter().any(|arc| usize::from(arc.place) == place);
-        self.marks[place] > 0
-            || self
-                .transitions
-                .iter()
-                .any(|transition| named(&transition.takes) || named(&transition.gives))
+        self.used[place]
     }
 
     /// Which of its label's transitions it is: 0 for the first.
@@ -126,25 +131,37 @@ pub enum Home {
         row: usize,
         which: usize,
     },
-    Item(usize),
+    Count(Count),
+}
+
+/// The homes of all places of this plant's net, in order.
+pub fn homes(plant: &Plant) -> impl Iterator<Item = Home> + '_ {
+    let rows = (0..3 * plant.rows.len()).map(|place| Home::Row {
+        row: place / 3,
+        which: place % 3,
+    });
+    rows.chain(plant.counts().map(Home::Count))
 }
 
 /// The home of a place of this plant's net.
 pub fn home(plant: &Plant, place: usize) -> Home {
-    if place < 3 * plant.rows.len() {
-        Home::Row {
-            row: place / 3,
-            which: place % 3,
-        }
+    let home = homes(plant).nth(place);
+    home.expect("a net has places of rows, items and copies alone")
+}
+
+/// Places next to one another: `4`, or `4..7`.
+pub fn place_range(first: usize, last: usize) -> String {
+    if first == last {
+        first.to_string()
     } else {
-        Home::Item(place - 3 * plant.rows.len())
+        format!("{first}..{last}")
     }
 }
 
 /// A place in words: what a token there says.
 pub fn place_words(plant: &Plant, place: usize) -> String {
     let (row, which) = match home(plant, place) {
-        Home::Item(item) => return format!("count of {}", plant.items[item].name),
+        Home::Count(count) => return format!("count of {}", plant.count_name(count)),
         Home::Row { row, which } => (row, which),
     };
     let name = plant.row_name(row);

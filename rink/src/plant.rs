@@ -38,11 +38,21 @@ pub struct Use {
     pub give: u16,
 }
 
-/// An item, with its initial count.
+/// An item, with its initial count. A trigger has that count for each FUNCTION that takes it.
 #[derive(Clone, PartialEq, Eq, Debug)]
 pub struct Item {
     pub name: String,
     pub count: u16,
+    pub trigger: bool,
+}
+
+/// A count of a plant as it runs.
+#[derive(Clone, Copy, PartialEq, Eq, Debug)]
+pub enum Count {
+    /// An item's, whoever takes of it; a trigger's stays 0.
+    Item(usize),
+    /// A trigger's copy for one FUNCTION that takes it.
+    Copy { item: usize, row: usize },
 }
 
 /// A row. A FUNCTION always has a name; AND, OR, their branches, IT and LP may have one; other rows never do.
@@ -63,6 +73,7 @@ pub struct Plant {
 const EDITION: u16 = 1;
 const HEAD: u16 = 1;
 const ITEM: u16 = 2;
+pub const TRIGGER: u16 = 3;
 const FUNCTION: u16 = 16;
 const REPEAT: u16 = 22;
 
@@ -119,6 +130,41 @@ fn record(kind: u16, fields: &[u16]) -> Option<Vec<u8>> {
     let length = u16::try_from(4 + 2 * fields.len()).ok()?;
     let words = [&[length, kind], fields].concat();
     Some(words.iter().flat_map(|word| word.to_le_bytes()).collect())
+}
+
+impl Count {
+    pub fn is_copy(self) -> bool {
+        matches!(self, Count::Copy { .. })
+    }
+}
+
+impl Item {
+    fn kind(&self) -> u16 {
+        if self.trigger {
+            TRIGGER
+        } else {
+            ITEM
+        }
+    }
+
+    /// What it is; so the text writes it.
+    pub fn keyword(&self) -> &'static str {
+        if self.trigger {
+            "trigger"
+        } else {
+            "item"
+        }
+    }
+
+    /// The item that a record of a right file says, still without a name; `None` for a record that is none.
+    fn of(record: &Record) -> Option<Item> {
+        let item = Item {
+            name: String::new(),
+            count: record.fields.first().copied().unwrap_or(0),
+            trigger: record.kind == TRIGGER,
+        };
+        matches!(record.kind, ITEM | TRIGGER).then_some(item)
+    }
 }
 
 impl Part {
@@ -215,10 +261,10 @@ impl Plant {
 
     /// The plant of these records, with made-up names: of those that are items, and those that are rows.
     pub fn of_records(records: &[Record]) -> Plant {
-        let items = records.iter().filter(|record| record.kind == ITEM);
-        let items = items.enumerate().map(|(number, record)| Item {
-            name: format!("item-{number}"),
-            count: record.fields.first().copied().unwrap_or(0),
+        let items = records.iter().filter_map(Item::of);
+        let items = items.enumerate().map(|(number, item)| Item {
+            name: format!("{}-{number}", item.keyword()),
+            ..item
         });
         let rows = records.iter().filter_map(Part::of);
         let rows = rows.enumerate().map(|(number, part)| {
@@ -239,7 +285,7 @@ impl Plant {
         let items = u16::try_from(self.items.len()).ok()?;
         let mut file = record(HEAD, &[EDITION, rows, items])?;
         for item in &self.items {
-            file.extend(record(ITEM, &[item.count])?);
+            file.extend(record(item.kind(), &[item.count])?);
         }
         for row in &self.rows {
             file.extend(record(row.part.kind(), &row.part.fields())?);
@@ -253,5 +299,50 @@ impl Plant {
             Some(name) => name.clone(),
             None => format!("{} (row {row})", self.rows[row].part.keyword()),
         }
+    }
+
+    /// What a row takes of an item as it starts and gives to it as it ends.
+    pub fn take_and_give(&self, row: usize, item: usize) -> (u16, u16) {
+        let uses: &[Use] = match self.rows.get(row).map(|row| &row.part) {
+            Some(Part::Function(function)) => &function.uses,
+            _ => &[],
+        };
+        let used = uses.iter().find(|used| usize::from(used.item) == item);
+        used.map_or((0, 0), |used| (used.take, used.give))
+    }
+
+    /// The rows that take of an item; of a trigger its receivers.
+    pub fn takers(&self, item: usize) -> impl Iterator<Item = usize> + '_ {
+        (0..self.rows.len()).filter(move |&row| self.take_and_give(row, item).0 > 0)
+    }
+
+    /// The numbers of the triggers among its items.
+    pub fn triggers(&self) -> impl Iterator<Item = usize> + '_ {
+        (0..self.items.len()).filter(move |&item| self.items[item].trigger)
+    }
+
+    /// The copies of a trigger, one for each receiver.
+    pub fn copies(&self, item: usize) -> impl Iterator<Item = Count> + '_ {
+        self.takers(item).map(move |row| Count::Copy { item, row })
+    }
+
+    /// All counts in the order of state and net: the items', then the copies, by item and then row.
+    pub fn counts(&self) -> impl Iterator<Item = Count> + '_ {
+        let items = (0..self.items.len()).map(Count::Item);
+        items.chain(self.triggers().flat_map(|item| self.copies(item)))
+    }
+
+    /// What a count is called: `oil`; a copy `door@fan`, or `door@4` where another receiver has that name.
+    pub fn count_name(&self, count: Count) -> String {
+        let (item, row) = match count {
+            Count::Item(item) => return self.items[item].name.clone(),
+            Count::Copy { item, row } => (item, row),
+        };
+        let named = |other: &usize| self.rows[*other].name == self.rows[row].name;
+        let row = match self.takers(item).filter(named).count() {
+            1 => self.row_name(row),
+            _ => row.to_string(),
+        };
+        format!("{}@{row}", self.items[item].name)
     }
 }

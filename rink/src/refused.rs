@@ -2,7 +2,7 @@
 //!
 //! The verdict is the reader's. What is said here explains it to a mechanic, and is never asked whether a file is right.
 
-use crate::plant::{records, Function, Part, Plant, Record};
+use crate::plant::{records, Function, Part, Plant, Record, Use, TRIGGER};
 use effbd::{refusal, Refusal};
 
 /// What a refusal of a file names.
@@ -33,18 +33,22 @@ impl Found {
 
     /// Where: the row or record and its offset.
     pub fn place(&self) -> String {
-        let offset = self.offset;
-        match self.subject {
-            Subject::Head => "the head, offset 0".to_string(),
-            Subject::Item(item) => format!("item {item}, offset {offset}"),
-            Subject::Row(row) => format!("row {row}, offset {offset}"),
-            Subject::Behind => format!("behind the last record, offset {offset}"),
-        }
+        format!("{}, offset {}", numbered(self.subject), self.offset)
     }
 }
 
-/// What a refusal of this file says; `named` is how a reader of it calls a row, such as `row 3`.
-pub fn find(file: &[u8], refusal: Refusal, named: impl Fn(usize) -> String) -> Found {
+/// How a reader of a file calls its items and rows: by their numbers.
+pub fn numbered(subject: Subject) -> String {
+    match subject {
+        Subject::Head => "the head".to_string(),
+        Subject::Item(item) => format!("item {item}"),
+        Subject::Row(row) => format!("row {row}"),
+        Subject::Behind => "behind the last record".to_string(),
+    }
+}
+
+/// What a refusal of this file says; `named` is how its reader calls an item or a row, such as `row 3`.
+pub fn find(file: &[u8], refusal: Refusal, named: impl Fn(Subject) -> String) -> Found {
     let records = records(file);
     let items = records
         .first()
@@ -66,19 +70,18 @@ pub fn find(file: &[u8], refusal: Refusal, named: impl Fn(usize) -> String) -> F
         _ if index <= items => Subject::Item(index - 1),
         _ => Subject::Row(index - 1 - items),
     };
-    let why = match refusal.number {
-        refusal::CUT_SHORT => cut_short(&file[offset.min(file.len())..]),
-        refusal::BYTES_AFTER_LAST => {
-            format!("{} bytes stand behind the last record", file.len() - offset)
+    let rest = &file[offset.min(file.len())..];
+    let why = match (refusal.number, records.get(index)) {
+        (refusal::CUT_SHORT, _) => cut_short(rest),
+        (refusal::BYTES_AFTER_LAST, _) => {
+            format!("{} bytes stand behind the last record", rest.len())
         }
+        (refusal::KIND_NOT_DUE | refusal::LENGTH_WRONG, _) => shape_words(rest, subject, refusal),
+        (refusal::HEAD_VALUE_OFF, Some(head)) => head_words(head),
+        (refusal::FIELD_OFF, Some(record)) => field_words(record, items, named),
+        (refusal::TRIGGER_OFF, Some(record)) => trigger_words(record, &records[1..], named),
         _ if nesting(refusal) => nesting_words(&Plant::of_records(&records), refusal, named),
-        _ => record_words(
-            &file[offset.min(file.len())..],
-            records.get(index),
-            subject,
-            refusal,
-            items,
-        ),
+        _ => String::new(),
     };
     Found {
         refusal,
@@ -116,41 +119,51 @@ fn cut_short(rest: &[u8]) -> String {
     }
 }
 
-/// Why a record was refused that has its length and kind at least.
-fn record_words(
-    bytes: &[u8],
-    record: Option<&Record>,
-    subject: Subject,
-    refusal: Refusal,
-    items: usize,
-) -> String {
+/// Why a record was refused for its kind or length.
+fn shape_words(bytes: &[u8], subject: Subject, refusal: Refusal) -> String {
     let [length_low, length_high, kind_low, kind_high, ..] = *bytes else {
         return String::new();
     };
     let kind = u16::from_le_bytes([kind_low, kind_high]);
     let length = u16::from_le_bytes([length_low, length_high]);
-    match (refusal.number, record) {
-        (refusal::KIND_NOT_DUE, _) => {
-            let due = match subject {
-                Subject::Head => "the head, kind 1,",
-                Subject::Item(_) => "an item, kind 2,",
-                _ => "a row",
-            };
-            format!("a record of kind {kind} stands where {due} is due")
+    if refusal.number == refusal::LENGTH_WRONG {
+        return format!("{length} bytes are no length of a record of kind {kind}");
+    }
+    let due = match subject {
+        Subject::Head => "the head, kind 1,",
+        Subject::Item(_) => "an item, kind 2, or a trigger, kind 3,",
+        _ => "a row",
+    };
+    format!("a record of kind {kind} stands where {due} is due")
+}
+
+/// Why a row was refused for its fields.
+fn field_words(record: &Record, items: usize, named: impl Fn(Subject) -> String) -> String {
+    match Part::of(record) {
+        Some(Part::Function(function)) => function_words(&function, items, named),
+        Some(Part::Repeat { count }) => {
+            format!("it repeats {count} times: 2 to 255 are allowed")
         }
-        (refusal::LENGTH_WRONG, _) => {
-            format!("{length} bytes are no length of a record of kind {kind}")
-        }
-        (refusal::HEAD_VALUE_OFF, Some(head)) => head_words(head),
-        (refusal::FIELD_OFF, Some(record)) => match Part::of(record) {
-            Some(Part::Function(function)) => function_words(&function, items),
-            Some(Part::Repeat { count }) => {
-                format!("it repeats {count} times: 2 to 255 are allowed")
-            }
-            _ => String::new(),
-        },
         _ => String::new(),
     }
+}
+
+/// Which use of a trigger takes or gives too much: the lowest; `items` are the records behind the head.
+fn trigger_words(record: &Record, items: &[Record], named: impl Fn(Subject) -> String) -> String {
+    let Some(Part::Function(Function { uses, .. })) = Part::of(record) else {
+        return String::new();
+    };
+    let trigger = |item: u16| items.get(usize::from(item)).map(|item| item.kind) == Some(TRIGGER);
+    let above = |used: &&Use| trigger(used.item) && used.take.max(used.give) > 1;
+    let Some(used) = uses.iter().find(above) else {
+        return String::new();
+    };
+    let item = named(Subject::Item(usize::from(used.item)));
+    let (way, amount) = match used.take {
+        2.. => ("takes", used.take),
+        _ => ("gives", used.give),
+    };
+    format!("it {way} {amount} of {item}: of a trigger 1 is the most")
 }
 
 fn head_words(head: &Record) -> String {
@@ -167,7 +180,7 @@ fn head_words(head: &Record) -> String {
     }
 }
 
-fn function_words(function: &Function, items: usize) -> String {
+fn function_words(function: &Function, items: usize, named: impl Fn(Subject) -> String) -> String {
     let Function {
         shortest,
         longest,
@@ -189,7 +202,8 @@ fn function_words(function: &Function, items: usize) -> String {
             );
         }
         if (used.take, used.give) == (0, 0) {
-            return format!("it takes 0 and gives 0 of item {item}: one of them is 1 or more");
+            let item = named(Subject::Item(usize::from(item)));
+            return format!("it takes 0 and gives 0 of {item}: one of them is 1 or more");
         }
         before = Some(item);
     }
@@ -197,7 +211,7 @@ fn function_words(function: &Function, items: usize) -> String {
 }
 
 /// Why a row may not stand where it does; the rows before it nest well.
-fn nesting_words(plant: &Plant, refusal: Refusal, named: impl Fn(usize) -> String) -> String {
+fn nesting_words(plant: &Plant, refusal: Refusal, named: impl Fn(Subject) -> String) -> String {
     let row = refusal.value as usize;
     let Some(found) = plant.rows.get(row) else {
         return String::new();
@@ -209,7 +223,7 @@ fn nesting_words(plant: &Plant, refusal: Refusal, named: impl Fn(usize) -> Strin
         format!(
             "the innermost open construct is the `{}` of {}",
             plant.rows[open].part.keyword(),
-            named(open)
+            named(Subject::Row(open))
         )
     });
     match refusal.number {

@@ -1,4 +1,4 @@
-//! A plant as a text table: one item or row a line, with names, indented as it nests.
+//! A plant as a text table: one item, trigger or row a line, with names, indented as it nests.
 //!
 //! `parse` takes any text apart into parts and lays no rule of the diagram on them: `make` has the proved reader judge their bytes, and
 //! shows a refusal at the line whose record or row it names.
@@ -63,7 +63,7 @@ pub const MOST_LETTERS: usize = 40;
 
 /// The words that a line begins with.
 const FIRST_WORDS: &str =
-    "plant, item, function, and, or, branch, repeat, loop, exit loop, end and, end or, end repeat, end loop, end";
+    "plant, item, trigger, function, and, or, branch, repeat, loop, exit loop, end and, end or, end repeat, end loop, end";
 
 /// The bytes of a text's plant, accepted by the proved reader, and the plant.
 pub fn make(text: &str) -> Result<(Vec<u8>, Plant), Fault> {
@@ -75,11 +75,7 @@ pub fn make(text: &str) -> Result<(Vec<u8>, Plant), Fault> {
     match effbd::read_diagram(&file) {
         Ok(_) => Ok((file, parsed.plant)),
         Err(refusal) => {
-            let line = |row: usize| {
-                let place = parsed.place_of(refused::Subject::Row(row));
-                format!("line {}", place.line)
-            };
-            let found = refused::find(&file, refusal, line);
+            let found = refused::find(&file, refusal, |subject| parsed.named(subject));
             let place = parsed.place_of(found.subject);
             Err(Fault::at(place, found.words()))
         }
@@ -99,6 +95,17 @@ impl Parsed {
             refused::Subject::Behind => None,
         };
         place.copied().unwrap_or(self.end)
+    }
+
+    /// How the text's writer calls it: an item by its name, all else by its line.
+    fn named(&self, subject: refused::Subject) -> String {
+        match subject {
+            refused::Subject::Item(item) if item < self.plant.items.len() => {
+                let item = &self.plant.items[item];
+                format!("{} `{}`", item.keyword(), item.name)
+            }
+            other => format!("line {}", self.place_of(other).line),
+        }
     }
 }
 
@@ -144,7 +151,7 @@ impl Parsed {
         let first = words.next("")?;
         let part = match first.text {
             "plant" => return self.title(first.place, words),
-            "item" => return self.item(first.place, words),
+            "item" | "trigger" => return self.item(first, words),
             "function" => return self.function(first.place, words),
             "and" => Part::And,
             "or" => Part::Or,
@@ -185,21 +192,35 @@ impl Parsed {
         Ok(())
     }
 
-    fn item(&mut self, place: Place, words: &mut Words) -> Result<(), Fault> {
-        let named = words.next("the item's name and count, such as `item oil 3`")?;
+    /// A plain item or a trigger: its keyword says which.
+    fn item(&mut self, keyword: Word, words: &mut Words) -> Result<(), Fault> {
+        let what = keyword.text;
+        let trigger = what == "trigger";
+        let such = match trigger {
+            true => "such as `trigger door 0`",
+            false => "such as `item oil 3`",
+        };
+        let named = words.next(&format!("the {what}'s name and count, {such}"))?;
         let name = named.name()?;
         if !self.plant.rows.is_empty() {
-            return Err(Fault::at(place, "items stand before the first row"));
+            let words = format!("{what}s stand before the first row");
+            return Err(Fault::at(keyword.place, words));
         }
-        if self.item_number(&name).is_some() {
-            return Err(Fault::at(
-                named.place,
-                format!("there is an item `{name}` already"),
-            ));
+        if let Some(other) = self.item_number(&name) {
+            let other = match self.plant.items[other].trigger {
+                true => "a trigger",
+                false => "an item",
+            };
+            let words = format!("there is {other} `{name}` already");
+            return Err(Fault::at(named.place, words));
         }
-        let count = words.number("the item's count, such as `item oil 3`")?;
-        self.plant.items.push(Item { name, count });
-        self.items.push(place);
+        let count = words.number(&format!("the {what}'s count, {such}"))?;
+        self.plant.items.push(Item {
+            name,
+            count,
+            trigger,
+        });
+        self.items.push(keyword.place);
         Ok(())
     }
 
@@ -504,9 +525,9 @@ pub fn show(plant: &Plant, style: Style) -> String {
     text
 }
 
-/// The lines of the items.
+/// The lines of the items, triggers among them.
 pub fn item_lines(plant: &Plant) -> Vec<String> {
-    let line = |item: &Item| format!("item {} {}", item.name, item.count);
+    let line = |item: &Item| format!("{} {} {}", item.keyword(), item.name, item.count);
     plant.items.iter().map(line).collect()
 }
 

@@ -1,8 +1,9 @@
 //! The annex page's text is the annex program's own, as the proved program prints it.
 
-use model::generate::{diagram, Random};
-use rink::annex;
+use model::examples::{longest_net, triggers};
+use model::generate::{crowded_diagram, diagram, Random};
 use rink::plant::Plant;
+use rink::{annex, net};
 use std::fs;
 use std::io::Write;
 use std::path::{Path, PathBuf};
@@ -56,7 +57,27 @@ fn shipped_annexes() {
             compared += 1;
         }
     }
-    assert!(compared >= 8, "{compared} compared");
+    assert!(compared >= 9, "{compared} compared");
+}
+
+/// A net that the annex program has no room for: its own line stands there, and the page says why.
+#[test]
+fn nets_not_printed() {
+    let mut refused = 0;
+    let crowded = (0..20).map(|seed| crowded_diagram(&mut Random::new(seed)));
+    for file in crowded.chain([longest_net(), triggers(16, 22), triggers(16, 21)]) {
+        compare(&file, "crowded");
+        let plant = Plant::read(&file).expect("accepted");
+        let page = annex::page(&plant, &file, false).expect("a net");
+        let length = net::translated(&file).expect("a net").len();
+        let line = format!("refused 10 {length}\n");
+        let large = length > effbd::ANNEX_NET_ROOM;
+        assert_eq!(text_of(&page) == line, large);
+        let words = format!("the net has {length} bytes and is not printed");
+        assert_eq!(page.contains(&words), large);
+        refused += usize::from(large);
+    }
+    assert!(refused >= 8, "{refused} refused");
 }
 
 #[test]

@@ -229,6 +229,7 @@ fn shipped_examples() {
         "defrost",
         "ice-making",
         "pump-down-and-defrost",
+        "door-open",
     ];
     for name in names {
         let text = example(&format!("{name}.plant"));
@@ -326,6 +327,89 @@ fn limits_told() {
         assert!(answer.text().lines().any(|other| other == line), "{line}");
     }
     assert!(answer.text().contains("net bytes"));
+    assert!(!answer.text().contains("trigger") && !answer.text().contains("annex"));
+}
+
+/// A text of so many functions that take and give each of so many triggers, each of them heard by all.
+fn everyone(functions: usize, triggers: usize) -> String {
+    let names: Vec<String> = (0..triggers).map(|number| format!("t{number}")).collect();
+    let items: String = names
+        .iter()
+        .map(|name| format!("trigger {name} 1\n"))
+        .collect();
+    let uses: String = names
+        .iter()
+        .map(|name| format!(" take {name} 1 give {name} 1"))
+        .collect();
+    let rows: String = (0..functions)
+        .map(|row| format!("function f{row} 1..9{uses}\n"))
+        .collect();
+    items + &rows + "end\n"
+}
+
+/// Receivers of each trigger, by the names of the text beside; a trigger without any is pointed out.
+#[test]
+fn receivers_told() {
+    let has = |answer: &Answer, lines: &[&str]| {
+        for line in lines {
+            let text = answer.text();
+            assert!(text.lines().any(|other| other == *line), "{line} in {text}");
+        }
+    };
+    let door = rink(&["check", &example("door-open.dia")]);
+    has(
+        &door,
+        &[
+            "items             3 of 16",
+            "places           68 of 1216",
+            "state words      68 of 1216",
+            "trigger door: 2 receivers, stop-fan (row 6) and slow-pump (row 9)",
+        ],
+    );
+    let made = |text: &str| fed(&["make", "-"], text.as_bytes()).output;
+    let checked = |text: &str| fed(&["check", "-"], &made(text));
+    let text = "item oil 1\ntrigger bell 1\nfunction f 1..2 take oil 1 give bell 1\nend\n";
+    has(
+        &checked(text),
+        &[
+            "places            8 of 1216",
+            "trigger trigger-1: no receiver, what is given to it changes nothing",
+        ],
+    );
+    has(&checked(&everyone(6, 1)), &[
+        "trigger trigger-0: 6 receivers, function-0 (row 0), function-1 (row 1), function-2 (row 2), function-3 (row 3) and 2 more",
+    ]);
+    let longest = checked(&everyone(63, 16));
+    has(&longest, &[
+        "places         1216 of 1216",
+        "net bytes    526676 of 551304",
+        "state words    1216 of 1216",
+        "annex: the net has 526676 bytes and is not printed: the annex program has room for 65536, and says \"refused 10 526676\"",
+    ]);
+    assert!(!checked(&everyone(20, 16)).text().contains("annex:"));
+    let names = fed(
+        &["check", "-", "--names", &example("door-open.plant")],
+        &made(&everyone(1, 1)),
+    );
+    says(&names, REFUSED, "makes another diagram than -");
+}
+
+/// A trigger's take above 1 in a file: its row and offset.
+#[test]
+fn refused_trigger() {
+    let mut file = fed(&["make", "-"], everyone(1, 1).as_bytes()).output;
+    file[26] = 2;
+    let words = "row 0, offset 16: it takes 2 of item 0: of a trigger 1 is the most (refusal 43, ";
+    let answer = fed(&["check", "-"], &file);
+    assert_eq!(answer.status, REFUSED);
+    assert!(answer.text().contains(words), "{}", answer.text());
+    says(&fed(&["draw", "-"], &file), REFUSED, words);
+    file[12] = 4;
+    says(
+        &fed(&["show", "-"], &file),
+        REFUSED,
+        "a record of kind 4 stands where an item, kind 2, or a trigger, kind 3, is due (refusal 2, ",
+    );
 }
 
 /// A lesson prints what is stored of it; one that does not come out names its line, behind what it printed up to there.
@@ -399,6 +483,14 @@ fn other_formats() {
     }
     let repeat = rink(&["draw", "--tina", &example("f.dia")]);
     assert!(repeat.text().contains("p0 p1*2 -> p2*2 p6"));
+    let door = rink(&["draw", "--tina", &example("door-open.dia")]);
+    for line in [
+        "tr t4 : {watch-door ends} [10,6000] p10 -> p12 p66 p67",
+        "pl p66 : {count of door@stop-fan} (0)",
+    ] {
+        assert!(door.text().lines().any(|other| other == line), "{line}");
+    }
+    assert!(!door.text().contains("pl p63"), "a trigger's own place");
 }
 
 /// The page has the file's bytes and length, and needs nothing from elsewhere.
@@ -417,4 +509,12 @@ fn annex_page() {
     }
     let annex = fs::read_to_string(example("a.txt")).expect("shipped");
     assert!(text.contains(&format!("<pre class=\"annex\">{annex}</pre>")));
+    let door = rink(&["annex", &example("door-open.dia")]);
+    assert!(door
+        .text()
+        .contains("21 rows, 3 items, 1 trigger among them; the net has 68 places"));
+    assert!(door
+        .text()
+        .contains("<td>item 0, row 6</td><td>count of door@stop-fan</td>"));
+    assert!(door.text().contains("<pre>trigger door 0</pre>"));
 }

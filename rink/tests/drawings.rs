@@ -1,7 +1,8 @@
 //! The drawings of random and of extreme plants: nothing overlaps, every row, place, transition and arc is there once.
 
-use model::generate::{diagram, lasting_diagram, Random};
-use rink::draw::{self, Line, Node, Placed, Point, Sheet};
+use model::generate::{crowded_diagram, diagram, lasting_diagram, lasting_trigger_diagram, Random};
+use rink::draw::{self, Line, Node, Outline, Placed, Point, Sheet};
+use rink::formats;
 use rink::net::Net;
 use rink::plant::{Function, Item, Part, Plant, Row, Use};
 use rink::structure;
@@ -41,8 +42,10 @@ fn cases() -> Vec<Case> {
 
 fn random_case(seed: u64) -> Case {
     let mut random = Random::new(seed);
-    let file = match seed % 4 {
-        0 => lasting_diagram(&mut random, 64),
+    let file = match (seed % 200, seed % 8) {
+        (0, _) => crowded_diagram(&mut random),
+        (_, 0) => lasting_diagram(&mut random, 64),
+        (_, 4) => lasting_trigger_diagram(&mut random, 64),
         _ => diagram(&mut random),
     };
     let mut plant = Plant::read(&file).expect("a generated file is accepted");
@@ -115,6 +118,7 @@ fn extreme(said: &str, parts: Vec<Part>) -> Case {
     let items = (0..16).map(|number| Item {
         name: format!("item-{number}"),
         count: number * 4_000,
+        trigger: false,
     });
     Case {
         said: said.to_string(),
@@ -124,6 +128,49 @@ fn extreme(said: &str, parts: Vec<Part>) -> Case {
             rows: rows.collect(),
         },
     }
+}
+
+/// The same, its items triggers.
+fn triggered(case: Case) -> Case {
+    let mut plant = case.plant;
+    plant.items.iter_mut().for_each(|item| item.trigger = true);
+    Case {
+        said: format!("{}, of triggers", case.said),
+        plant,
+    }
+}
+
+/// A FUNCTION that takes and gives these items.
+fn using(takes: &[u16], gives: &[u16]) -> Part {
+    let uses = (0..16).map(|item| Use {
+        item,
+        take: u16::from(takes.contains(&item)),
+        give: u16::from(gives.contains(&item)),
+    });
+    function(uses.filter(|used| used.take + used.give > 0).collect())
+}
+
+/// Plants of triggers: the longest net of all, and copies of all numbers.
+fn trigger_extremes() -> Vec<Case> {
+    use Part::{And, Branch, EndAnd};
+    let all: Vec<u16> = (0..16).collect();
+    let hall = vec![
+        And,
+        Branch,
+        using(&[], &[0, 1, 2]),
+        Branch,
+        using(&[0, 1], &[1]),
+        Branch,
+        using(&[0], &[]),
+        EndAnd,
+    ];
+    let plants = [
+        extreme("everyone takes and gives all", vec![using(&all, &all); 63]),
+        extreme("two, one and no receiver", hall),
+        extreme("given to none", vec![using(&[], &all)]),
+        extreme("taken, never given", vec![using(&all, &[]); 3]),
+    ];
+    plants.into_iter().map(triggered).collect()
 }
 
 fn extremes() -> Vec<Case> {
@@ -223,6 +270,7 @@ fn extremes() -> Vec<Case> {
         extreme("empty bodies and branches", empty.concat()),
         extreme("16 uses", vec![function(uses.collect()), plain()]),
     ];
+    all.extend(trigger_extremes());
     all.extend(all.iter().map(widely_named).collect::<Vec<Case>>());
     all
 }
@@ -554,36 +602,89 @@ fn diagrams_flow_as_the_rows_say() {
     }
 }
 
-/// An arc as the drawing and the net have it: take or give, transition, place, weight.
-type DrawnArc = (String, String, String, String);
+/// Items are round and triggers pointed, each at every block that uses it and once in the list.
+#[test]
+fn triggers_are_told_apart() {
+    for case in cases() {
+        let sheet = draw::diagram_sheet(&case.plant);
+        let frames = sheet.groups.iter().flat_map(|group| &group.frames);
+        let outlines: Vec<Outline> = frames.map(|frame| frame.outline).collect();
+        let drawn = |outline| outlines.iter().filter(|other| **other == outline).count();
+        let uses = case.plant.rows.iter().flat_map(|row| match &row.part {
+            Part::Function(function) => function.uses.as_slice(),
+            _ => &[],
+        });
+        let uses = uses.map(|used| &case.plant.items[usize::from(used.item)]);
+        let signs: Vec<&Item> = uses.chain(&case.plant.items).collect();
+        let triggers = signs.iter().filter(|item| item.trigger).count();
+        assert_eq!(drawn(Outline::Flag), triggers, "{}", case.said());
+        assert_eq!(
+            drawn(Outline::Pill),
+            signs.len() - triggers,
+            "{}",
+            case.said()
+        );
+    }
+}
 
+/// Other programs know places and transitions by their names: each is said once.
+#[test]
+fn other_formats_name_all_once() {
+    for case in cases() {
+        let net = case.net();
+        let (dot, tina) = (
+            formats::dot(&case.plant, &net),
+            formats::tina(&case.plant, &net),
+        );
+        let used = (0..net.marks.len()).filter(|place| net.used(*place));
+        let nodes = used.map(|place| format!("p{place}"));
+        let transitions = (0..net.transitions.len()).map(|number| format!("t{number}"));
+        let mut nodes: Vec<String> = nodes.chain(transitions).collect();
+        nodes.sort();
+        let first = |line: &str, before: &str| {
+            let rest = line.trim_start().strip_prefix(before)?;
+            Some(rest.split(' ').next()?.to_string())
+        };
+        let shaped = dot.lines().filter(|line| line.contains("[shape="));
+        let mut said: Vec<String> = shaped.filter_map(|line| first(line, "")).collect();
+        said.sort();
+        assert_eq!(said, nodes, "{}", case.said());
+        let told = tina.lines();
+        let told = told.filter_map(|line| first(line, "pl ").or(first(line, "tr ")));
+        let mut told: Vec<String> = told.collect();
+        told.sort();
+        assert_eq!(told, nodes, "{}", case.said());
+    }
+}
+
+/// An arc as the drawing and the net have it: whether it gives, transition, place, weight.
+type DrawnArc = (bool, u16, u16, u16);
+
+/// The arcs of the lines; one to all copies of a trigger stands for an arc to each.
 fn drawn_arcs(found: &[Attributes]) -> Vec<DrawnArc> {
-    let arcs = found.iter().filter_map(|element| {
-        Some((
-            element.get("data-arc")?.clone(),
-            element.get("data-transition")?.clone(),
-            element.get("data-place")?.clone(),
-            element.get("data-weight")?.clone(),
-        ))
-    });
-    let mut arcs: Vec<DrawnArc> = arcs.collect();
+    let number = |text: &str| -> u16 { text.parse().expect("a number") };
+    let mut arcs = Vec::new();
+    for element in found {
+        let Some(kind) = element.get("data-arc") else {
+            continue;
+        };
+        let places = element["data-place"].as_str();
+        let (first, last) = places.split_once("..").unwrap_or((places, places));
+        let transition = number(&element["data-transition"]);
+        let weight = number(&element["data-weight"]);
+        let places = number(first)..=number(last);
+        arcs.extend(places.map(|place| (kind == "give", transition, place, weight)));
+    }
     arcs.sort();
     arcs
 }
 
 fn net_arcs(net: &Net) -> Vec<DrawnArc> {
     let mut arcs = Vec::new();
-    for (number, transition) in net.transitions.iter().enumerate() {
-        let number = number.to_string();
-        for (kind, of_kind) in [("take", &transition.takes), ("give", &transition.gives)] {
-            arcs.extend(of_kind.iter().map(|arc| {
-                (
-                    kind.to_string(),
-                    number.clone(),
-                    arc.place.to_string(),
-                    arc.weight.to_string(),
-                )
-            }));
+    for (number, transition) in (0..).zip(&net.transitions) {
+        for (gives, of_kind) in [(false, &transition.takes), (true, &transition.gives)] {
+            let of_kind = of_kind.iter();
+            arcs.extend(of_kind.map(|arc| (gives, number, arc.place, arc.weight)));
         }
     }
     arcs.sort();
@@ -600,7 +701,8 @@ fn nets_are_drawn_whole() {
         let places = (0..net.marks.len()).filter(|place| net.used(*place));
         let nodes = once(transitions.chain(places.map(|place| format!("p{place}"))));
         assert_eq!(counted(&found, "data-node"), nodes, "{}", case.said());
-        assert_eq!(drawn_arcs(&found), net_arcs(&net), "{}", case.said());
+        let same = drawn_arcs(&found) == net_arcs(&net);
+        assert!(same, "other arcs: {}", case.said());
         let clears = net
             .transitions
             .iter()

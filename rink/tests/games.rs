@@ -1,8 +1,8 @@
 //! Games of both bus ends: lessons with their stored output, random games, the terminal on piped input, scripts that are wrong.
 
 use effbd::{Move, STEP, WAIT};
-use model::generate::{diagram, Random};
-use rink::plant::{Function, Item, Part, Plant, Row, Use};
+use model::generate::{crowded_diagram, diagram, lasting_trigger_diagram, Random};
+use rink::plant::{Count, Function, Item, Part, Plant, Row, Use};
 use rink::play::{parse, screen, scripted, terminal, Command, Game, Outcome, Then, Which};
 
 const STATION: u16 = 7;
@@ -56,10 +56,12 @@ fn row(part: Part, name: &str) -> Row {
     Row { part, name }
 }
 
+/// A name that ends in `!` is a trigger's.
 fn game(items: &[(&str, u16)], rows: Vec<Row>) -> Game {
     let items = items.iter().map(|&(name, count)| Item {
-        name: name.to_string(),
+        name: name.trim_end_matches('!').to_string(),
         count,
+        trigger: name.ends_with('!'),
     });
     let plant = Plant {
         title: None,
@@ -87,6 +89,20 @@ fn feeding() -> Game {
             row(Part::Branch, "by-brine"),
             function("feed", 1, 3, &[(1, 0, 1)]),
             row(Part::EndOr, ""),
+            row(Part::End, ""),
+        ],
+    )
+}
+
+/// A trigger that three rows take, two of them of one name, one that nobody takes, and a plain item.
+fn ordered() -> Game {
+    game(
+        &[("door!", 65_534), ("oil", 1), ("bell!", 3)],
+        vec![
+            function("watch", 0, 0, &[(0, 0, 1), (2, 0, 1)]),
+            function("fan", 0, 0, &[(0, 1, 1)]),
+            function("fan", 0, 0, &[(0, 1, 0), (1, 2, 0)]),
+            function("pump", 0, 0, &[(0, 1, 0)]),
             row(Part::End, ""),
         ],
     )
@@ -133,6 +149,60 @@ fn every_refusal_of_play() {
     }
 }
 
+/// The shipped plant with a trigger, by its names.
+#[test]
+fn an_order_to_everyone() {
+    let text = include_str!("../../examples/door-open.plant");
+    let (file, plant) = rink::text::make(text).expect("an accepted example");
+    let game = Game::new(plant, file, STATION).expect("an accepted example");
+    let script = include_str!("games/door.script");
+    let stored = include_str!("games/door.txt");
+    plays_as_stored(game, script, "door.txt", stored);
+}
+
+/// What a give reaches, and the copy that is full, are told by the names of the copies.
+#[test]
+fn copies_in_words() {
+    let script = "step 0\nstep 0\nstep 1\nstep 1\nexpect refused 25\nexpect count door@1 65534\n";
+    let printed = scripted(ordered(), script).expect("a right script");
+    let printed = printed.replace("\n    ", " ");
+    for words in [
+        "door@1 65534 -> 65535; door@2 65534 -> 65535; door@pump 65534 -> 65535\n",
+        "oil 1, door@1 65535, door@2 65535, door@pump 65535",
+        "starts; door@1 65535 -> 65534\n",
+        // Its own copy has room again, the others do not.
+        "fan (row 1) cannot end: it gives 1 to door@2, which has 65535 and holds at most 65535",
+    ] {
+        assert!(printed.contains(words), "no {words:?} in\n{printed}");
+    }
+    assert!(!printed.contains("bell"), "{printed}");
+}
+
+/// Of many copies the first are shown, and how many there are besides.
+#[test]
+fn many_copies() {
+    let file = model::examples::longest_net();
+    let new = || {
+        let plant = Plant::read(&file).expect("an accepted file");
+        Game::new(plant, file.clone(), STATION).expect("an accepted file")
+    };
+    let lines = screen(&new(), false);
+    assert!(lines.len() < 60, "{} lines", lines.len());
+    let printed = lines.join("\n");
+    assert_eq!(
+        printed.matches("and 1000 counts of triggers").count(),
+        2,
+        "{printed}"
+    );
+    let lines = screen(&new(), true);
+    assert!(lines.len() > 1_000, "{} lines", lines.len());
+    let printed =
+        scripted(new(), "1\nwait 1\n1\ndeliver all\nexpect agree").expect("a right script");
+    fits(&printed);
+    assert!(printed.lines().count() < 80, "{printed}");
+    assert!(printed.contains("1000 more counts"), "{printed}");
+}
+
 /// A random game's seed and file, printed where it fails.
 struct Case {
     seed: u64,
@@ -177,6 +247,7 @@ fn line(random: &mut Random, game: &Game) -> String {
         27 => random
             .pick(&["show", "all", "moves", "log", "help"], "")
             .to_string(),
+        28 if random.chance(50) => random_count(random, game),
         28 => random
             .pick(&["expect agree", "expect taken", "say so", "# so"], "")
             .to_string(),
@@ -187,6 +258,40 @@ fn line(random: &mut Random, game: &Game) -> String {
             .pick(&["", "step", "wait x", "Quit!", "deliver deliver"], "")
             .to_string(),
     }
+}
+
+/// The value of a count, or of none.
+fn random_count(random: &mut Random, game: &Game) -> String {
+    let counts: Vec<Count> = game.plant().counts().collect();
+    let at = random.below(counts.len() + 1);
+    counts
+        .get(at)
+        .map_or("expect count nothing 0".to_string(), |count| {
+            let (name, value) = (
+                game.plant().count_name(*count),
+                game.diagram_state().count(*count),
+            );
+            format!("expect count {name} {value}")
+        })
+}
+
+/// That the copies' words are those of the model, in the panel's state and the controller's.
+fn copies_stand_as_the_model_says(game: &Game, file: &[u8]) {
+    let diagram = model::diagram::parse(file).expect("an accepted file");
+    let (panel, net) = (game.diagram_state(), game.net_state());
+    let mut counts = 0;
+    for count in game.plant().counts() {
+        let word = match count {
+            Count::Item(item) => diagram.item_word(item),
+            Count::Copy { item, row } => diagram.taken_word(item, row),
+        };
+        assert_eq!(panel.count(count), panel.words[word]);
+        let home = rink::net::home(game.plant(), word);
+        assert_eq!(home, rink::net::Home::Count(count));
+        assert!(game.behind() > 0 || net.mark(word) == panel.count(count));
+        counts += 1;
+    }
+    assert_eq!(3 * diagram.rows.len() + counts, diagram.state_length());
 }
 
 /// That the ends agree just where the model's image says so, and always where the controller is not behind.
@@ -250,10 +355,14 @@ fn enabled_where_covered(game: &Game) {
 
 #[test]
 fn random_games() {
-    let mut moves = 0;
+    let (mut moves, mut of_copies) = (0, 0);
     for seed in 0..400 {
         let mut random = Random::new(seed);
-        let file = diagram(&mut random);
+        let file = match (seed % 80, seed % 8) {
+            (0, _) => crowded_diagram(&mut random),
+            (_, 0..=2) => lasting_trigger_diagram(&mut random, 24),
+            _ => diagram(&mut random),
+        };
         let mut case = Case {
             seed,
             file: file.clone(),
@@ -273,10 +382,14 @@ fn random_games() {
             agrees_as_the_model_says(&game, &file);
             enabled_where_covered(&game);
         }
+        copies_stand_as_the_model_says(&game, &file);
         lists_what_the_model_accepts(&game, &file);
         fits(&screen(&game, false).join("\n"));
         fits(&screen(&game, true).join("\n"));
         moves += game.sent_count();
+        if game.plant().counts().any(Count::is_copy) {
+            of_copies += game.sent_count();
+        }
 
         // The same as a lesson: what was understood and as expected is no fault.
         let printed = scripted(new(), &case.lines.join("\n")).expect("a right script");
@@ -290,6 +403,7 @@ fn random_games() {
         agrees_as_the_model_says(&game, &file);
     }
     assert!(moves > 4_000, "random games that hardly move: {moves}");
+    assert!(of_copies > 1_000, "and hardly with copies: {of_copies}");
 }
 
 /// What the terminal prints for this input.
@@ -494,6 +608,42 @@ fn wrong_scripts() {
         assert_eq!((fault.line, fault.column), (1, 6));
         assert!(fault.words.contains("is no time"), "{fault}");
     }
+}
+
+/// A trigger's count is asked for a row that takes it.
+#[test]
+fn wrong_counts() {
+    for (count, words) in [
+        (
+            "door 1",
+            "trigger `door` has a count for each row that takes it: say which, such as door@1",
+        ),
+        ("bell 3", "no row takes trigger `bell`: it has no count"),
+        ("oil@fan 1", "`oil` is no trigger: it has one count"),
+        ("dor@fan 1", "no item, or more than one, is called `dor`"),
+        ("door@watch 1", "no row that takes door is called `watch`"),
+        ("door@0 1", "no row that takes door is called `0`"),
+        ("door@ 1", "no row that takes door is called ``"),
+        (
+            "door@fan 1",
+            "rows 1 and 2 are called `fan`: say the number",
+        ),
+        ("bell@pump 1", "no row that takes bell is called `pump`"),
+    ] {
+        let script = format!("expect count {count}");
+        let fault = scripted(ordered(), &script).expect_err(count);
+        let found = (fault.line, fault.column, fault.words.as_str());
+        assert_eq!(found, (1, 14, words), "{script}");
+    }
+    let fault = scripted(ordered(), "expect count door@pump x").expect_err("no number");
+    assert_eq!(
+        (fault.column, fault.words.as_str()),
+        (24, "`x` is no count")
+    );
+    let fault = scripted(ordered(), "expect count door@2 1").expect_err("another");
+    assert_eq!(fault.words, "door@2 has 65534, not 1");
+    let right = "expect count \"Door@Pump\" 65534\nexpect count door@1 65534\nexpect count oil 1";
+    scripted(ordered(), right).expect("a right script");
 }
 
 #[test]

@@ -1,6 +1,9 @@
 //! Texts and diagram files: what `show` writes `make` gives back, and every wrong text is told where and why.
 
-use model::generate::{damaged_diagram, diagram, diagram_up_to, lasting_diagram, Random};
+use model::generate::{
+    crowded_diagram, damaged_diagram, diagram, diagram_up_to, lasting_diagram,
+    lasting_trigger_diagram, Random,
+};
 use rink::plant::{Plant, Row};
 use rink::text::{self, Fault, Place, Style};
 
@@ -9,10 +12,12 @@ const ROUND_TRIPS: usize = 10_000;
 /// A random diagram file that the proved reader accepts.
 fn accepted_file(random: &mut Random) -> Vec<u8> {
     loop {
-        let file = match random.below(4) {
-            0 => lasting_diagram(random, 64),
-            1 => diagram_up_to(random, 64),
-            2 => damaged_diagram(random),
+        let file = match random.below(50) {
+            0 => crowded_diagram(random),
+            1..=9 => lasting_diagram(random, 64),
+            10..=19 => lasting_trigger_diagram(random, 64),
+            20..=29 => diagram_up_to(random, 64),
+            30..=39 => damaged_diagram(random),
             _ => diagram(random),
         };
         if effbd::read_diagram(&file).is_ok() {
@@ -48,10 +53,12 @@ fn renamed(mut plant: Plant, random: &mut Random) -> Plant {
 /// `make` after `show` gives the same bytes, with made-up names and with any others, and the same names.
 #[test]
 fn shown_and_made_again() {
+    let mut with_triggers = 0;
     for seed in 0..ROUND_TRIPS as u64 {
         let random = &mut Random::new(seed);
         let file = accepted_file(random);
         let plant = Plant::read(&file).expect("accepted");
+        with_triggers += plant.triggers().count().min(1);
         let named = renamed(plant.clone(), random);
         for plant in [plant, named] {
             let style = Style {
@@ -67,6 +74,26 @@ fn shown_and_made_again() {
             );
         }
     }
+    assert!(
+        with_triggers > ROUND_TRIPS / 5,
+        "{with_triggers} with triggers"
+    );
+}
+
+/// What a row takes a trigger from has a name of its own, made up or not.
+#[test]
+fn counts_have_different_names() {
+    for seed in 0..1_000 {
+        let random = &mut Random::new(seed);
+        let plant = Plant::read(&accepted_file(random)).expect("accepted");
+        let named = renamed(plant.clone(), random);
+        for plant in [plant, named] {
+            let names = plant.counts().map(|count| plant.count_name(count));
+            let mut names: Vec<String> = names.collect();
+            names.sort();
+            assert!(names.windows(2).all(|two| two[0] != two[1]), "seed {seed}");
+        }
+    }
 }
 
 /// A file that is refused has no text: the refusal is the proved reader's.
@@ -79,7 +106,7 @@ fn refused_files_are_not_shown() {
         let read = Plant::read(&file);
         assert_eq!(read.as_ref().err(), answer.as_ref().err(), "seed {seed}");
         let Err(refusal) = answer else { continue };
-        let found = rink::refused::find(&file, refusal, |row| format!("row {row}"));
+        let found = rink::refused::find(&file, refusal, rink::refused::numbered);
         assert!(found.offset <= file.len(), "seed {seed}, {found:?}");
         let number = format!("refusal {}", refusal.number);
         assert!(found.words().contains(&number), "seed {seed}, {found:?}");
@@ -91,9 +118,10 @@ fn refused_files_are_not_shown() {
 /// Any bytes are made or told where they are wrong, inside the text or right behind it.
 #[test]
 fn any_text_is_answered() {
-    const WORDS: [&str; 24] = [
+    const WORDS: [&str; 26] = [
         "plant",
         "item",
+        "trigger",
         "function",
         "and",
         "or",
@@ -105,6 +133,7 @@ fn any_text_is_answered() {
         "take",
         "give",
         "oil",
+        "door",
         "3",
         "20..50",
         "2.0s..5.0s",
@@ -164,6 +193,46 @@ fn wrong_words() {
     wrong("item oil 3\nitem oil 4\nend\n", 2, 6, "`oil` already");
     wrong("item oil 3 4\nend\n", 1, 12, "`4` is too much");
     wrong("end\nitem oil 3\n", 2, 1, "before the first row");
+    wrong("trigger\nend\n", 1, 8, "missing: the trigger's name");
+    wrong(
+        "trigger door\nend\n",
+        1,
+        13,
+        "the trigger's count, such as `trigger door 0`",
+    );
+    wrong("trigger door -1\nend\n", 1, 14, "`-1` is no number");
+    wrong("trigger 1 door\nend\n", 1, 9, "begins with a letter");
+    wrong("trigger d@r 1\nend\n", 1, 9, "`@` in a name");
+    wrong(
+        "trigger door 0 1\nend\n",
+        1,
+        16,
+        "`1` is too much on this line",
+    );
+    wrong(
+        "trigger oil 0\nitem oil 4\nend\n",
+        2,
+        6,
+        "there is a trigger `oil` already",
+    );
+    wrong(
+        "item oil 4\ntrigger oil 0\nend\n",
+        2,
+        9,
+        "there is an item `oil` already",
+    );
+    wrong(
+        "end\n trigger door 0\n",
+        2,
+        2,
+        "triggers stand before the first row",
+    );
+    wrong(
+        "trigger door 0\nitem oil 1\nfunction f 1..2 take dor 1\nend\n",
+        3,
+        22,
+        "the items are door, oil",
+    );
     wrong("plant\nend\n", 1, 6, "missing: the plant's name");
     wrong("plant a\nplant b\nend\n", 2, 1, "already");
     wrong(
@@ -260,7 +329,7 @@ fn refused_texts() {
         "item i 0\nitem oil 1\nfunction f 1..2 take oil 0\nend\n",
         3,
         1,
-        "takes 0 and gives 0 of item 1",
+        "takes 0 and gives 0 of item `oil`: one of them is 1 or more (refusal 5",
     );
     wrong("repeat 1\nend repeat\nend\n", 1, 1, "2 to 255 are allowed");
     wrong(
@@ -291,6 +360,42 @@ fn refused_texts() {
     );
     let loops = format!("{}{}end\n", "loop\n".repeat(13), "end loop\n".repeat(13));
     wrong(&loops, 13, 1, "13th construct");
+}
+
+/// A trigger's take and give are 1 at most; the line and the use are told, behind whatever else is wrong with the record.
+#[test]
+fn refused_triggers() {
+    let uses = |uses: &str| format!("item oil 9\ntrigger door 0\nfunction f 1..2 {uses}\nend\n");
+    for (used, said) in [
+        ("take door 2", "it takes 2 of trigger `door`"),
+        ("give door 65535", "it gives 65535 of trigger `door`"),
+        ("give door 2 take door 1", "it gives 2 of trigger `door`"),
+        ("take door 3 give door 2", "it takes 3 of trigger `door`"),
+        ("give door 2 take oil 7", "it gives 2 of trigger `door`"),
+    ] {
+        let words = format!("{said}: of a trigger 1 is the most (refusal 43, ");
+        wrong(&uses(used), 3, 1, &words);
+    }
+    wrong(
+        &uses("take oil 0 give door 2"),
+        3,
+        1,
+        "of item `oil`: one of them is 1 or more (refusal 5",
+    );
+    let made = text::make(&uses("take oil 9 take door 1 give door 1"));
+    assert!(made.is_ok());
+}
+
+/// Items and triggers in any order, told apart.
+#[test]
+fn shown_triggers() {
+    let text = "trigger door 2\nitem oil 3\ntrigger bell 65535\n\nfunction f 1..2 take door 1 give bell 1\nend\n";
+    let (file, plant) = text::make(text).expect("made");
+    assert_eq!(text::show(&plant, Style::default()), text);
+    assert_eq!(file[10..16], [6, 0, 3, 0, 2, 0]);
+    let made_up = Plant::read(&file).expect("accepted");
+    let shown = text::show(&made_up, Style::default());
+    assert!(shown.starts_with("trigger trigger-0 2\nitem item-1 3\ntrigger trigger-2 65535\n"));
 }
 
 /// Ticks and seconds, one time for both, free indentation, comments and other line ends say the same.

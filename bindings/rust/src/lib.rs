@@ -4,8 +4,9 @@
 //! the table of documents 01 and 02. A refusal alters nothing that was lent. What each call promises is proved in the Rattle crate that has it
 //! (`crates/*/src`); this file only passes lists on as pointer and number of elements.
 //!
-//! A file is looked at first (refusals 1 to 9), then a state (20), the move (21 to 26), the leader's count (27), the area (10). The follower
-//! looks at the telegram (30 to 33) before all of these. Of a log, after the file: its length (40), the row (41), its moves (42).
+//! A file is looked at first (refusals 1 to 9 and, right after 5 at the same record, 43), then a state (20), the move (21 to 26), the leader's
+//! count (27), the area (10). The follower looks at the telegram (30 to 33) before all of these. Of a log, after the file: its length (40), the
+//! row (41), its moves (42).
 //!
 //! Example A of document 01, one move over the bus:
 //!
@@ -46,16 +47,18 @@ pub const MOST_ROWS: usize = 64;
 /// Items of a diagram, at most.
 pub const MOST_ITEMS: usize = 16;
 /// Places of a net, at most.
-pub const MOST_PLACES: usize = 208;
+pub const MOST_PLACES: usize = 1_216;
 /// Transitions of a net, at most.
 pub const MOST_TRANSITIONS: usize = 128;
-/// Words of a diagram's state, at most: 3 for each row, 1 for each item.
-pub const MOST_STATE_WORDS: usize = 3 * MOST_ROWS + MOST_ITEMS;
+/// Words of a diagram's state, at most: 3 for each row, 1 for each item, 1 for each copy of a trigger. All but END may take every trigger.
+pub const MOST_STATE_WORDS: usize = 3 * MOST_ROWS + MOST_ITEMS + MOST_ITEMS * (MOST_ROWS - 1);
 /// Words of a net's state, at most: 1 for each place, 1 for each transition.
 pub const MOST_NET_STATE_WORDS: usize = MOST_PLACES + MOST_TRANSITIONS;
 /// Bytes that have room for the net of any diagram.
-pub const NET_ROOM: usize = 65_536;
-/// Bytes that have room for the annex text of any file.
+pub const NET_ROOM: usize = 551_304;
+/// Bytes that the annex program lends for the net.
+pub const ANNEX_NET_ROOM: usize = 65_536;
+/// Bytes that have room for the annex text of any file, where [`ANNEX_NET_ROOM`] bytes are lent for the net.
 pub const ANNEX_ROOM: usize = 393_216;
 /// Bytes of a telegram.
 pub const TELEGRAM_LENGTH: usize = 14;
@@ -179,6 +182,7 @@ refusals! {
     40 LOG_OFF "log too long or not whole"
     41 NOT_FUNCTION "row is no FUNCTION"
     42 MOVE_REFUSED "a move of the log refused"
+    43 TRIGGER_OFF "trigger's take or give above 1"
 }
 
 impl fmt::Display for Refusal {
@@ -278,7 +282,8 @@ fn answer(packed: u64) -> Answer {
     }
 }
 
-/// A diagram file. Accepted: the number of words of its state, 3N + M.
+/// A diagram file. Accepted: the number of words of its state, 3 for each row, 1 for each item, 1 for each copy of a trigger: there is one
+/// for each FUNCTION row that takes it.
 pub fn read_diagram(file: &[u8]) -> Answer {
     // SAFETY: the pointer and the number of elements are those of a live slice; the call keeps neither.
     answer(unsafe { proved::effbd_read(file.as_ptr(), file.len()) })
@@ -341,7 +346,8 @@ pub fn move_diagram(file: &[u8], state: &mut [u16], made: Move) -> Answer {
     step_diagram(file, state, made.code(), made.argument())
 }
 
-/// The net of a diagram, into the first bytes of an area; those beyond the net keep their values. Accepted: the net's length.
+/// The net of a diagram, into the first bytes of an area; those beyond the net keep their values. Accepted: the net's length, at most
+/// [`NET_ROOM`].
 ///
 /// [`refusal::AREA_SHORT`] returns the bytes needed:
 ///
@@ -366,8 +372,8 @@ pub fn translate(file: &[u8], area: &mut [u8]) -> Answer {
 /// their values. The result is the length of the text. Where that is more than `text` has, the text's first bytes fill it.
 ///
 /// Never refuses: where [`translate`] would refuse the file, or the net's area with [`refusal::AREA_SHORT`], the text is the one line
-/// `refused NUMBER VALUE` and `net` keeps its bytes. The annex program lends [`NET_ROOM`] bytes for the net; [`ANNEX_ROOM`] bytes hold every
-/// text.
+/// `refused NUMBER VALUE` and `net` keeps its bytes. The annex program lends [`ANNEX_NET_ROOM`] bytes for the net; [`ANNEX_ROOM`]
+/// bytes then hold every text.
 ///
 /// ```
 /// let end_alone = [10, 0, 1, 0, 1, 0, 1, 0, 0, 0, 4, 0, 27, 0];
@@ -396,7 +402,8 @@ pub fn annex(file: &[u8], net: &mut [u8], text: &mut [u8]) -> usize {
     length as usize
 }
 
-/// The whole text that the annex program prints of a diagram file, as [`annex`] with room for every net and every text.
+/// The whole text that the annex program prints of a diagram file, as [`annex`] with [`ANNEX_NET_ROOM`] bytes for the net and room for every
+/// text.
 ///
 /// ```
 /// let file = [
@@ -420,7 +427,7 @@ pub fn annex(file: &[u8], net: &mut [u8], text: &mut [u8]) -> usize {
 /// assert_eq!(effbd::annex_text(&file[..33]), b"refused 1 30\n");
 /// ```
 pub fn annex_text(file: &[u8]) -> Vec<u8> {
-    let (mut net, mut text) = (vec![0; NET_ROOM], vec![0; ANNEX_ROOM]);
+    let (mut net, mut text) = (vec![0; ANNEX_NET_ROOM], vec![0; ANNEX_ROOM]);
     let length = annex(file, &mut net, &mut text);
     text.truncate(length);
     text

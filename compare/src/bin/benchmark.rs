@@ -1,4 +1,5 @@
-//! `benchmark`: the time of each proved function, of the model, and their ratio, at 5, 30 and 64 rows, and what one row more costs, in one run.
+//! `benchmark`: the time of each proved function, of the model, and their ratio, at 5, 30 and 64 rows, what one row more costs, and the same at
+//! plants with triggers, in one run; last, which ratio is the largest.
 //!
 //! Both are built for release and get the same inputs in the same order; states and areas are copied anew before each call, for both.
 //! At each size the calls go round plants of 960 rows in all, equally often: no single diagram's mix of rows decides the ratio, and the
@@ -6,19 +7,25 @@
 //!
 //! Logs are of 65,535 random accepted moves, steps and waits, of plants that go on for ever; their times are of one move. At 64 rows a move
 //! in the log stands beside a call that steps the diagram, on the same moves: the call reads the file and checks the state anew.
+//!
+//! `16 x 63` is the plant of 16 triggers and 63 FUNCTIONs that take and give each of them, so that each has 63 receivers: at most, by the
+//! limits. Its moves are starts, which take from copies, waits, and ends, which give to all copies, of rows from the first to the last. Its logs
+//! are of such moves too, in an LP, which leaves room for 61.
 
 use model::bus::Telegram;
-use model::diagram::{Diagram, MOST_ROWS};
-use model::diagram_step::WAIT;
-use model::generate::{accepted_log, diagram_up_to, lasting_diagram, Random};
-use model::history::net_of;
-use model::logs::{Log, Logged, MOST_MOVES};
+use model::diagram::{Diagram, MOST_ITEMS, MOST_ROWS};
+use model::diagram_step::{STEP, WAIT};
+use model::examples::{triggers, triggers_again};
+use model::generate::{accepted_log, lasting_diagram, plain_diagram_up_to, Random};
+use model::logs::{log, Log, Logged, MOST_MOVES};
+use model::translate::net_of;
+use std::fmt;
 use std::hint::black_box;
 use std::time::Instant;
 
 const STATION: u16 = 9;
-/// Words of the longest state: 208 places and 128 clocks.
-const STATE_ROOM: usize = 336;
+/// Words of the longest state: places and clocks of a net.
+const STATE_ROOM: usize = effbd::MOST_NET_STATE_WORDS;
 const ROWS: usize = 960;
 const MOVES: usize = 24;
 /// Turns round the plants in one round: each move of each plant is made ten times.
@@ -27,6 +34,39 @@ const ROUNDS: usize = 10;
 const SWEEPS: usize = 10;
 /// Logs of one size.
 const LOGS: usize = 4;
+/// Rows of a plant with triggers whose moves are made.
+const ROWS_MOVED: usize = MOVES / 3;
+/// Bytes of nets in one round on a plant with triggers, or all its moves once.
+const NET_BYTES: usize = 1_000_000;
+/// A round there may be long; as many sweeps come back to it.
+const TRIGGER_ROUNDS: usize = 3;
+
+/// The plants that a time is of.
+#[derive(Clone, Copy, PartialEq, Eq)]
+enum Size {
+    Rows(usize),
+    Triggers { triggers: usize, receivers: usize },
+}
+
+impl fmt::Display for Size {
+    fn fmt(&self, to: &mut fmt::Formatter<'_>) -> fmt::Result {
+        match self {
+            Size::Rows(rows) => write!(to, "{rows} rows"),
+            Size::Triggers {
+                triggers,
+                receivers,
+            } => write!(to, "{triggers} x {receivers}"),
+        }
+    }
+}
+
+/// Plants of one size, and how often they are called in one sweep.
+struct Course {
+    size: Size,
+    plants: Vec<Plant>,
+    calls: usize,
+    rounds: usize,
+}
 
 /// A diagram of just so many rows, its net, and accepted moves.
 struct Plant {
@@ -44,15 +84,59 @@ struct Move {
     argument: u16,
 }
 
-/// The plants of one size.
-fn plants(rows: usize) -> Vec<Plant> {
+/// The plants of one number of rows, without triggers.
+fn plain_course(rows: usize) -> Course {
     let mut random = Random::new(rows as u64);
     let mut plants = Vec::new();
     while plants.len() < ROWS / rows {
-        let file = diagram_up_to(&mut random, rows);
+        let file = plain_diagram_up_to(&mut random, rows);
         plants.extend(plant(&mut random, file, rows));
     }
-    plants
+    Course {
+        size: Size::Rows(rows),
+        calls: TURNS * plants.len(),
+        rounds: ROUNDS,
+        plants,
+    }
+}
+
+/// The plant of so many triggers and receivers.
+fn trigger_course(triggers: usize, receivers: usize) -> Course {
+    let plant = trigger_plant(triggers, receivers).expect("a plant whose moves are accepted");
+    let turns = (NET_BYTES / plant.net.len()).clamp(1, TURNS);
+    Course {
+        size: Size::Triggers {
+            triggers,
+            receivers,
+        },
+        calls: turns * plant.moves.len(),
+        rounds: TRIGGER_ROUNDS,
+        plants: vec![plant],
+    }
+}
+
+/// Its moves are start, wait and end of rows from the first to the last, as many as have room.
+fn trigger_plant(trigger_count: usize, receivers: usize) -> Option<Plant> {
+    let file = triggers(trigger_count, receivers);
+    let net = net_of(&file).ok()?;
+    let moved = receivers.min(ROWS_MOVED);
+    let rows_moved: Vec<usize> = (0..moved)
+        .map(|number| number * (receivers - 1) / (moved - 1))
+        .collect();
+    let mut state = vec![0; model::diagram::read(&file).ok()? as usize];
+    model::diagram_step::fresh(&file, &mut state).ok()?;
+    let mut moves = Vec::new();
+    for row in 0..receivers {
+        let step = (STEP, row as u16);
+        for (code, argument) in [step, (WAIT, 1), step] {
+            let before = state.clone();
+            model::diagram_step::step(&file, &mut state, code, argument).ok()?;
+            if rows_moved.contains(&row) {
+                moves.push(carried(&file, before, code, argument)?);
+            }
+        }
+    }
+    Some(Plant { file, net, moves })
 }
 
 /// The plant of a file that has just so many rows and enough accepted moves.
@@ -107,7 +191,10 @@ fn carried(file: &[u8], before: Vec<u16>, code: u16, argument: u16) -> Option<Mo
 /// The plant of a call and its move: the plants take turns, each with its moves in order.
 fn turn(plants: &[Plant], number: usize) -> (&Plant, &Move) {
     let plant = &plants[number % plants.len()];
-    (plant, &plant.moves[number / plants.len() % MOVES])
+    (
+        plant,
+        &plant.moves[number / plants.len() % plant.moves.len()],
+    )
 }
 
 /// The time of `calls` calls, in nanoseconds a call; the compiler must not leave a result out.
@@ -122,23 +209,28 @@ fn nanoseconds<T>(calls: usize, call: &mut impl FnMut(usize) -> T) -> f64 {
 /// The least times of one function at one size, in nanoseconds a call or a move.
 struct Times {
     name: &'static str,
-    rows: usize,
+    size: Size,
     proved: f64,
     model: f64,
+}
+
+impl Times {
+    fn ratio(&self) -> f64 {
+        self.proved / self.model
+    }
 }
 
 /// Times a function, `proved` and `model`, in calls that go round the plants.
 fn compare<P, M>(
     table: &mut Vec<Times>,
     name: &'static str,
-    rows: usize,
+    course: &Course,
     mut proved: impl FnMut(usize) -> P,
     mut model: impl FnMut(usize) -> M,
 ) {
-    let calls = TURNS * (ROWS / rows);
-    let proved = || nanoseconds(calls, &mut proved);
-    let model = || nanoseconds(calls, &mut model);
-    keep_least(table, name, rows, ROUNDS, proved, model);
+    let proved = || nanoseconds(course.calls, &mut proved);
+    let model = || nanoseconds(course.calls, &mut model);
+    keep_least(table, name, course.size, course.rounds, proved, model);
 }
 
 /// Takes the times of rounds and keeps the least of each. The rounds take turns, so that a machine that slows down slows both; each sweep
@@ -146,7 +238,7 @@ fn compare<P, M>(
 fn keep_least(
     table: &mut Vec<Times>,
     name: &'static str,
-    rows: usize,
+    size: Size,
     rounds: usize,
     mut proved: impl FnMut() -> f64,
     mut model: impl FnMut() -> f64,
@@ -158,7 +250,7 @@ fn keep_least(
     }
     match table
         .iter_mut()
-        .find(|line| line.name == name && line.rows == rows)
+        .find(|line| line.name == name && line.size == size)
     {
         Some(line) => {
             line.proved = line.proved.min(least.0);
@@ -166,7 +258,7 @@ fn keep_least(
         }
         None => table.push(Times {
             name,
-            rows,
+            size,
             proved: least.0,
             model: least.1,
         }),
@@ -174,28 +266,29 @@ fn keep_least(
 }
 
 /// Reading and translating.
-fn compare_files(table: &mut Vec<Times>, rows: usize, plants: &[Plant]) {
+fn compare_files(table: &mut Vec<Times>, course: &Course) {
+    let plants = &course.plants;
     let file = |number| black_box(&turn(plants, number).0.file);
     let net = |number| black_box(&turn(plants, number).0.net);
-    let mut areas = (vec![0; 65_536], vec![0; 65_536]);
+    let mut areas = (vec![0; effbd::NET_ROOM], vec![0; effbd::NET_ROOM]);
     compare(
         table,
         "read",
-        rows,
+        course,
         |number| effbd::read_diagram(file(number)),
         |number| model::diagram::read(file(number)),
     );
     compare(
         table,
         "read net",
-        rows,
+        course,
         |number| effbd::read_net(net(number)),
         |number| model::net::read(net(number)),
     );
     compare(
         table,
         "translate",
-        rows,
+        course,
         |number| effbd::translate(file(number), &mut areas.0),
         |number| model::translate::translate(file(number), &mut areas.1),
     );
@@ -209,12 +302,13 @@ fn lent<'a>(buffer: &'a mut [u16], before: &[u16]) -> &'a mut [u16] {
 }
 
 /// The diagram's step and the leader's call.
-fn compare_diagram(table: &mut Vec<Times>, rows: usize, plants: &[Plant]) {
+fn compare_diagram(table: &mut Vec<Times>, course: &Course) {
+    let plants = &course.plants;
     let mut states = ([0; STATE_ROOM], [0; STATE_ROOM]);
     compare(
         table,
         "diagram step",
-        rows,
+        course,
         |number| {
             let (plant, made) = turn(plants, number);
             let state = lent(&mut states.0, &made.before);
@@ -230,7 +324,7 @@ fn compare_diagram(table: &mut Vec<Times>, rows: usize, plants: &[Plant]) {
     compare(
         table,
         "offer",
-        rows,
+        course,
         |number| {
             let (plant, made) = turn(plants, number);
             let state = lent(&mut states.0, &made.before);
@@ -263,12 +357,13 @@ fn compare_diagram(table: &mut Vec<Times>, rows: usize, plants: &[Plant]) {
 }
 
 /// The net's step and the follower's call, on the same moves.
-fn compare_net(table: &mut Vec<Times>, rows: usize, plants: &[Plant]) {
+fn compare_net(table: &mut Vec<Times>, course: &Course) {
+    let plants = &course.plants;
     let mut states = ([0; STATE_ROOM], [0; STATE_ROOM]);
     compare(
         table,
         "net step",
-        rows,
+        course,
         |number| {
             let (plant, made) = turn(plants, number);
             let state = lent(&mut states.0, &made.image);
@@ -283,7 +378,7 @@ fn compare_net(table: &mut Vec<Times>, rows: usize, plants: &[Plant]) {
     compare(
         table,
         "take",
-        rows,
+        course,
         |number| {
             let (plant, made) = turn(plants, number);
             let state = lent(&mut states.0, &made.image);
@@ -306,15 +401,61 @@ struct LogPlant {
     row: u16,
 }
 
-/// The plants with logs of one size.
-fn log_plants(rows: usize) -> Vec<LogPlant> {
+/// Plants with logs of one size, and how often they are called in one sweep.
+struct LogCourse {
+    size: Size,
+    plants: Vec<LogPlant>,
+    rounds: usize,
+}
+
+/// The plants with logs of one number of rows, without triggers.
+fn plain_log_course(rows: usize) -> LogCourse {
     let mut random = Random::new(rows as u64);
     let mut plants = Vec::new();
     while plants.len() < LOGS {
         let file = lasting_diagram(&mut random, rows);
         plants.extend(log_plant(&mut random, file, rows));
     }
-    plants
+    LogCourse {
+        size: Size::Rows(rows),
+        plants,
+        rounds: ROUNDS,
+    }
+}
+
+/// The plant with a log of so many triggers and receivers.
+fn trigger_log_course(triggers: usize, receivers: usize) -> LogCourse {
+    let plant = trigger_log_plant(triggers, receivers).expect("a plant with a log");
+    LogCourse {
+        size: Size::Triggers {
+            triggers,
+            receivers,
+        },
+        plants: vec![plant],
+        rounds: TRIGGER_ROUNDS,
+    }
+}
+
+/// Its log goes round the LP: start, wait and end of each row, the first of which is asked.
+fn trigger_log_plant(triggers: usize, receivers: usize) -> Option<LogPlant> {
+    let file = triggers_again(triggers, receivers);
+    let close = receivers as u16 + 1;
+    let of_row = |row| [(STEP, row), (WAIT, 1), (STEP, row)];
+    let mut round = vec![(STEP, 0)];
+    round.extend((1..close).flat_map(of_row));
+    round.push((STEP, close));
+    let moves: Vec<_> = round.into_iter().cycle().take(MOST_MOVES).collect();
+    let log = log(&moves);
+    let fresh = model::diagram_step::fresh_state(&model::diagram::parse(&file).ok()?);
+    let moves = Log::read(&log).ok()?.moves().collect();
+    model::logs::log_starts(&file, &log, 1, &mut 0).ok()?;
+    Some(LogPlant {
+        file,
+        fresh,
+        log,
+        moves,
+        row: 1,
+    })
 }
 
 /// The plant of a file whose log moves as a plant does: no standstill, several FUNCTIONs, and neither steps nor waits few.
@@ -380,18 +521,18 @@ fn step_all(plant: &LogPlant, state: &mut [u16]) {
     }
 }
 
-fn compare_logs(table: &mut Vec<Times>, rows: usize, plants: &[LogPlant]) {
-    let proved = || nanoseconds_a_move(plants, log_starts);
-    let model = || nanoseconds_a_move(plants, model_log_starts);
-    keep_least(table, "log", rows, ROUNDS, proved, model);
+fn compare_logs(table: &mut Vec<Times>, course: &LogCourse) {
+    let proved = || nanoseconds_a_move(&course.plants, log_starts);
+    let model = || nanoseconds_a_move(&course.plants, model_log_starts);
+    keep_least(table, "log", course.size, course.rounds, proved, model);
 }
 
 /// A move in a log beside a step's call, both proved.
-fn compare_with_steps(table: &mut Vec<Times>, rows: usize, plants: &[LogPlant]) {
+fn compare_with_steps(table: &mut Vec<Times>, course: &LogCourse) {
     let mut state = [0; STATE_ROOM];
-    let in_log = || nanoseconds_a_move(plants, log_starts);
-    let by_steps = || nanoseconds_a_move(plants, |plant| step_all(plant, &mut state));
-    keep_least(table, "log", rows, 1, in_log, by_steps);
+    let in_log = || nanoseconds_a_move(&course.plants, log_starts);
+    let by_steps = || nanoseconds_a_move(&course.plants, |plant| step_all(plant, &mut state));
+    keep_least(table, "log", course.size, 1, in_log, by_steps);
 }
 
 /// One line for each function and size: two times and their ratio.
@@ -402,12 +543,12 @@ fn print_times([unit, first, second]: [&str; 3], table: &[Times]) {
     );
     for line in table {
         println!(
-            "{:<14} {:>4} rows {:>10.0} ns {:>10.0} ns {:>8.2}",
+            "{:<14} {:>9} {:>10.0} ns {:>10.0} ns {:>8.2}",
             line.name,
-            line.rows,
+            line.size.to_string(),
             line.proved,
             line.model,
-            line.proved / line.model
+            line.ratio()
         );
     }
 }
@@ -418,19 +559,22 @@ fn print_rows(table: &[Times]) {
         "{:<14} {:>9} {:>13} {:>13} {:>8}",
         "one row more", "", "proved", "model", "ratio"
     );
-    for line in table {
-        let next = table
+    for (number, line) in table.iter().enumerate() {
+        let next = table[number + 1..]
             .iter()
-            .find(|other| other.name == line.name && other.rows > line.rows);
-        if let Some(next) = next {
-            let rows = (next.rows - line.rows) as f64;
-            let proved = (next.proved - line.proved) / rows;
-            let model = (next.model - line.model) / rows;
+            .find(|other| other.name == line.name);
+        let (Some(next), Size::Rows(rows)) = (next, line.size) else {
+            continue;
+        };
+        if let Size::Rows(next_rows) = next.size {
+            let more = (next_rows - rows) as f64;
+            let proved = (next.proved - line.proved) / more;
+            let model = (next.model - line.model) / more;
             println!(
                 "{:<14} {:>2} to {:>2} {:>11.1} ns {:>10.1} ns {:>8.2}",
                 line.name,
-                line.rows,
-                next.rows,
+                rows,
+                next_rows,
                 proved,
                 model,
                 proved / model
@@ -439,22 +583,54 @@ fn print_rows(table: &[Times]) {
     }
 }
 
+/// The line with the largest ratio of all tables of functions.
+fn print_largest<'a>(lines: impl Iterator<Item = &'a Times>) {
+    let largest = lines.max_by(|one, other| one.ratio().total_cmp(&other.ratio()));
+    if let Some(line) = largest {
+        let ratio = line.ratio();
+        println!("largest ratio: {ratio:.2}, {} at {}", line.name, line.size);
+    }
+}
+
+/// Every function that is called with one plant.
+fn compare_calls(table: &mut Vec<Times>, course: &Course) {
+    compare_files(table, course);
+    compare_diagram(table, course);
+    compare_net(table, course);
+}
+
 fn main() {
-    let sizes = [5, 30, 64].map(|rows| (rows, plants(rows), log_plants(rows)));
+    let plain = [5, 30, MOST_ROWS].map(|rows| (plain_course(rows), plain_log_course(rows)));
+    let mut with_triggers = Vec::new();
+    for triggers in [4, MOST_ITEMS] {
+        for receivers in [5, 30, MOST_ROWS - 1] {
+            // The LP of a log takes two rows more.
+            let in_loop = receivers.min(MOST_ROWS - 3);
+            let logs = trigger_log_course(triggers, in_loop);
+            with_triggers.push((trigger_course(triggers, receivers), logs));
+        }
+    }
     let (mut calls, mut moves, mut steps) = (Vec::new(), Vec::new(), Vec::new());
+    let (mut trigger_calls, mut trigger_moves) = (Vec::new(), Vec::new());
     for _ in 0..SWEEPS {
-        for (rows, plants, log_plants) in &sizes {
-            compare_files(&mut calls, *rows, plants);
-            compare_diagram(&mut calls, *rows, plants);
-            compare_net(&mut calls, *rows, plants);
-            compare_logs(&mut moves, *rows, log_plants);
-            if *rows == MOST_ROWS {
-                compare_with_steps(&mut steps, *rows, log_plants);
+        for (course, logs) in &plain {
+            compare_calls(&mut calls, course);
+            compare_logs(&mut moves, logs);
+            if logs.size == Size::Rows(MOST_ROWS) {
+                compare_with_steps(&mut steps, logs);
             }
+        }
+        for (course, logs) in &with_triggers {
+            compare_calls(&mut trigger_calls, course);
+            compare_logs(&mut trigger_moves, logs);
         }
     }
     print_times(["a call", "proved", "model"], &calls);
     print_rows(&calls);
     print_times(["a move", "proved", "model"], &moves);
     print_times(["a move", "in the log", "step's call"], &steps);
+    print_times(["triggers, call", "proved", "model"], &trigger_calls);
+    print_times(["triggers, move", "proved", "model"], &trigger_moves);
+    let tables = [&calls, &moves, &trigger_calls, &trigger_moves];
+    print_largest(tables.into_iter().flatten());
 }

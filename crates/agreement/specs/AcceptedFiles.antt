@@ -1,6 +1,6 @@
 -- What an accepted diagram file gives: sizes, fields that fit, an accepted nesting.
 use Prim.Native.Nat.{ℕ, zero, suc, _-_, _/_, _≤_, _<_, zero-le}
-use mathlib.Core.Path.{_≡_, refl, sym, ap, subst}
+use mathlib.Core.Path.{_≡_, refl, ap, subst}
 use mathlib.Core.Logic.{_≢_}
 use mathlib.Core.Bool.{Bool, true, false, not, cond, _&&_, _||_}
 use mathlib.Core.List.{List, [], _∷_}
@@ -9,13 +9,16 @@ use lib.ListN.{length, getD, drop}
 use lib.Dec.{leb, ltb, eqb}
 use borrow.Author.Tests.{ltb-false, leb-true, eqb-true, eqb-false, lt-ltb}
 use Rattle.effbd.specs.Answers.{accepted, refused}
-use Rattle.effbd.specs.Diagrams.{Diagram, Kind, Row, Use, and-close, and-open, branch, countTotal, end, function, headFault, isKind, it-close, it-open, itemAt, itemFault, kind, loop-exit, lp-close, lp-open, or-close, or-open, plain, row, rowAt, rowCount, rowFault, rowFine, rowRight, usesAt}
+use Rattle.effbd.specs.Diagrams.{Diagram, Item, Kind, Row, Use, and-close, and-open, branch, end, function, headFault, isKind, it-close, it-open, item, itemAt, itemFault, itemTotal, kind, loop-exit, lp-close, lp-open, noItem, or-close, or-open, plain, row, rowAt, rowCount, rowFault, rowFaultIn, rowFine, rowRight, triggersFine, usesAt}
 use Rattle.effbd.specs.Nesting.{afterItems, afterRows, exitMisplaced, firstFaulty, follows, inAndOr, innermostIs, nested, nestingBroken, nestingFault, readDiagram, someOpen, stack, standsAs, thirteenthOpen}
 use Rattle.effbd.specs.Records.{Got, areBytes, kindAt, lengthAt, lengthOf, readMany, word}
+use Rattle.effbd.specs.Ranges.{allBelow, howMany}
 use Rattle.ranges.specs.Tests.{and-intro, and-left, and-right, clash, decide, not-false, not-true, or-split}
-use Rattle.ranges.specs.RangeLaws.{all-intro, least-found}
+use Rattle.ranges.specs.RangeLaws.{all-intro, least-found, many-le}
+use Rattle.ranges.specs.Outcomes.{else-none}
 use Rattle.agreement.specs.ByteLaws.{Clean, adding-inv, bind-inv, bytes-drop, never, next-inv, none-clean, word-fits}
 use Rattle.agreement.specs.Nested.{mayStand, wellNested}
+use Rattle.agreement.specs.Basics.{same-eq}
 
 -- every element of a list
 abbrev pub AllOf : {A : Type 0} → (A → Type 0) → List A → Type 0
@@ -44,11 +47,12 @@ many-read {A} Q fault value total (suc n) l g h b e =
     subst (Read A Q (suc n)) (w .2) (record { each = (h l b (a .0), r .each); many = ap suc (r .many); rest = r .rest })
 
 -- a row as the file has it: its fields are words
-pub record RowOk (M : ℕ) (r : Row) : Type 0 where
+pub record RowOk (items : List Item) (r : Row) : Type 0 where
   pub first : r .first ≤ 65535
   pub second : r .second ≤ 65535
   pub uses : AllOf (λ (u : Use). (u .take ≤ 65535) × (u .give ≤ 65535)) (r .uses)
-  pub fine : rowFine M r ≡ true
+  pub fine : rowFine (length items) r ≡ true
+  pub triggers : triggersFine items (r .uses) ≡ true
 
 uses-fit : (u : ℕ) (l : List ℕ) → areBytes l ≡ true → AllOf (λ (u : Use). (u .take ≤ 65535) × (u .give ≤ 65535)) (usesAt u l)
 unfolding usesAt
@@ -59,26 +63,35 @@ cond-fits : (b : Bool) (x : ℕ) → x ≤ 65535 → cond b x 0 ≤ 65535
 cond-fits true x h = h
 cond-fits false x h = zero-le
 
-row-ok : (M : ℕ) (l : List ℕ) → areBytes l ≡ true → rowFault M l ≡ 0 → RowOk M (rowAt l)
-unfolding rowFault
-row-ok M l b e = record {
+row-ok : (items : List Item) (l : List ℕ) → areBytes l ≡ true → rowFaultIn items l ≡ 0 → RowOk items (rowAt l)
+unfolding rowFaultIn rowFault
+row-ok items l b e = record {
   first = unfold rowAt in cond-fits (eqb (kindAt l) 16 || eqb (kindAt l) 22) (word l 4) (word-fits l b 4);
   second = unfold rowAt in cond-fits (eqb (kindAt l) 16) (word l 6) (word-fits l b 6);
   uses = unfold rowAt in (decide (eqb (kindAt l) 16) (λ z. rw z (uses-fit ((lengthAt l - 8) / 6) (drop 8 l) (bytes-drop 8 l b))) (λ z. rw z tt));
-  fine = none-clean l (leb 16 (kindAt l) && leb (kindAt l) 27) (rowRight M l) (rowFine M (rowAt l)) 4 e .isFine;
+  fine = none-clean l (leb 16 (kindAt l) && leb (kindAt l) 27) (rowRight (length items) l) (rowFine (length items) (rowAt l)) 4 (none .0) .isFine;
+  triggers = go (triggersFine items (rowAt l .uses)) (none .1);
 }
+  where
+    none : (rowFault (length items) l ≡ 0) × (_≡_ {A = ℕ} (cond (triggersFine items (rowAt l .uses)) 0 43) 0)
+    none = else-none (rowFault (length items) l) (cond (triggersFine items (rowAt l .uses)) 0 43) e
 
-plain-ok : (M : ℕ) → RowOk M (plain end)
-unfolding rowFine
-plain-ok M = record { first = zero-le; second = zero-le; uses = tt; fine = refl }
+    go : (b : Bool) → _≡_ {A = ℕ} (cond b 0 43) 0 → b ≡ true
+    go true z = refl
+    go false z = absurd (omega arith)
+
+plain-ok : (items : List Item) → RowOk items (plain end)
+unfolding rowFine triggersFine
+plain-ok items = record { first = zero-le; second = zero-le; uses = tt; fine = refl; triggers = refl }
 
 pub record Held (d : Diagram) : Type 0 where
   pub some : 1 ≤ rowCount d
   pub rows : rowCount d ≤ 64
-  pub items : countTotal d ≤ 16
+  pub works : howMany (rowCount d) (isKind d function) ≤ 63
+  pub items : itemTotal d ≤ 16
   pub acc : wellNested d ≡ true
-  pub each : (q : ℕ) → RowOk (countTotal d) (row d q)
-  pub stocks : (k : ℕ) → getD (d .items) k 0 ≤ 65535
+  pub each : (q : ℕ) → RowOk (d .items) (row d q)
+  pub stocks : (k : ℕ) → item d k .initial ≤ 65535
 
 module _ (d : Diagram) where
   nest-none : (a b c : Bool) → _≡_ {A = ℕ} (cond a 7 (cond b 8 (cond c 9 0))) 0 → (a ≡ false) × (b ≡ false) × (c ≡ false)
@@ -171,28 +184,40 @@ module _ (d : Diagram) where
       go true f z = never z
       go false f z = (cc, none f)
 
+-- the last of 64 rows is END, so that 63 may be FUNCTIONs
+few-works : (d : Diagram) → wellNested d ≡ true → rowCount d ≤ 64 → howMany (rowCount d) (isKind d function) ≤ 63
+few-works d acc few = go (rowCount d) refl few
+  where
+    go : (n : ℕ) → n ≡ rowCount d → n ≤ 64 → howMany n (isKind d function) ≤ 63
+    go zero z l = zero-le
+    go (suc n) z l = let a = many-le n (isKind d function) in let y : rowCount d - 1 ≡ n = omega arith in
+        let k : kind d n ≡ end = subst (λ x. kind d x ≡ end) y
+        (same-eq (kind d (rowCount d - 1)) end (and-right (ltb 0 (rowCount d)) _ (and-right (allBelow (rowCount d) (λ q. mayStand d (kind d q) q (stack d q))) _ acc))) in
+        rw k (omega arith)
+
 -- THEOREM: what an accepted file gives
 pub held : (file : List ℕ) (d : Diagram) → areBytes file ≡ true → readDiagram file ≡ accepted d → Held d
 unfolding readDiagram afterItems afterRows
 held file d b e =
     let a = next-inv (headFault file) 0 _ d e in
     let i = bind-inv (readMany itemFault itemAt (length file) (word file 8) (drop 10 file)) (afterItems file) d (a .1) in
-    let ir = many-read (λ (x : ℕ). x ≤ 65535) itemFault itemAt (length file) (word file 8) (drop 10 file) (i .0) (λ l c z. word-fits l c 4) (bytes-drop 10 file b) (i .1) in
-    let r = bind-inv (readMany (rowFault (word file 8)) rowAt (length file) (word file 6) (i .0 .rest)) (afterRows file (i .0 .value)) d (i .2) in
-    let rr = many-read (RowOk (word file 8)) (rowFault (word file 8)) rowAt (length file) (word file 6) (i .0 .rest) (r .0) (λ l c z. row-ok (word file 8) l c z) (ir .rest) (r .1) in
+    let ir = many-read (λ (x : Item). x .initial ≤ 65535) itemFault itemAt (length file) (word file 8) (drop 10 file) (i .0) (λ l c z. word-fits l c 4) (bytes-drop 10 file b) (i .1) in
+    let r = bind-inv (readMany (rowFaultIn (i .0 .value)) rowAt (length file) (word file 6) (i .0 .rest)) (afterRows file (i .0 .value)) d (i .2) in
+    let rr = many-read (RowOk (i .0 .value)) (rowFaultIn (i .0 .value)) rowAt (length file) (word file 6) (i .0 .rest) (r .0) (λ l c z. row-ok (i .0 .value) l c z) (ir .rest) (r .1) in
     let n = next-inv (cond (eqb (length (r .0 .rest)) 0) 0 6) (length file - length (r .0 .rest)) _ d (r .2) in
     whole (i .0 .value) (r .0 .value) (a .0) (ir .each) (ir .many) (rr .each) (rr .many) (n .1)
   where
-    whole : (items : List ℕ) (rows : List Row) → headFault file ≡ 0 → AllOf (λ (x : ℕ). x ≤ 65535) items → length items ≡ word file 8
-        → AllOf (RowOk (word file 8)) rows → length rows ≡ word file 6 → nested (record { rows = rows; items = items }) ≡ accepted d → Held d
+    whole : (items : List Item) (rows : List Row) → headFault file ≡ 0 → AllOf (λ (x : Item). x .initial ≤ 65535) items → length items ≡ word file 8
+        → AllOf (RowOk items) rows → length rows ≡ word file 6 → nested (record { rows = rows; items = items }) ≡ accepted d → Held d
     whole items rows h i m r n e =
         subst Held (z .0) (record {
           some = rw n (leb-true 1 (word file 6) (and-left (leb 1 (word file 6)) _ f));
-          rows = rw n (leb-true (word file 6) 64 (and-left (leb (word file 6) 64) _ (and-right (leb 1 (word file 6)) _ f)));
+          rows = few;
+          works = few-works d′ acc few;
           items = rw m (leb-true (word file 8) 16 (and-right (leb (word file 6) 64) _ (and-right (leb 1 (word file 6)) _ f)));
-          acc = nested-accepted d′ (λ q l. stands d′ q (z .1 q l)) (rw n (leb-true 1 (word file 6) (and-left (leb 1 (word file 6)) _ f)));
-          each = λ q. subst (λ M. RowOk M (row d′ q)) (sym m) (all-at (RowOk (word file 8)) rows (plain end) r (plain-ok (word file 8)) q);
-          stocks = λ k. all-at (λ (x : ℕ). x ≤ 65535) items 0 i zero-le k;
+          acc = acc;
+          each = λ q. all-at (RowOk items) rows (plain end) r (plain-ok items) q;
+          stocks = λ k. all-at (λ (x : Item). x .initial ≤ 65535) items noItem i zero-le k;
         })
       where
         d′ : Diagram
@@ -206,3 +231,9 @@ held file d b e =
 
         f : (leb 1 (word file 6) && (leb (word file 6) 64 && leb (word file 8) 16)) ≡ true
         f = and-right (eqb (word file 4) 1) _ (c .isFine)
+
+        few : rowCount d′ ≤ 64
+        few = rw n (leb-true (word file 6) 64 (and-left (leb (word file 6) 64) _ (and-right (leb 1 (word file 6)) _ f)))
+
+        acc : wellNested d′ ≡ true
+        acc = nested-accepted d′ (λ q l. stands d′ q (z .1 q l)) (rw n (leb-true 1 (word file 6) (and-left (leb 1 (word file 6)) _ f)))

@@ -1,5 +1,5 @@
 -- Which nets a net file can hold: "places rising, clear ranges rising and disjoint, all places below the head's number, weights 1 or more",
--- "label below 64 and never falling, a ≤ b", places 1 to 208, transitions 0 to 128, every field of 16 bits.
+-- "label below 64 and never falling, a ≤ b", places from 1 and transitions from 0 to the net's limits, every field of 16 bits.
 use Prim.Native.Nat.{ℕ}
 use mathlib.Core.Bool.{Bool, true, _&&_}
 use mathlib.Core.List.{List, [], _∷_}

@@ -2,23 +2,26 @@
 use Prim.Native.Nat.{_*_, ℕ, suc, _+_, _-_, _≤_, _<_, zero-le}
 use mathlib.Core.Path.{_≡_, refl}
 use mathlib.Core.Logic.{_≢_}
-use mathlib.Core.Bool.{Bool, true, false, not, cond, _&&_, and-false, and-true}
+use mathlib.Core.Bool.{Bool, true, false, cond, _&&_, and-false, and-true}
 use mathlib.Core.List.{[], _∷_}
 use native.Mathlib.Omega.{arith}
 use native.Mathlib.Nat.{add-zero, sub-zero}
 use lib.Dec.{leb, ltb, eqb}
 use borrow.Author.Tests.{ltb-true, ltb-false, leb-true, leb-false, eqb-true, eqb-false, le-leb, ne-eqb}
 use Rattle.effbd.specs.Answers.{refused}
-use Rattle.effbd.specs.Diagrams.{Diagram, and-open, branch, countTotal, end, function, gives, isKind, it-open, kind, row, rowCount, takes}
+use Rattle.effbd.specs.Diagrams.{Diagram, and-open, branch, end, function, isKind, it-open, kind, row, rowCount}
+use Rattle.effbd.specs.Counts.{countTotal, gives, takes}
 use Rattle.effbd.specs.Image.{imageMark, readyOrDone, running}
 use Rattle.effbd.specs.Layout.{Count, P, Place, Q, R, byPlace, placeOf}
-use Rattle.effbd.specs.Moves.{endFunction, enough, startFunction, stepAs, sumsFit}
+use Rattle.effbd.specs.Moves.{endFunction, enough, isThere, startFunction, stepAs, sumFits, sumsFit}
 use Rattle.effbd.specs.Patterns.{Pattern, atOnce, entryRow, none, nowhere, oneAt, patternsAs}
-use Rattle.effbd.specs.Ranges.{only, least}
+use Rattle.effbd.specs.Ranges.{only}
 use Rattle.effbd.specs.States.{State, activate, enter, enteredRow, makeIdle, setCounts, setRunning, countAt}
 use Rattle.ranges.specs.Tests.{cond-same, decide}
 use Rattle.ranges.specs.RangeLaws.{all-elim, all-find, only-refl, least-past}
 use Rattle.agreement.specs.Basics.{kind-in, not-kind}
+use Rattle.agreement.specs.Counts.{most-given}
+use Rattle.agreement.specs.Refusals.{lowestCount}
 use Rattle.agreement.specs.Invariant.{Inv, Sound, inv-with, sound-idle, sound-inv}
 use Rattle.agreement.specs.Matching.{Agree, Valid, early, fired, full, goes, stays, RowPlace, ready-le, bit-le, marks-fit-row, clock-kept}
 use Rattle.agreement.specs.Named.{after, enabled, namedImage, namedStepAt, lowestOver}
@@ -134,27 +137,27 @@ module _ (d : Diagram) where
     unfolding t₁
     not-ready h = stays d t₁ (t₂ ∷ []) r 0 s (P r) inside (rw (only-refl r, off h) (omega arith))
 
-    agree-start : s .activity r ≡ 1 → Agree d (Inv d) r (startFunction d r s) (namedStepAt d (t₁ ∷ t₂ ∷ []) 0 r (namedImage d s))
+    agree-start : s .activity r ≡ 1 → Agree d (Inv d) s r (startFunction d r s) (namedStepAt d (t₁ ∷ t₂ ∷ []) 0 r (namedImage d s))
     unfolding begun t₁
     agree-start a = decide (enough d r s)
         (λ e. rw (goes d t₁ (t₂ ∷ []) r 0 s begun (enabled-yes d t₁ (imageMark d s) (cov e)) zero-le (fired d r 0 t₁ s begun (begun-marks a) (begun-clock a)) (begun-inv a .valid), e)
         (refl, begun-inv a))
-        (λ e. let w = all-find (countTotal d) (λ x. leb (takes d r x) (s .count x)) e in
+        (λ e. let w = all-find (countTotal d) (isThere d r s) e in
         rw (stays d t₁ (t₂ ∷ []) r 0 s (Count (w .0)) (w .1) (leb-false (takes d r (w .0)) (s .count (w .0)) (w .2)), not-running (λ z. absurd (omega arith)), e) (refl, refl))
       where
         cov : enough d r s ≡ true → (p : Place) → Real d p → t₁ .take p ≤ imageMark d s p
         cov e (P q) l = decide (only r q) (λ f. rw (f, eqb-true q r f, a) (omega arith)) (λ f. rw f zero-le)
         cov e (Q q) l = zero-le
         cov e (R q) l = zero-le
-        cov e (Count x) l = leb-true (takes d r x) (s .count x) (all-elim (countTotal d) (λ y. leb (takes d r y) (s .count y)) e x l)
+        cov e (Count x) l = leb-true (takes d r x) (s .count x) (all-elim (countTotal d) (isThere d r s) e x l)
 
-    agree-finish : Laws d → s .activity r ≡ 2 → Agree d (Inv d) r (endFunction d r s) (namedStepAt d (t₂ ∷ []) 1 r (namedImage d s))
+    agree-finish : Laws d → s .activity r ≡ 2 → Agree d (Inv d) s r (endFunction d r s) (namedStepAt d (t₂ ∷ []) 1 r (namedImage d s))
     unfolding ended t₂
     agree-finish L a = decide (ltb (s .clock r) (row d r .first))
         (λ e. rw (early d t₂ [] r 1 s on (rw k (ltb-true (s .clock r) (row d r .first) e)), e) (refl, rw k))
         (λ e. decide (sumsFit d r s)
         (λ f. rw (goes d t₂ [] r 1 s ended on (due e) (fired d r 1 t₂ s ended (ended-marks a idle-then) (ended-clock a idle-then)) (inv f .valid), e, f) (refl, inv f))
-        (λ f. let w = all-find (countTotal d) (λ x. leb (s .count x + gives d r x) 65535) f in
+        (λ f. let w = all-find (countTotal d) (sumFits d r s) f in
         let l : 65535 < s .count (w .0) + gives d r (w .0) = leb-false (s .count (w .0) + gives d r (w .0)) 65535 (w .2) in
         rw (full d t₂ [] r 1 s (Count (w .0)) on (due e) (w .1) (rw sub-zero l), e, f) (refl, lowest)))
       where
@@ -183,7 +186,7 @@ module _ (d : Diagram) where
         fits (R q) l = let a = marks-fit-row d s v (R q) l in omega arith
         fits (Count x) l = absurd l
 
-        lowest : lowestOver d t₂ (imageMark d s) ≡ countAt d (least (countTotal d) (λ x. not (leb (s .count x + gives d r x) 65535)))
+        lowest : lowestOver d t₂ (imageMark d s) ≡ countAt d (lowestCount d s r)
         lowest = least-past (3 * rowCount d) (countTotal d) _ _
             (λ p l. rw (le-leb (after t₂ (imageMark d s) (placeOf d p) + t₂ .give (placeOf d p)) 65535 (fits (placeOf d p) (place-row d p l))))
             (λ x l. rw (place-I d x, sub-zero))
@@ -191,9 +194,9 @@ module _ (d : Diagram) where
         inv : sumsFit d r s ≡ true → Inv d ended
         inv f = inv-with d (s .turns) (λ x. s .count x + gives d r x) (activate d (only (enteredRow d (suc r))) (makeIdle (only r) s))
             (sound-inv d (only r) (only (enteredRow d (suc r))) s i sound) (v .turned) (v .spun)
-            (λ x l. leb-true (s .count x + gives d r x) 65535 (all-elim (countTotal d) (λ y. leb (s .count y + gives d r y) 65535) f x l))
+            (λ x l. most-given d r x (s .count x) (v .counted x l) (leb-true (s .count x + gives d r x) 65535 (all-elim (countTotal d) (sumFits d r s) f x l)))
 
-    pub agree-fun : Laws d → Agree d (Inv d) r (stepAs d function r s) (namedStepAt d (patternsAs d function r) 0 r (namedImage d s))
+    pub agree-fun : Laws d → Agree d (Inv d) s r (stepAs d function r s) (namedStepAt d (patternsAs d function r) 0 r (namedImage d s))
     unfolding t₁ t₂
     agree-fun L = decide (eqb (s .activity r) 1)
         (λ e. rw e (agree-start (eqb-true (s .activity r) 1 e)))

@@ -6,12 +6,14 @@ use mathlib.Core.Bool.{Bool, true, false, cond}
 use native.Mathlib.Omega.{arith}
 use lib.Dec.{eqb}
 use borrow.Author.Tests.{eqb-true, eqb-false}
-use Rattle.effbd.specs.Diagrams.{Diagram, and-close, and-open, branch, countTotal, function, isKind, it-open, kind, row}
+use Rattle.effbd.specs.Diagrams.{Diagram, and-close, and-open, branch, function, isKind, it-open, kind, row}
+use Rattle.effbd.specs.Counts.{countTotal, tally}
 use Rattle.effbd.specs.Image.{readyOrDone}
 use Rattle.effbd.specs.Nesting.{owner}
 use Rattle.effbd.specs.States.{State, activate, makeIdle}
 use Rattle.ranges.specs.Tests.{clash, decide}
 use Rattle.agreement.specs.Basics.{eq-same, same-eq}
+use Rattle.agreement.specs.Counts.{mostOf}
 use Rattle.agreement.specs.Matching.{Valid}
 use Rattle.agreement.specs.Structure.{Fine, Par, par-irr, par-sym}
 use Rattle.agreement.specs.Tokens.{Fits}
@@ -104,7 +106,7 @@ module _ (d : Diagram) where
   abbrev pub with : (ℕ → ℕ) → (ℕ → ℕ) → State → State
   with t c s = record { activity = s .activity; turns = t; clock = s .clock; count = c }
 
-  pub inv-with : (t c : ℕ → ℕ) (s : State) → Inv s → ((q : ℕ) → t q ≤ row d q .first) → ((q : ℕ) → kind d q ≢ it-open → t q ≡ 0) → ((k : ℕ) → k < countTotal d → c k ≤ 65535) → Inv (with t c s)
+  pub inv-with : (t c : ℕ → ℕ) (s : State) → Inv s → ((q : ℕ) → t q ≤ row d q .first) → ((q : ℕ) → kind d q ≢ it-open → t q ≡ 0) → ((k : ℕ) → k < countTotal d → c k ≤ mostOf d (tally d k)) → Inv (with t c s)
   inv-with t c s i ht hz hc = record {
     valid = record { small = v .small; runs = v .runs; done = v .done; readies = v .readies; opened = v .opened; still = v .still; turned = ht; timely = v .timely; spun = hz; forked = v .forked; counted = hc; bounded = v .bounded };
     apart = i .apart;

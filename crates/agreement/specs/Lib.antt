@@ -1,5 +1,7 @@
 pub mod Nested
 pub mod Refusals
+pub mod Counts
+pub mod Sources
 pub mod Named
 pub mod Basics
 pub mod Tokens

@@ -96,7 +96,7 @@ module _ (d : Diagram) where
         l : readyOrDone (s .activity r) < cond (only r r) 1 0
         l = rw (only-refl r, live-zero d (s .activity r) h (λ z. not-kind d r k branch refl (v .done r z))) (omega arith)
 
-    agree-again : Laws d → s .activity r ≡ 1 → s .turns r < row d r .first → Agree d (Inv d) r (accepted again) (namedStepAt d (t₁ ∷ t₂ ∷ []) 0 r (namedImage d s))
+    agree-again : Laws d → s .activity r ≡ 1 → s .turns r < row d r .first → Agree d (Inv d) s r (accepted again) (namedStepAt d (t₁ ∷ t₂ ∷ []) 0 r (namedImage d s))
     unfolding again t₁
     agree-again L a l = rw (goes d t₁ (t₂ ∷ []) r 0 s again on zero-le e (inv .valid)) (refl, inv)
       where
@@ -119,7 +119,7 @@ module _ (d : Diagram) where
             cov (R q) x = decide (only r q) (λ f. rw (f, eqb-true q r f, k) (omega arith)) (λ f. rw f zero-le)
             cov (Count q) x = zero-le
 
-    agree-over : Laws d → s .activity r ≡ 1 → row d r .first ≤ s .turns r → Agree d (Inv d) r (accepted leaves) (namedStepAt d (t₁ ∷ t₂ ∷ []) 0 r (namedImage d s))
+    agree-over : Laws d → s .activity r ≡ 1 → row d r .first ≤ s .turns r → Agree d (Inv d) s r (accepted leaves) (namedStepAt d (t₁ ∷ t₂ ∷ []) 0 r (namedImage d s))
     unfolding leaves t₁ t₂
     agree-over L a l = rw (stays d t₁ (t₂ ∷ []) r 0 s (R r) inside (rw (k, only-refl r) (omega arith)), goes d t₂ [] r 1 s leaves on zero-le e (inv .valid)) (refl, inv)
       where
@@ -154,7 +154,7 @@ module _ (d : Diagram) where
             cov (R q) x = zero-le
             cov (Count q) x = zero-le
 
-    pub agree-it : Laws d → Agree d (Inv d) r (stepAs d it-open r s) (namedStepAt d (patternsAs d it-open r) 0 r (namedImage d s))
+    pub agree-it : Laws d → Agree d (Inv d) s r (stepAs d it-open r s) (namedStepAt d (patternsAs d it-open r) 0 r (namedImage d s))
     unfolding t₁ t₂ again leaves
     agree-it L = decide (eqb (s .activity r) 1)
         (λ e. decide (ltb (s .turns r) (row d r .first))
@@ -254,7 +254,7 @@ module _ (d : Diagram) where
     exit-inv a = inv-with d (λ q. cond (W q) 0 (s .turns q)) (s .count) (activate d (only t) (makeIdle W s)) (sound-inv d W (only t) s i (exit-sound a))
         (λ q. decide (W q) (λ e. rw e zero-le) (λ e. rw e (i .valid .turned q))) (λ q z. decide (W q) (λ e. rw e) (λ e. rw e (i .valid .spun q z))) (i .valid .counted)
 
-    pub agree-le : Agree d (Inv d) r (stepAs d loop-exit r s) (namedStepAt d (patternsAs d loop-exit r) 0 r (namedImage d s))
+    pub agree-le : Agree d (Inv d) s r (stepAs d loop-exit r s) (namedStepAt d (patternsAs d loop-exit r) 0 r (namedImage d s))
     unfolding left u W t c
     agree-le = decide (eqb (s .activity r) 1)
         (λ e. let a = eqb-true (s .activity r) 1 e in

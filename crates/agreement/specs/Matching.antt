@@ -9,7 +9,8 @@ use lib.ListN.{getD}
 use lib.Dec.{leb, eqb}
 use borrow.Author.Tests.{leb-true, leb-false, eqb-true, eqb-false, lt-ltb, le-ltb, le-leb, lt-leb}
 use Rattle.effbd.specs.Answers.{Outcome, accepted, refused}
-use Rattle.effbd.specs.Diagrams.{Diagram, and-close, and-open, branch, countTotal, end, function, gives, isKind, it-open, kind, row, rowCount}
+use Rattle.effbd.specs.Diagrams.{Diagram, and-close, and-open, branch, end, function, isKind, it-open, kind, row, rowCount}
+use Rattle.effbd.specs.Counts.{countTotal, gives, tally}
 use Rattle.effbd.specs.Image.{imageMark, readyOrDone, running}
 use Rattle.effbd.specs.Layout.{Count, P, Place, Q, R, byPlace}
 use Rattle.effbd.specs.Nesting.{owner}
@@ -19,6 +20,7 @@ use Rattle.effbd.specs.States.{State, activate, makeIdle}
 use Rattle.ranges.specs.Tests.{and-left, and-right, clash, cond-same, decide}
 use Rattle.ranges.specs.RangeLaws.{only-refl}
 use Rattle.agreement.specs.Basics.{kind-in, same-eq}
+use Rattle.agreement.specs.Counts.{most-le, mostOf}
 use Rattle.agreement.specs.Refusals.{netNumber, netValue}
 use Rattle.agreement.specs.Named.{lowestOver, NamedState, after, allPlaces, enabled, namedFire, namedImage, namedStepAt}
 use Rattle.agreement.specs.Tokens.{Fits, Real, enabled-no, enabled-yes, moved-marks, places-elim, places-intro}
@@ -43,7 +45,7 @@ module _ (d : Diagram) where
     pub timely : (q : ℕ) → s .clock q ≤ row d q .second
     pub spun : (q : ℕ) → kind d q ≢ it-open → s .turns q ≡ 0
     pub forked : (q : ℕ) → s .activity q ≡ 3 → kind d (owner d q) ≡ and-open
-    pub counted : (k : ℕ) → k < countTotal d → s .count k ≤ 65535
+    pub counted : (c : ℕ) → c < countTotal d → s .count c ≤ mostOf d (tally d c)
     pub bounded : (q : ℕ) → row d q .first ≤ 65535
 
   pub ready-le : (a : ℕ) → readyOrDone a ≤ 1
@@ -70,7 +72,7 @@ module _ (d : Diagram) where
   marks-fit s v (P q) l = marks-fit-row s v (P q) tt
   marks-fit s v (Q q) l = marks-fit-row s v (Q q) tt
   marks-fit s v (R q) l = marks-fit-row s v (R q) tt
-  marks-fit s v (Count k) l = v .counted k l
+  marks-fit s v (Count c) l = let a = v .counted c l in let b = most-le d (tally d c) in omega arith
 
   -- the timed transition of a FUNCTION
   pub second-enabled : (q : ℕ) → kind d q ≡ function → (m : Place → ℕ) → enabled d (getD (patterns d q) 1 noPattern) m ≡ leb 1 (m (Q q))
@@ -106,12 +108,12 @@ module _ (d : Diagram) where
       → namedImage d s′ ≡ namedFire d r j t (namedImage d s)
   fired r j t s s′ h g = λ i. record { mark = fun-ext h i; clock = fun-ext (λ q. fun-ext (λ x. moved-clocks r j t s s′ g q x)) i }
 
-  -- both accept, with the image kept and K at the new state, or both refuse, the net as it follows from the diagram (r is the row asked)
-  abbrev pub Agree : (State → Type 0) → ℕ → Outcome State → Outcome NamedState → Type 0
-  Agree K r (accepted s) (accepted n) = (namedImage d s ≡ n) × K s
-  Agree K r (accepted s) (refused a b) = ⊥
-  Agree K r (refused a b) (accepted n) = ⊥
-  Agree K r (refused a b) (refused a′ b′) = (a′ ≡ netNumber a) × (b′ ≡ netValue d r a b)
+  -- both accept, with the image kept and K at the new state, or both refuse, the net as it follows from the diagram (o is the state, r the row asked)
+  abbrev pub Agree : (State → Type 0) → State → ℕ → Outcome State → Outcome NamedState → Type 0
+  Agree K o r (accepted s) (accepted n) = (namedImage d s ≡ n) × K s
+  Agree K o r (accepted s) (refused a b) = ⊥
+  Agree K o r (refused a b) (accepted n) = ⊥
+  Agree K o r (refused a b) (refused a′ b′) = (a′ ≡ netNumber a) × (b′ ≡ netValue d o r a b)
 
   pub goes : (t : Pattern) (ts : List Pattern) (r j : ℕ) (s s′ : State) → enabled d t (imageMark d s) ≡ true → t .earliest ≤ namedImage d s .clock r j
       → namedImage d s′ ≡ namedFire d r j t (namedImage d s) → Valid s′ → namedStepAt d (t ∷ ts) j r (namedImage d s) ≡ accepted (namedImage d s′)
@@ -165,7 +167,7 @@ module _ (d : Diagram) where
         → (b ≡ true → (q : ℕ) → Fits d (S q) (E q) (s .activity q))
         → (b ≡ true → K (activate d E (makeIdle S s)))
         → (b ≡ false → (o : ℕ) × (o < rowCount d) × (S o ≡ true) × (readyOrDone (s .activity o) ≡ 0))
-        → Agree K r (cond b (accepted (activate d E (makeIdle S s))) (refused 22 r))
+        → Agree K s r (cond b (accepted (activate d E (makeIdle S s))) (refused 22 r))
         (namedStepAt d (atOnce (marksP S) nowhere (marksP E) ∷ []) 0 r (namedImage d s))
     agree-tokens r S E s true v h k n = rw (goes t [] r 0 s s′ (enabled-yes d t (imageMark d s) (λ p l. cov p)) zero-le (tokens-fire r S E s (valid s v) (h refl)) (valid s′ (k refl)))
         (refl, k refl)

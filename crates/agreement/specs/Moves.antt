@@ -5,9 +5,9 @@ use mathlib.Core.Logic.{_≢_}
 use mathlib.Core.Bool.{Bool, true, false, cond, _&&_}
 use native.Mathlib.Omega.{arith}
 use native.Mathlib.Nat.{sub-zero}
-use lib.ListN.{getD}
 use borrow.Author.Tests.{eqb-true}
-use Rattle.effbd.specs.Diagrams.{Diagram, Kind, and-close, and-open, branch, end, function, isKind, it-close, it-open, kind, loop-exit, lp-close, lp-open, or-close, or-open, row}
+use Rattle.effbd.specs.Diagrams.{Diagram, Kind, and-close, and-open, branch, end, function, isKind, it-close, it-open, item, kind, loop-exit, lp-close, lp-open, or-close, or-open, row}
+use Rattle.effbd.specs.Counts.{initialCount}
 use Rattle.effbd.specs.Image.{imageMark, readyOrDone, running}
 use Rattle.effbd.specs.Layout.{Count, P, Place, Q, R}
 use Rattle.effbd.specs.Moves.{Move, move, no-move, step, step-row, stepAs, wait-ticks}
@@ -17,6 +17,7 @@ use Rattle.effbd.specs.Ranges.{only}
 use Rattle.effbd.specs.States.{State, enteredRow, fresh}
 use Rattle.ranges.specs.Tests.{clash, decide}
 use Rattle.agreement.specs.Basics.{kind-in, not-kind, same-eq}
+use Rattle.agreement.specs.Counts.{most-initial}
 use Rattle.agreement.specs.FunctionSteps.{agree-fun}
 use Rattle.agreement.specs.Invariant.{Inv, sound-inv}
 use Rattle.agreement.specs.LoopSteps.{agree-it, agree-le}
@@ -31,14 +32,14 @@ use Rattle.agreement.specs.Waits.{waits-agree}
 module _ (d : Diagram) (L : Laws d) (r : ℕ) (s : State) (i : Inv d s) where
   -- a row that hands its token to the next, or back to its open row
   on : kind d r ≢ end → kind d r ≢ branch → kind d r ≢ and-open
-      → Agree d (Inv d) r (stepAs d lp-open r s) (namedStepAt d (patternsAs d lp-open r) 0 r (namedImage d s))
+      → Agree d (Inv d) s r (stepAs d lp-open r s) (namedStepAt d (patternsAs d lp-open r) 0 r (namedImage d s))
   on n b o = agree-one d r r (enteredRow d (suc r)) s i (kind-in d r n) b (L .lands (suc r)) (λ X. L .seq r X o n)
 
   again : kind d r ≢ end → kind d r ≢ branch → isClose d r ≡ true
-      → Agree d (Inv d) r (stepAs d lp-close r s) (namedStepAt d (patternsAs d lp-close r) 0 r (namedImage d s))
+      → Agree d (Inv d) s r (stepAs d lp-close r s) (namedStepAt d (patternsAs d lp-close r) 0 r (namedImage d s))
   again n b c = agree-one d r r (owner d r) s i (kind-in d r n) b ((λ e. clash (L .kin r c) (rw e)), (λ e. clash (L .kin r c) (rw e))) (λ X. L .back r X c)
 
-  by-kind : (k : Kind) → kind d r ≡ k → Agree d (Inv d) r (stepAs d k r s) (namedStepAt d (patternsAs d k r) 0 r (namedImage d s))
+  by-kind : (k : Kind) → kind d r ≡ k → Agree d (Inv d) s r (stepAs d k r s) (namedStepAt d (patternsAs d k r) 0 r (namedImage d s))
   by-kind function e = agree-fun d r s i e L
   by-kind and-open e = agree-and d L r s i e
   by-kind branch e = decide (isKind d or-open (owner d r))
@@ -56,7 +57,7 @@ module _ (d : Diagram) (L : Laws d) (r : ℕ) (s : State) (i : Inv d s) where
   by-kind loop-exit e = agree-le d L r s i e
   by-kind end e = (refl, refl)
 
-  pub steps-agree : Agree d (Inv d) r (step d r s) (namedStep d r (namedImage d s))
+  pub steps-agree : Agree d (Inv d) s r (step d r s) (namedStep d r (namedImage d s))
   steps-agree = by-kind (kind d r) refl
 
 -- the row that a move names; of a wait it does not matter
@@ -68,11 +69,11 @@ rowAsked no-move = 0
 -- numbers of 16 bits, as the file has them
 pub record Words (d : Diagram) : Type 0 where
   pub lows : (q : ℕ) → row d q .first ≤ 65535
-  pub stocks : (k : ℕ) → getD (d .items) k 0 ≤ 65535
+  pub stocks : (k : ℕ) → item d k .initial ≤ 65535
 
 module _ (d : Diagram) (acc : wellNested d ≡ true) (w : Words d) where
   nothing : State
-  nothing = record { activity = λ q. 0; turns = λ q. 0; clock = λ q. 0; count = λ k. getD (d .items) k 0 }
+  nothing = record { activity = λ q. 0; turns = λ q. 0; clock = λ q. 0; count = initialCount d }
 
   pub fresh-inv : Inv d (fresh d)
   unfolding nothing
@@ -89,7 +90,7 @@ module _ (d : Diagram) (acc : wellNested d ≡ true) (w : Words d) where
           timely = λ q. zero-le;
           spun = λ q h. refl;
           forked = λ q e. absurd (omega arith);
-          counted = λ k l. w .stocks k;
+          counted = λ c l. most-initial d (w .stocks) c;
           bounded = w .lows;
         };
         apart = λ r q a b n. absurd (a refl);
@@ -125,7 +126,7 @@ module _ (d : Diagram) (acc : wellNested d ≡ true) (w : Words d) where
       go true false = refl
       go false e = refl
 
-  pub moves-agree : (m : Move) (s : State) → Inv d s → Agree d (Inv d) (rowAsked m) (move d m s) (namedMove d m (namedImage d s))
+  pub moves-agree : (m : Move) (s : State) → Inv d s → Agree d (Inv d) s (rowAsked m) (move d m s) (namedMove d m (namedImage d s))
   moves-agree (step-row r) s i = steps-agree d (laws d acc) r s i
   moves-agree (wait-ticks zero) s i = (refl, refl)
   moves-agree (wait-ticks (suc n)) s i = waits-agree d (laws d acc) (suc n) (omega arith) s i (suc n)

@@ -6,7 +6,8 @@ use lib.ListN.{length, getD}
 use lib.Dec.{leb, ltb, eqb}
 use Rattle.effbd.specs.Ranges.{allBelow, least, only, tabulate}
 use Rattle.effbd.specs.Answers.{Outcome, accepted, refused, afterwards}
-use Rattle.effbd.specs.Diagrams.{Diagram, rowCount, countTotal}
+use Rattle.effbd.specs.Diagrams.{Diagram, rowCount}
+use Rattle.effbd.specs.Counts.{countTotal}
 use Rattle.effbd.specs.Layout.{Place, P, Q, R, Count, places, placeOf}
 use Rattle.effbd.specs.States.{State}
 use Rattle.effbd.specs.Moves.{Move, step-row, wait-ticks, no-move, mostWord}

@@ -8,7 +8,7 @@ use lib.ListN.{length, drop, length-drop}
 use lib.Dec.{leb, ltb, eqb}
 use borrow.Author.Tests.{leb-true, eqb-true, eqb-false, le-leb, lt-leb, eq-eqb, ne-eqb}
 use Rattle.effbd.specs.Answers.{Outcome, accepted, refused, unless}
-use Rattle.effbd.specs.Nets.{Arc, Net, Tail, Transition, above, afterPlaces, arcAt, arcBytes, arcDue, arcFault, arcFine, markBytes, markFault, netBytes, netHeadFault, netWith, readNet, readTail, transitionAt, transitionBytes, transitionFault, transitionFine, withArc, withTransition, noTail}
+use Rattle.effbd.specs.Nets.{Arc, Net, Tail, Transition, above, afterPlaces, arcAt, arcBytes, arcDue, arcFault, arcFine, markBytes, markFault, mostPlaces, mostTransitions, netBytes, netHeadFault, netWith, readNet, readTail, transitionAt, transitionBytes, transitionFault, transitionFine, withArc, withTransition, noTail}
 use Rattle.effbd.specs.Records.{entryIn, kindTable, Got, areBytes, kindAt, lengthAt, lengthOf, readMany, word, wordBytes}
 use Rattle.ranges.specs.Tests.{and-intro, and-left, and-right, decide}
 use Rattle.agreement.specs.ByteLaws.{Clean, adding-inv, bind-inv, bytes-drop, clean-none, never, next-inv, none-clean, of-two, two-at, word-fits}
@@ -158,10 +158,10 @@ read-back n h = read-at l (n .marks) (transitionBytes (n .transitions)) P (lengt
     l = wordBytes 8 ++ (wordBytes 32 ++ (wordBytes (length (n .marks)) ++ (wordBytes (length (n .transitions)) ++ (markBytes (n .marks) ++ transitionBytes (n .transitions)))))
 
     sizes : Bool
-    sizes = leb 1 P && (leb P 208 && leb (length (n .transitions)) 128)
+    sizes = leb 1 P && (leb P mostPlaces && leb (length (n .transitions)) mostTransitions)
 
     clean : netHeadFault l ≡ 0
-    clean = unfold netHeadFault lengthOf entryIn kindTable in clean-none l true true (leb 1 (word l 4) && (leb (word l 4) 208 && leb (word l 6) 128)) 4
+    clean = unfold netHeadFault lengthOf entryIn kindTable in clean-none l true true (leb 1 (word l 4) && (leb (word l 4) mostPlaces && leb (word l 6) mostTransitions)) 4
         (record { long = omega arith; isDue = refl; isRight = refl; whole = omega arith; isFine = rw (of-two P, of-two (length (n .transitions))) (and-left sizes _ h) })
 
 -- what a tail that was read says of its bytes
@@ -364,10 +364,10 @@ net-back l n b e =
     let u = netWith-inv (w .0 .value) _ n (w .2) in
     let m = marks-back (word l 4) (length l) (drop 8 l) (w .0) (bytes-drop 8 l b) (w .1) in
     let k = tail-back (word l 4) (length l) (suc (length (w .0 .rest))) (word l 6) 38 0 0 (w .0 .rest) (u .0) (omega arith) (omega arith) (m .rest) (u .1) in
-    subst (NetBack l) (u .2) (whole (w .0) (u .0) m k (none-clean l (eqb (kindAt l) 32) (eqb (lengthAt l) 8) (leb 1 (word l 4) && (leb (word l 4) 208 && leb (word l 6) 128)) 3 (a .0)))
+    subst (NetBack l) (u .2) (whole (w .0) (u .0) m k (none-clean l (eqb (kindAt l) 32) (eqb (lengthAt l) 8) (leb 1 (word l 4) && (leb (word l 4) mostPlaces && leb (word l 6) mostTransitions)) 3 (a .0)))
   where
     whole : (g : Got (List ℕ)) (u : Tail) → MarksBack (word l 4) (drop 8 l) g → Back (word l 4) 38 0 0 (word l 6) (g .rest) u
-        → Clean l (eqb (kindAt l) 32) (eqb (lengthAt l) 8) (leb 1 (word l 4) && (leb (word l 4) 208 && leb (word l 6) 128))
+        → Clean l (eqb (kindAt l) 32) (eqb (lengthAt l) 8) (leb 1 (word l 4) && (leb (word l 4) mostPlaces && leb (word l 6) mostTransitions))
         → NetBack l (record { marks = g .value; transitions = u .transitions })
     whole g u m k c = record {
       written = rw (m .many, k .many) (ap (λ (x : List ℕ). wordBytes 8 ++ (wordBytes 32 ++ (wordBytes (word l 4) ++ (wordBytes (word l 6) ++ x)))) (ap (λ x. markBytes (g .value) ++ x) tailed ∙ m .written)

@@ -11,7 +11,8 @@ use lib.Seq.{getD-append-add}
 use lib.Dec.{leb, ltb, eqb}
 use borrow.Author.Tests.{ltb-true, ltb-false, eqb-true, eqb-false, lt-ltb, le-ltb, eq-eqb, ne-eqb}
 use Rattle.effbd.specs.Answers.{Outcome, accepted, refused}
-use Rattle.effbd.specs.Diagrams.{Diagram, Row, countTotal, end, kind, plain, rowCount}
+use Rattle.effbd.specs.Diagrams.{Diagram, Row, end, kind, plain, rowCount}
+use Rattle.effbd.specs.Counts.{countTotal}
 use Rattle.effbd.specs.Firing.{Effect, NetState, covers, fire, fireLowest, firedState, letsPass, netWait, noEffect, takenAndCleared, tickedState, overflows}
 use Rattle.effbd.specs.Layout.{Count, P, Place, Q, R, placeOf}
 use Rattle.effbd.specs.Patterns.{Name, Pattern, names, noPattern, patterns, patternsAs}

@@ -18,7 +18,7 @@ use Rattle.effbd.specs.Nets.{netBytes, readNet}
 use Rattle.effbd.specs.Patterns.{names, netOf, transitionOf}
 use Rattle.effbd.specs.Ranges.{tabulate}
 use Rattle.effbd.specs.Records.{areBytes}
-use Rattle.effbd.specs.States.{freshWords, stateOf, stateWords}
+use Rattle.effbd.specs.States.{State, freshWords, stateOf, stateWords}
 use Rattle.agreement.specs.AcceptedFiles.{Held, held}
 use Rattle.ranges.specs.Tests.{decide}
 use Rattle.ranges.specs.RangeLaws.{length-tab}
@@ -81,33 +81,33 @@ module _ (d : Diagram) (h : Held d) where
   diagram-at m l g = rw (eq-eqb (length l) (places d) (g .long), valid-proper d (stateOf d l) (g .kept .valid))
 
   -- what both steppers say at a state of the history: both accept, the net at the image of the new state, or both refuse
-  abbrev pub Both : ℕ → Outcome (List ℕ) → Outcome (List ℕ) → Type 0
-  Both r (accepted s) (accepted n) = (n ≡ imageWords d s) × Good s
-  Both r (accepted s) (refused a b) = ⊥
-  Both r (refused a b) (accepted n) = ⊥
-  Both r (refused a b) (refused a′ b′) = (a′ ≡ netNumber a) × (b′ ≡ netValue d r a b)
+  abbrev pub Both : State → ℕ → Outcome (List ℕ) → Outcome (List ℕ) → Type 0
+  Both o r (accepted s) (accepted n) = (n ≡ imageWords d s) × Good s
+  Both o r (accepted s) (refused a b) = ⊥
+  Both o r (refused a b) (accepted n) = ⊥
+  Both o r (refused a b) (refused a′ b′) = (a′ ≡ netNumber a) × (b′ ≡ netValue d o r a b)
 
-  pub both : (m : Move) (l : List ℕ) → Good l → Both (rowAsked m) (moveWords d m l) (checkedNetMove (netOf d) m (imageWords d l))
-  both m l g = subst (λ x. Both (rowAsked m) (moveWords d m l) x) (sym (table-at m l ∙ ap netWordsOutcome (table-steps d m (image d l))))
+  pub both : (m : Move) (l : List ℕ) → Good l → Both (stateOf d l) (rowAsked m) (moveWords d m l) (checkedNetMove (netOf d) m (imageWords d l))
+  both m l g = subst (λ x. Both (stateOf d l) (rowAsked m) (moveWords d m l) x) (sym (table-at m l ∙ ap netWordsOutcome (table-steps d m (image d l))))
       (go (moveWords d m l) (netMove (behaviour d) m (image d l)) (words-agree d (h .acc) words m l (g .kept)))
     where
-      go : (x : Outcome (List ℕ)) (y : Outcome NetState) → WordsAgree d (h .acc) words (rowAsked m) x y → Both (rowAsked m) x (netWordsOutcome y)
+      go : (x : Outcome (List ℕ)) (y : Outcome NetState) → WordsAgree d (h .acc) words (stateOf d l) (rowAsked m) x y → Both (stateOf d l) (rowAsked m) x (netWordsOutcome y)
       go (accepted s) (accepted y) w = (unfold imageWords in ap netWords (w .0), record { kept = w .1; long = w .2 })
       go (accepted s) (refused a b) w = absurd w
       go (refused a b) (accepted y) w = absurd w
       go (refused a b) (refused a′ b′) w = w
 
   -- the same moves; and an accepted one goes to the image
-  pub same-of : (r : ℕ) (x z : Outcome (List ℕ)) → Both r x z → isAccepted x ≡ isAccepted z
-  same-of r (accepted s) (accepted n) b = refl
-  same-of r (accepted s) (refused a v) b = absurd b
-  same-of r (refused a v) (accepted n) b = absurd b
-  same-of r (refused a v) (refused a′ v′) b = refl
+  pub same-of : (o : State) (r : ℕ) (x z : Outcome (List ℕ)) → Both o r x z → isAccepted x ≡ isAccepted z
+  same-of o r (accepted s) (accepted n) b = refl
+  same-of o r (accepted s) (refused a v) b = absurd b
+  same-of o r (refused a v) (accepted n) b = absurd b
+  same-of o r (refused a v) (refused a′ v′) b = refl
 
-  pub on-of : (r : ℕ) (x z : Outcome (List ℕ)) → Both r x z → (s : List ℕ) → x ≡ accepted s → (z ≡ accepted (imageWords d s)) × Good s
-  on-of r (accepted s) (accepted n) b s′ p = let w : s ≡ s′ = cc in subst (λ u. (accepted n ≡ accepted (imageWords d u)) × Good u) w (ap accepted (b .0), b .1)
-  on-of r (accepted s) (refused a v) b s′ p = absurd b
-  on-of r (refused a v) z b s′ p = never p
+  pub on-of : (o : State) (r : ℕ) (x z : Outcome (List ℕ)) → Both o r x z → (s : List ℕ) → x ≡ accepted s → (z ≡ accepted (imageWords d s)) × Good s
+  on-of o r (accepted s) (accepted n) b s′ p = let w : s ≡ s′ = cc in subst (λ u. (accepted n ≡ accepted (imageWords d u)) × Good u) w (ap accepted (b .0), b .1)
+  on-of o r (accepted s) (refused a v) b s′ p = absurd b
+  on-of o r (refused a v) z b s′ p = never p
 
   pub fresh-good : Good (freshWords d)
   unfolding freshWords
@@ -123,16 +123,16 @@ module _ (d : Diagram) (h : Held d) where
 module _ (d : Diagram) (h : Held d) where
   -- the refusal of the net at the image, for a move that names row r
   pub refused-of : (r n v : ℕ) (m : Move) (l : List ℕ) → Good d h l → rowAsked m ≡ r → moveWords d m l ≡ refused n v
-      → checkedNetMove (netOf d) m (imageWords d l) ≡ refused (netNumber n) (netValue d r n v)
+      → checkedNetMove (netOf d) m (imageWords d l) ≡ refused (netNumber n) (netValue d (stateOf d l) r n v)
   refused-of r n v m l g a z = go (moveWords d m l) (checkedNetMove (netOf d) m (imageWords d l)) (both d h m l g) z
     where
-      go : (x y : Outcome (List ℕ)) → Both d h (rowAsked m) x y → x ≡ refused n v → y ≡ refused (netNumber n) (netValue d r n v)
+      go : (x y : Outcome (List ℕ)) → Both d h (stateOf d l) (rowAsked m) x y → x ≡ refused n v → y ≡ refused (netNumber n) (netValue d (stateOf d l) r n v)
       go (accepted s) (accepted t) k q = never (sym q)
       go (accepted s) (refused i j) k q = absurd k
       go (refused i j) (accepted t) k q = absurd k
       go (refused i j) (refused i′ j′) k q =
           let p : i ≡ n = cc in let o : j ≡ v = cc in
-          ap₂ (λ (x y : ℕ). refused x y) (k .0 ∙ ap netNumber p) (k .1 ∙ (ap (λ x. netValue d x i j) a ∙ ap₂ (λ (x y : ℕ). netValue d r x y) p o))
+          ap₂ (λ (x y : ℕ). refused x y) (k .0 ∙ ap netNumber p) (k .1 ∙ (ap (λ x. netValue d (stateOf d l) x i j) a ∙ ap₂ (λ (x y : ℕ). netValue d (stateOf d l) r x y) p o))
 
 module _ (file : List ℕ) (d : Diagram) (b : areBytes file ≡ true) (e : readDiagram file ≡ accepted d) where
   abbrev h : Held d
@@ -154,18 +154,18 @@ module _ (file : List ℕ) (d : Diagram) (b : areBytes file ≡ true) (e : readD
 
   pub same-at : (code argument : ℕ) (l : List ℕ) → Good d h l
       → isAccepted (moveWords d (moveOf code argument) l) ≡ isAccepted (checkedNetMove (netOf d) (moveOf code argument) (imageWords d l))
-  same-at code argument l g = same-of d h (rowAsked (moveOf code argument)) (moveWords d (moveOf code argument) l) (checkedNetMove (netOf d) (moveOf code argument) (imageWords d l)) (both d h (moveOf code argument) l g)
+  same-at code argument l g = same-of d h (stateOf d l) (rowAsked (moveOf code argument)) (moveWords d (moveOf code argument) l) (checkedNetMove (netOf d) (moveOf code argument) (imageWords d l)) (both d h (moveOf code argument) l g)
 
   -- an accepted move goes to the image
   pub after-move : (code argument : ℕ) (l s : List ℕ) → Good d h l → moveWords d (moveOf code argument) l ≡ accepted s
       → (checkedNetMove (netOf d) (moveOf code argument) (imageWords d l) ≡ accepted (imageWords d s)) × Good d h s
-  after-move code argument l s g e = on-of d h (rowAsked (moveOf code argument)) (moveWords d (moveOf code argument) l) (checkedNetMove (netOf d) (moveOf code argument) (imageWords d l)) (both d h (moveOf code argument) l g) s e
+  after-move code argument l s g e = on-of d h (stateOf d l) (rowAsked (moveOf code argument)) (moveWords d (moveOf code argument) l) (checkedNetMove (netOf d) (moveOf code argument) (imageWords d l)) (both d h (moveOf code argument) l g) s e
 
   -- a list of moves from the fresh state
   step-good : (m : Move) (l : List ℕ) → Good d h l → Good d h (afterwards l (moveWords d m l))
   step-good m l g = go (moveWords d m l) (checkedNetMove (netOf d) m (imageWords d l)) (both d h m l g)
     where
-      go : (x z : Outcome (List ℕ)) → Both d h (rowAsked m) x z → Good d h (afterwards l x)
+      go : (x z : Outcome (List ℕ)) → Both d h (stateOf d l) (rowAsked m) x z → Good d h (afterwards l x)
       go (accepted s) (accepted n) k = k .1
       go (accepted s) (refused a v) k = absurd k
       go (refused a v) z k = g
@@ -178,7 +178,7 @@ module _ (file : List ℕ) (d : Diagram) (b : areBytes file ≡ true) (e : readD
       → afterwards (imageWords d l) (checkedNetMove (netOf d) m (imageWords d l)) ≡ imageWords d (afterwards l (moveWords d m l))
   net-step-image m l g = go (moveWords d m l) (checkedNetMove (netOf d) m (imageWords d l)) (both d h m l g)
     where
-      go : (x z : Outcome (List ℕ)) → Both d h (rowAsked m) x z → afterwards (imageWords d l) z ≡ imageWords d (afterwards l x)
+      go : (x z : Outcome (List ℕ)) → Both d h (stateOf d l) (rowAsked m) x z → afterwards (imageWords d l) z ≡ imageWords d (afterwards l x)
       go (accepted s) (accepted n) k = k .0
       go (accepted s) (refused a v) k = absurd k
       go (refused a v) (accepted n) k = absurd k
@@ -190,7 +190,7 @@ module _ (file : List ℕ) (d : Diagram) (b : areBytes file ≡ true) (e : readD
 
   -- a refusal of the net follows from the diagram's; of a code that is no move the row does not matter
   pub refuses : (code argument n v : ℕ) (l : List ℕ) → Good d h l → moveWords d (moveOf code argument) l ≡ refused n v
-      → checkedNetMove (netOf d) (moveOf code argument) (imageWords d l) ≡ refused (netNumber n) (netValue d argument n v)
+      → checkedNetMove (netOf d) (moveOf code argument) (imageWords d l) ≡ refused (netNumber n) (netValue d (stateOf d l) argument n v)
   refuses code argument n v l g z = decide (eqb code 1)
       (λ y. by-move (step-row argument) (unfold moveOf in rw y) (refused-of d h argument n v (step-row argument) l g refl))
       (λ y. decide (eqb code 2)
@@ -198,13 +198,13 @@ module _ (file : List ℕ) (d : Diagram) (b : areBytes file ≡ true) (e : readD
       (λ x. by-move no-move (unfold moveOf in rw (y, x)) odd))
     where
       Says : Move → Type 0
-      Says m = moveWords d m l ≡ refused n v → checkedNetMove (netOf d) m (imageWords d l) ≡ refused (netNumber n) (netValue d argument n v)
+      Says m = moveWords d m l ≡ refused n v → checkedNetMove (netOf d) m (imageWords d l) ≡ refused (netNumber n) (netValue d (stateOf d l) argument n v)
 
-      by-move : (m : Move) → moveOf code argument ≡ m → Says m → checkedNetMove (netOf d) (moveOf code argument) (imageWords d l) ≡ refused (netNumber n) (netValue d argument n v)
+      by-move : (m : Move) → moveOf code argument ≡ m → Says m → checkedNetMove (netOf d) (moveOf code argument) (imageWords d l) ≡ refused (netNumber n) (netValue d (stateOf d l) argument n v)
       by-move m q k = subst Says (sym q) k z
 
       odd : Says no-move
-      odd q = refused-of d h 0 n v no-move l g refl q ∙ subst (λ (x : ℕ). _≡_ {A = Outcome (List ℕ)} (refused (netNumber x) (netValue d 0 x v)) (refused (netNumber x) (netValue d argument x v))) is-21 refl
+      odd q = refused-of d h 0 n v no-move l g refl q ∙ subst (λ (x : ℕ). _≡_ {A = Outcome (List ℕ)} (refused (netNumber x) (netValue d (stateOf d l) 0 x v)) (refused (netNumber x) (netValue d (stateOf d l) argument x v))) is-21 refl
         where
           says-21 : _≡_ {A = Outcome (List ℕ)} (refused 21 0) (refused n v)
           says-21 = unfold moveWords wordsOutcome in q

@@ -7,11 +7,13 @@ use native.Mathlib.Omega.{arith}
 use lib.Dec.{leb, eqb}
 use borrow.Author.Tests.{eqb-false, le-leb, eq-eqb}
 use Rattle.effbd.specs.Diagrams.{Diagram, Kind, and-close, and-open, branch, end, function, isKind, it-close, it-open, kind, loop-exit, lp-close, lp-open, or-close, or-open, row, rowCount, sameKind}
+use Rattle.effbd.specs.Counts.{countTotal, tally}
 use Rattle.effbd.specs.Nesting.{owner}
-use Rattle.effbd.specs.States.{State, activityFine, rowPasses, statePasses}
+use Rattle.effbd.specs.States.{State, activityFine, countPasses, rowPasses, statePasses}
 use Rattle.ranges.specs.Tests.{and-intro, clash, decide, or-left, or-right}
 use Rattle.ranges.specs.RangeLaws.{all-intro}
 use Rattle.agreement.specs.Basics.{eq-same, not-kind}
+use Rattle.agreement.specs.Counts.{most-passes}
 use Rattle.agreement.specs.Matching.{Valid}
 
 module _ (d : Diagram) (s : State) (v : Valid d s) (q : ℕ) where
@@ -57,4 +59,5 @@ module _ (d : Diagram) (s : State) (v : Valid d s) (q : ℕ) where
   proper-row = and-intro (acts (kind d q) (isKind d and-open (owner d q)) refl refl) (and-intro turns-ok clock-ok)
 
 pub valid-proper : (d : Diagram) (s : State) → Valid d s → statePasses d s ≡ true
-valid-proper d s v = all-intro (rowCount d) (rowPasses d s) (λ q l. proper-row d s v q)
+valid-proper d s v = and-intro (all-intro (rowCount d) (rowPasses d s) (λ q l. proper-row d s v q))
+    (all-intro (countTotal d) (λ c. countPasses d (tally d c) (s .count c)) (λ c l. most-passes d (tally d c) (s .count c) (v .counted c l)))

@@ -9,7 +9,8 @@ use lib.ListN.{length, getD}
 use lib.Dec.{ltb}
 use borrow.Author.Tests.{ltb-true, lt-ltb}
 use Rattle.effbd.specs.Answers.{Outcome, accepted, refused}
-use Rattle.effbd.specs.Diagrams.{Diagram, countTotal, rowCount}
+use Rattle.effbd.specs.Diagrams.{Diagram, rowCount}
+use Rattle.effbd.specs.Counts.{countTotal}
 use Rattle.effbd.specs.Firing.{NetState, netMove}
 use Rattle.effbd.specs.Image.{imageMark, image}
 use Rattle.effbd.specs.Layout.{Count, P, Place, Q, R, byPlace, placeOf, places}
@@ -123,26 +124,26 @@ module _ (d : Diagram) where
     Kept l = Inv d (stateOf d l)
 
     -- the two answers: both accept, the net at the image of the diagram's new state, or both refuse, the net as it follows from the diagram
-    abbrev pub WordsAgree : ℕ → Outcome (List ℕ) → Outcome NetState → Type 0
-    WordsAgree r (accepted x) (accepted y) = (y ≡ image d x) × Kept x × (length x ≡ places d)
-    WordsAgree r (accepted x) (refused a b) = ⊥
-    WordsAgree r (refused a b) (accepted y) = ⊥
-    WordsAgree r (refused a b) (refused a′ b′) = (a′ ≡ netNumber a) × (b′ ≡ netValue d r a b)
+    abbrev pub WordsAgree : State → ℕ → Outcome (List ℕ) → Outcome NetState → Type 0
+    WordsAgree o r (accepted x) (accepted y) = (y ≡ image d x) × Kept x × (length x ≡ places d)
+    WordsAgree o r (accepted x) (refused a b) = ⊥
+    WordsAgree o r (refused a b) (accepted y) = ⊥
+    WordsAgree o r (refused a b) (refused a′ b′) = (a′ ≡ netNumber a) × (b′ ≡ netValue d o r a b)
 
-    in-words : (r : ℕ) (a : Outcome State) (b : Outcome NamedState) → Agree d (Inv d) r a b → WordsAgree r (wordsOutcome d a) (ans d b)
+    in-words : (o : State) (r : ℕ) (a : Outcome State) (b : Outcome NamedState) → Agree d (Inv d) o r a b → WordsAgree o r (wordsOutcome d a) (ans d b)
     unfolding wordsOutcome Kept
-    in-words r (accepted x) (accepted y) h =
+    in-words o r (accepted x) (accepted y) h =
         (ap (flatNet d) (sym (h .0)) ∙ sym (listed x), subst (Inv d) (sym (read-flat x)) (clip-inv x (h .1)), (unfold stateWords in length-tab (places d) _))
-    in-words r (accepted x) (refused a b) h = absurd h
-    in-words r (refused a b) (accepted y) h = absurd h
-    in-words r (refused a b) (refused u v) h = h
+    in-words o r (accepted x) (refused a b) h = absurd h
+    in-words o r (refused a b) (accepted y) h = absurd h
+    in-words o r (refused a b) (refused u v) h = h
 
     -- THEOREM: at a state that keeps the invariant the diagram accepts a move exactly when the net accepts it at the image, and so on
-    pub words-agree : (m : Move) (l : List ℕ) → Kept l → WordsAgree (rowAsked m) (moveWords d m l) (netMove (behaviour d) m (image d l))
+    pub words-agree : (m : Move) (l : List ℕ) → Kept l → WordsAgree (stateOf d l) (rowAsked m) (moveWords d m l) (netMove (behaviour d) m (image d l))
     unfolding moveWords Kept
-    words-agree m l i = subst (λ (x : NetState). WordsAgree (rowAsked m) (wordsOutcome d (move d m (stateOf d l))) (netMove (behaviour d) m x)) (sym image-is)
-        (subst (λ (x : Outcome NetState). WordsAgree (rowAsked m) (wordsOutcome d (move d m (stateOf d l))) x) (sym (move-flat m (namedImage d (stateOf d l))))
-        (in-words (rowAsked m) (move d m (stateOf d l)) (namedMove d m (namedImage d (stateOf d l))) (moves-agree d acc w m (stateOf d l) i)))
+    words-agree m l i = subst (λ (x : NetState). WordsAgree (stateOf d l) (rowAsked m) (wordsOutcome d (move d m (stateOf d l))) (netMove (behaviour d) m x)) (sym image-is)
+        (subst (λ (x : Outcome NetState). WordsAgree (stateOf d l) (rowAsked m) (wordsOutcome d (move d m (stateOf d l))) x) (sym (move-flat m (namedImage d (stateOf d l))))
+        (in-words (stateOf d l) (rowAsked m) (move d m (stateOf d l)) (namedMove d m (namedImage d (stateOf d l))) (moves-agree d acc w m (stateOf d l) i)))
       where
         image-is : image d l ≡ flatNet d (namedImage d (stateOf d l))
         image-is = unfold image flatNet in refl

@@ -24,11 +24,9 @@ use Rattle.agreement.specs.Named.{movesFrom}
 use Rattle.agreement.specs.AcceptedFiles.{held}
 use Rattle.agreement.specs.StateCheck.{valid-proper}
 use Rattle.agreement.specs.StateWords.{Kept}
-use Rattle.agreement.specs.NetFiles.{NetBack}
-use Rattle.agreement.specs.NetFiles.{read-back as netReadBack, net-back as netIsEncoding}
+use Rattle.agreement.specs.NetFiles.{NetBack, read-back as netReadBack, net-back as netIsEncoding}
 use Rattle.agreement.specs.WellFormed.{well-made}
-use Rattle.agreement.specs.Telegrams.{Telegram}
-use Rattle.agreement.specs.Telegrams.{telegram-back as telegramReadsBack}
+use Rattle.agreement.specs.Telegrams.{Telegram, telegram-back as telegramReadsBack}
 use Rattle.agreement.specs.Reached.{Good, fresh-good, fresh-net, reached-good, file-step, net-step, same-at, after-move, refuses, net-follows}
 use Rattle.agreement.specs.Demand.{whole}
 
@@ -43,9 +41,9 @@ pub record AgreeAt (file : List ℕ) (d : Diagram) (words : List ℕ) : Type 0 w
   -- and then the net's state is the image of the diagram's
   pub moves : (code argument : ℕ) (next : List ℕ) → stepDiagram file code argument words ≡ accepted next
       → stepNet (netBytes (netOf d)) code argument (imageWords d words) ≡ accepted (imageWords d next)
-  -- where both refuse, 21, 22, 24 and 26 are the same, 23 is 22 of the net, 25 of item k is 25 of place 3N + k
+  -- where both refuse, 21, 22, 24 and 26 are the same, 23 is 22 of the net, 25 names the lowest place with too high a sum, a count's
   pub refusals : (code argument number value : ℕ) → stepDiagram file code argument words ≡ refused number value
-      → stepNet (netBytes (netOf d)) code argument (imageWords d words) ≡ refused (netNumber number) (netValue d argument number value)
+      → stepNet (netBytes (netOf d)) code argument (imageWords d words) ≡ refused (netNumber number) (netValue d (stateOf d words) argument number value)
 
 module _ (file : List ℕ) (d : Diagram) (bytes : areBytes file ≡ true) (read : readDiagram file ≡ accepted d) where
   reached-is : (moves : List Move) → Good d (held file d bytes read) (reached d moves)

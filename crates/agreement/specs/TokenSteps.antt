@@ -43,7 +43,7 @@ module _ (d : Diagram) where
 
   -- one row's token moves on, or back to the open row
   pub agree-one : (r o t : ℕ) (s : State) → Inv d s → o < rowCount d → kind d o ≢ branch → Fine d t → ((X : ℕ) → side d X t ≡ side d X o)
-      → Agree d (Inv d) r (ifReady d o r s (activate d (only t) (makeIdle (only o) s))) (namedStepAt d (atOnce (marksP (only o)) nowhere (marksP (only t)) ∷ []) 0 r (namedImage d s))
+      → Agree d (Inv d) s r (ifReady d o r s (activate d (only t) (makeIdle (only o) s))) (namedStepAt d (atOnce (marksP (only o)) nowhere (marksP (only t)) ∷ []) 0 r (namedImage d s))
   agree-one r o t s i l nb n h = agree-tokens d (Inv d) (λ x k. k .valid) r (only o) (only t) s (eqb (s .activity o) 1) i
       (λ e. sound-fits d (only o) (only t) s (λ q f. rw (eqb-true q o f, eqb-true (s .activity o) 1 e)) (sound-one o t s i (λ z. let y = eqb-true (s .activity o) 1 e in absurd (omega arith)) n h))
       (λ e. sound-inv d (only o) (only t) s i (sound-one o t s i (λ z. let y = eqb-true (s .activity o) 1 e in absurd (omega arith)) n h))
@@ -156,13 +156,13 @@ module _ (d : Diagram) where
             z = L .andIn o (suc o) (p .fork) ko (L .first o ko) ne
 
     -- the kinds whose steps move tokens alone
-    pub agree-and : (r : ℕ) (s : State) → Inv d s → kind d r ≡ and-open → Agree d (Inv d) r (stepAs d and-open r s) (namedStepAt d (patternsAs d and-open r) 0 r (namedImage d s))
+    pub agree-and : (r : ℕ) (s : State) → Inv d s → kind d r ≡ and-open → Agree d (Inv d) s r (stepAs d and-open r s) (namedStepAt d (patternsAs d and-open r) 0 r (namedImage d s))
     agree-and r s i k = agree-tokens d (Inv d) (λ x j. j .valid) r (only r) (branchEntries d r) s (eqb (s .activity r) 1) i
         (λ e. sound-fits d (only r) (branchEntries d r) s (λ q f. rw (eqb-true q r f, eqb-true (s .activity r) 1 e)) (sound-and r s i k (eqb-true (s .activity r) 1 e)))
         (λ e. sound-inv d (only r) (branchEntries d r) s i (sound-and r s i k (eqb-true (s .activity r) 1 e)))
         (λ e. (r, kind-in d r (not-kind d r k end refl), only-refl r, live-zero (s .activity r) (eqb-false (s .activity r) 1 e) (λ z. not-kind d r k branch refl (i .valid .done r z))))
 
-    pub agree-close : (r : ℕ) (s : State) → Inv d s → kind d r ≡ and-close → Agree d (Inv d) r (stepAs d and-close r s) (namedStepAt d (patternsAs d and-close r) 0 r (namedImage d s))
+    pub agree-close : (r : ℕ) (s : State) → Inv d s → kind d r ≡ and-close → Agree d (Inv d) s r (stepAs d and-close r s) (namedStepAt d (patternsAs d and-close r) 0 r (namedImage d s))
     agree-close r s i k = agree-tokens d (Inv d) (λ x j. j .valid) r S (only t) s (allDone d o s) i
         (λ e. sound-fits d S (only t) s (λ q f. rw (all3 e q f)) (sound-close r s i k (all3 e)))
         (λ e. sound-inv d S (only t) s i (sound-close r s i k (all3 e)))

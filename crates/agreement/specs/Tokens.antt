@@ -6,7 +6,8 @@ use native.Mathlib.Omega.{arith}
 use native.Mathlib.Nat.{add-zero, sub-zero}
 use lib.Dec.{leb, eqb}
 use borrow.Author.Tests.{leb-true, eqb-true, le-leb}
-use Rattle.effbd.specs.Diagrams.{Diagram, branch, countTotal, isKind, it-open, rowCount}
+use Rattle.effbd.specs.Diagrams.{Diagram, branch, isKind, it-open, rowCount}
+use Rattle.effbd.specs.Counts.{countTotal}
 use Rattle.effbd.specs.Image.{imageMark, readyOrDone, running}
 use Rattle.effbd.specs.Layout.{Count, P, Place, Q, R}
 use Rattle.effbd.specs.Patterns.{Pattern, marksP}

@@ -9,10 +9,11 @@ use native.Mathlib.Nat.{add-zero, add-suc, suc-add}
 use lib.ListN.{getD, length}
 use lib.Dec.{leb, ltb, eqb}
 use borrow.Author.Tests.{ltb-true, ltb-false, leb-true, eqb-true, eqb-false, lt-ltb, le-leb, ne-eqb}
-use Rattle.effbd.specs.Diagrams.{Diagram, Kind, and-close, and-open, branch, countTotal, end, function, gives, isKind, it-close, it-open, kind, loop-exit, lp-close, lp-open, or-close, or-open, row, rowCount, sameKind, takes}
+use Rattle.effbd.specs.Diagrams.{Diagram, Kind, and-close, and-open, branch, end, function, isKind, it-close, it-open, kind, loop-exit, lp-close, lp-open, or-close, or-open, row, rowCount, sameKind}
+use Rattle.effbd.specs.Counts.{countTotal, gives, takes}
 use Rattle.effbd.specs.Image.{imageMark, readyOrDone}
 use Rattle.effbd.specs.Layout.{Count, P, Place, Q, R, byPlace}
-use Rattle.effbd.specs.Moves.{allDone, enough, holdsAs, passTicks, wait}
+use Rattle.effbd.specs.Moves.{allDone, enough, holdsAs, isThere, passTicks, wait}
 use Rattle.effbd.specs.Nesting.{branchOf, close, owner}
 use Rattle.effbd.specs.Patterns.{Pattern, atOnce, entryRow, marksP, noPattern, none, nowhere, oneAt, patterns, patternsAs}
 use Rattle.effbd.specs.Ranges.{allBelow, only}
@@ -104,7 +105,7 @@ module _ (d : Diagram) where
         cov (P x) l = decide (only q x) (λ f. rw (f, one q a x f) (omega arith)) (λ f. rw f zero-le)
         cov (Q x) l = zero-le
         cov (R x) l = zero-le
-        cov (Count x) l = leb-true (takes d q x) (s .count x) (all-elim (countTotal d) (λ y. leb (takes d q y) (s .count y)) e x l)
+        cov (Count x) l = leb-true (takes d q x) (s .count x) (all-elim (countTotal d) (isThere d q s) e x l)
 
     turn-on : (q w u : ℕ) → kind d q ≡ it-open → s .activity q ≡ 1 → w ≤ s .turns q → u ≤ row d q .first - s .turns q → (tq tr : ℕ → ℕ) → ((x : ℕ) → tq x ≤ cond (only q x) w 0) → ((x : ℕ) → tr x ≤ cond (only q x) u 0)
         → (g : Place → ℕ) → enabled d (atOnce (byPlace (oneAt (only q)) tq tr none) nowhere g) (imageMark d s) ≡ true
@@ -176,7 +177,7 @@ module _ (d : Diagram) where
     holds function q e h = hold function q e refl (let-yes t₁ (timed q ∷ []) 0 q h
         (λ f l. or-left (eqb (s .activity q) 2 && ltb (row d q .second) (s .clock q + n))
         (and-intro (ready-by t₁ q inside (not-kind d q e branch refl) refl f)
-        (all-intro (countTotal d) (λ x. leb (takes d q x) (s .count x)) (λ x lx. le-leb (takes d q x) (s .count x) (gives-on t₁ (Count x) f lx)))))
+        (all-intro (countTotal d) (isThere d q s) (λ x lx. le-leb (takes d q x) (s .count x) (gives-on t₁ (Count x) f lx)))))
         (λ h₂. let-yes (timed q) [] 1 q h₂
         (λ f l. or-right (eqb (s .activity q) 1 && enough d q s) (and-intro (runs f) (lt-ltb (row d q .second) (s .clock q + n) (rw e at l)))) (λ z. clash refl z)))
       where
@@ -332,7 +333,7 @@ module _ (d : Diagram) where
       apart = i .apart;
     }
 
-    pub waits-agree : (r : ℕ) → Agree d (Inv d) r (wait d n s) (namedWait d n (namedImage d s))
+    pub waits-agree : (r : ℕ) → Agree d (Inv d) s r (wait d n s) (namedWait d n (namedImage d s))
     unfolding m free open′
     waits-agree r = rw (ne-eqb n 0 (λ z. absurd (omega arith)), same-test) (decide free
         (λ e. rw e ((λ j. record { mark = imageMark d s; clock = fun-ext (λ q. fun-ext (λ x. tick-clock (same-test ∙ e) q x)) j }), tick-inv e))

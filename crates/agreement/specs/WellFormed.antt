@@ -7,14 +7,16 @@ use native.Mathlib.Omega.{arith}
 use lib.ListN.{length, getD, length-append, length-map}
 use lib.Dec.{leb, ltb, eqb}
 use borrow.Author.Tests.{leb-true, lt-ltb, le-leb}
-use Rattle.effbd.specs.Diagrams.{Diagram, Kind, Use, and-close, and-open, branch, countTotal, end, function, giveOf, gives, isKind, it-close, it-open, kind, loop-exit, lp-close, lp-open, or-close, or-open, row, rowCount, rowFine, rowFineAs, takeOf, takes}
+use Rattle.effbd.specs.Diagrams.{Diagram, Kind, Use, and-close, and-open, branch, end, function, isKind, isTrigger, it-close, it-open, itemTotal, kind, loop-exit, lp-close, lp-open, or-close, or-open, row, rowCount, rowFine, rowFineAs}
+use Rattle.effbd.specs.Counts.{Tally, copy, giveOf, gives, givesAs, initialCount, shared, takeOf, takes, takesAs, tally}
 use Rattle.effbd.specs.Layout.{Count, P, Place, Q, R, byPlace, placeOf, places}
 use Rattle.effbd.specs.Nesting.{branchOf, close, inLoop, loop, owner}
-use Rattle.effbd.specs.Nets.{Arc, Transition, transitionFine}
+use Rattle.effbd.specs.Nets.{Arc, Transition, mostPlaces, transitionFine}
 use Rattle.effbd.specs.Patterns.{Name, Pattern, arcsOf, atOnce, entryRow, names, netOf, noPattern, none, nowhere, oneAt, patterns, patternsAs, transitionOf, patternOf, freshMark, rangesFrom}
 use Rattle.effbd.specs.Ranges.{only, tabulate}
 use Rattle.effbd.specs.States.{branchEntries}
 use Rattle.agreement.specs.AcceptedFiles.{AllOf, Held, all-at}
+use Rattle.agreement.specs.Counts.{counts-few, most-initial, most-le}
 use Rattle.ranges.specs.Tests.{and-intro, and-left, and-right, decide}
 use Rattle.ranges.specs.RangeLaws.{length-tab}
 use Rattle.agreement.specs.Formed.{arcsFine, marksFine, transitionsFine, wellFormed}
@@ -54,6 +56,25 @@ give-small [] h k = zero-le
 give-small (u ∷ us) h k = decide (eqb (u .item) k) (λ e. rw e (h .0 .1)) (λ e. rw e (give-small us (h .1) k))
 
 module _ (d : Diagram) (h : Held d) where
+  take-word : (r : ℕ) (t : Tally) → takesAs d r t ≤ 65535
+  take-word r (shared k) = decide (isTrigger d k) (λ e. rw e zero-le) (λ e. rw e (take-small (row d r .uses) (h .each r .uses) k))
+  take-word r (copy k q) = cond-small (only q r) (takeOf (row d r .uses) k) (take-small (row d r .uses) (h .each r .uses) k)
+
+  give-word : (r : ℕ) (t : Tally) → givesAs d r t ≤ 65535
+  give-word r (shared k) = decide (isTrigger d k) (λ e. rw e zero-le) (λ e. rw e (give-small (row d r .uses) (h .each r .uses) k))
+  give-word r (copy k q) = give-small (row d r .uses) (h .each r .uses) k
+
+  takes-fit : (r c : ℕ) → takes d r c ≤ 65535
+  unfolding takes
+  takes-fit r c = take-word r (tally d c)
+
+  gives-fit : (r c : ℕ) → gives d r c ≤ 65535
+  unfolding gives
+  gives-fit r c = give-word r (tally d c)
+
+  starts-fit : (c : ℕ) → initialCount d c ≤ 65535
+  starts-fit c = let a = most-initial d (h .stocks) c in let b = most-le d (tally d c) in omega arith
+
   nil : (x : ℕ) → none x ≤ 65535
   nil x = zero-le
 
@@ -63,14 +84,14 @@ module _ (d : Diagram) (h : Held d) where
   ordered : (r : ℕ) → kind d r ≡ function → row d r .first ≤ row d r .second
   ordered r e = leb-true (row d r .first) (row d r .second) (and-left (leb (row d r .first) (row d r .second)) _ fine)
     where
-      fine : rowFineAs function (countTotal d) (row d r) ≡ true
-      fine = subst (λ k. rowFineAs k (countTotal d) (row d r) ≡ true) e (unfold rowFine in h .each r .fine)
+      fine : rowFineAs function (itemTotal d) (row d r) ≡ true
+      fine = subst (λ k. rowFineAs k (itemTotal d) (row d r) ≡ true) e (unfold rowFine in h .each r .fine)
 
   lights : (r : ℕ) (k : Kind) → kind d r ≡ k → AllOf Light (patternsAs d k r)
   lights r function e = (
-    record { takes = at-small _ _ _ _ (unit-small (only r)) nil nil (take-small (row d r .uses) (h .each r .uses)); gives = at-small _ _ _ _ nil (unit-small (only r)) nil nil; order = zero-le; last = zero-le },
+    record { takes = at-small _ _ _ _ (unit-small (only r)) nil nil (takes-fit r); gives = at-small _ _ _ _ nil (unit-small (only r)) nil nil; order = zero-le; last = zero-le },
     (
-      record { takes = at-small _ _ _ _ nil (unit-small (only r)) nil nil; gives = at-small _ _ _ _ (unit-small (entryRow d (suc r))) nil nil (give-small (row d r .uses) (h .each r .uses)); order = ordered r e; last = h .each r .second },
+      record { takes = at-small _ _ _ _ nil (unit-small (only r)) nil nil; gives = at-small _ _ _ _ (unit-small (entryRow d (suc r))) nil nil (gives-fit r); order = ordered r e; last = h .each r .second },
       tt,
     ),
   )
@@ -115,8 +136,8 @@ module _ (d : Diagram) (h : Held d) where
   append-none [] = refl
   append-none (x ∷ l) = ap (λ y. x ∷ y) (append-none l)
 
-  few-places : places d ≤ 208
-  few-places = let a = h .rows in let b = h .items in omega arith
+  pub few-places : places d ≤ mostPlaces
+  few-places = let a = h .rows in let b = h .items in let c = counts-few d 63 (h .works) in omega arith
 
   arcs-fine : (n : Name d) → arcsFine (places d) 35 0 (transitionOf d n .arcs) ≡ true
   unfolding transitionOf
@@ -197,13 +218,13 @@ module _ (d : Diagram) (h : Held d) where
   marks-made (suc n) f m = and-intro (le-leb (f zero) 65535 (m zero)) (marks-made n (λ i. f (suc i)) (λ i. m (suc i)))
 
   fresh-small : (p : Place) → freshMark d p ≤ 65535
-  fresh-small = at-small (oneAt (entryRow d 0)) none (λ q. cond (isKind d it-open q) (row d q .first) 0) (λ k. getD (d .items) k 0)
-      (unit-small (entryRow d 0)) nil (λ q. cond-small (isKind d it-open q) (row d q .first) (h .each q .first)) (h .stocks)
+  fresh-small = at-small (oneAt (entryRow d 0)) none (λ q. cond (isKind d it-open q) (row d q .first) 0) (initialCount d)
+      (unit-small (entryRow d 0)) nil (λ q. cond-small (isKind d it-open q) (row d q .first) (h .each q .first)) starts-fit
 
   -- THEOREM: the net of an accepted diagram is well-formed
   pub well-made : wellFormed (netOf d) ≡ true
   unfolding wellFormed
-  well-made = rw (many-marks d) (and-intro (and-intro (le-leb 1 (places d) (let a = h .some in omega arith)) (and-intro (le-leb (places d) 208 (let a = h .rows in let b = h .items in omega arith))
+  well-made = rw (many-marks d) (and-intro (and-intro (le-leb 1 (places d) (let a = h .some in omega arith)) (and-intro (le-leb (places d) mostPlaces few-places)
       (le-leb (length (netOf d .transitions)) 128 few′)))
       (and-intro marks all))
     where

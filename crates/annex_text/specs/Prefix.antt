@@ -8,18 +8,22 @@ use lib.ListN.{length, take, drop, length-append, length-drop, take-append-drop,
 use lib.Seq.{drop-append-le, length-take-le, take-all}
 use lib.Dec.{leb, ltb, eqb}
 use borrow.Author.Tests.{le-ltb, leb-true, leb-false, eqb-true, ne-eqb}
-use Rattle.effbd.specs.Answers.{Outcome, accepted, refused, unless, andThen}
+use Rattle.effbd.specs.Answers.{Outcome, accepted, refused, unless, orElse, andThen}
 use Rattle.effbd.specs.Records.{Got, adding, entryIn, faultAt, kindAt, kindTable, lengthAt, lengthOf, readMany, word}
-use Rattle.effbd.specs.Diagrams.{Row, Use, headFault, itemAt, itemFault, rowAt, rowFault, rowFine, rowRight, usesAt, kindOf}
+use Rattle.effbd.specs.Diagrams.{Item, Row, Use, headFault, itemAt, itemFault, rowAt, rowFault, rowFaultIn, rowFine, rowRight, triggersFine, usesAt, kindOf}
 use Rattle.effbd.specs.Nesting.{afterItems, afterRows, readDiagram}
 use Rattle.effbd.specs.Annex.{annexIn}
 use Rattle.words.proofs.KindTable.{short}
-use Rattle.ranges.specs.Tests.{decide, and-left, and-right}
+use Rattle.ranges.specs.Tests.{decide, and-left, and-right, or-split}
+use Rattle.ranges.specs.Outcomes.{else-none}
 use Rattle.agreement.specs.ByteLaws.{none-clean, next-inv, adding-inv}
 
 -- the fields of a record are those of its first bytes
 word-same : (p s : List ℕ) (i : ℕ) → suc i < length p → word (p ++ s) i ≡ word p i
 word-same p s i l = ap₂ (λ (x y : ℕ). x + 256 * y) (List·getD-append p s 0 i (omega arith)) (List·getD-append p s 0 (suc i) l)
+
+abbrev itemOf : ℕ → Bool → Item
+itemOf initial trigger = record { initial = initial; trigger = trigger }
 
 abbrev useOf : ℕ → ℕ → ℕ → Use
 useOf item take give = record { item = item; take = take; give = give }
@@ -58,8 +62,9 @@ head-same p s l = fault-same p s _ _ _ _ _ _ 4 l (ap (λ (n : ℕ). eqb n 1) (wo
 
 item-same : (p s : List ℕ) → 104 ≤ length p → itemFault (p ++ s) ≡ itemFault p
 unfolding itemFault
-item-same p s l = fault-same p s _ _ _ _ _ _ 5 l (ap (λ (n : ℕ). eqb n 2) (word-same p s 2 (omega arith))) (ap (λ (n : ℕ). eqb n (lengthOf 2)) (word-same p s 0 (omega arith)))
-    (λ e. let z = eqb-true (lengthAt p) (lengthOf 2) e in let y : lengthOf 2 ≡ 6 = unfold lengthOf entryIn kindTable in refl in omega arith) (λ e. refl)
+item-same p s l = fault-same p s _ _ _ _ _ _ 5 l (ap (λ (n : ℕ). eqb n 2 || eqb n 3) (word-same p s 2 (omega arith)))
+    (ap₂ (λ (n k : ℕ). eqb n (lengthOf k)) (word-same p s 0 (omega arith)) (word-same p s 2 (omega arith)))
+    (λ e. let z = eqb-true (lengthAt p) (lengthOf (kindAt p)) e in let y = short (kindAt p) in omega arith) (λ e. refl)
 
 module _ (M : ℕ) (few : M ≤ 16) where
   row-short : (p : List ℕ) → rowRight M p ≡ true → lengthAt p ≤ 104
@@ -149,6 +154,14 @@ module _ {A : Type 0} (fault : List ℕ → ℕ) (value : List ℕ → A) (c : �
       apart zero v o = refl
       apart (suc f) v o = refl
 
+  many-length : (n total : ℕ) (p : List ℕ) (g : Got (List A)) → readMany fault value total n p ≡ accepted g → length (g .value) ≡ n
+  unfolding readMany
+  many-length zero total p g e = let z : record { value = []; rest = p } ≡ g = cc in ap (λ (x : Got (List A)). length (x .value)) (sym z)
+  many-length (suc n) total p g e =
+      let a = next-inv (fault p) (total - length p) _ g e in
+      let w = adding-inv (value p) _ g (a .1) in
+      ap (λ (x : Got (List A)). length (x .value)) (sym (w .2)) ∙ ap suc (many-length n total (drop (lengthAt p) p) (w .0) (w .1))
+
   -- what is left behind n records
   many-left : (n total : ℕ) (p : List ℕ) (g : Got (List A)) → spent c n + 104 ≤ length p → readMany fault value total n p ≡ accepted g → length p ≤ length (g .rest) + spent c n
   unfolding readMany
@@ -164,12 +177,34 @@ module _ {A : Type 0} (fault : List ℕ → ℕ) (value : List ℕ → A) (c : �
 
 item-clean : (p : List ℕ) → itemFault p ≡ 0 → lengthAt p ≤ 6
 unfolding itemFault
-item-clean p e = let c = none-clean p (eqb (kindAt p) 2) (eqb (lengthAt p) (lengthOf 2)) true 4 e in
-    let z = eqb-true (lengthAt p) (lengthOf 2) (c .isRight) in let y : lengthOf 2 ≡ 6 = unfold lengthOf entryIn kindTable in refl in omega arith
+item-clean p e =
+    let c = none-clean p (eqb (kindAt p) 2 || eqb (kindAt p) 3) (eqb (lengthAt p) (lengthOf (kindAt p))) true 4 e in
+    let z = eqb-true (lengthAt p) (lengthOf (kindAt p)) (c .isRight) in
+    or-split (eqb (kindAt p) 2) (eqb (kindAt p) 3) (c .isDue) (six z 2 (unfold lengthOf entryIn kindTable in refl)) (λ f. six z 3 (unfold lengthOf entryIn kindTable in refl))
+  where
+    six : lengthAt p ≡ lengthOf (kindAt p) → (k : ℕ) → lengthOf k ≡ 6 → eqb (kindAt p) k ≡ true → lengthAt p ≤ 6
+    six z k y e = let w : lengthAt p ≡ 6 = z ∙ (ap lengthOf (eqb-true (kindAt p) k e) ∙ y) in omega arith
 
 row-clean : (M : ℕ) → M ≤ 16 → (p : List ℕ) → rowFault M p ≡ 0 → lengthAt p ≤ 104
 unfolding rowFault
 row-clean M few p e = row-short M few p (none-clean p (leb 16 (kindAt p) && leb (kindAt p) 27) (rowRight M p) (rowFine M (rowAt p)) 4 e .isRight)
+
+-- of a diagram with these items: 43 asks what the uses of a row say that has no other fault
+module _ (items : List Item) (few : length items ≤ 16) where
+  row-valued : (p s : List ℕ) → 104 ≤ length p → rowFault (length items) p ≡ 0 → rowAt (p ++ s) ≡ rowAt p
+  row-valued p s l e = row-at-same (length items) few p s l (row-clean (length items) few p e)
+
+  row-in-same : (p s : List ℕ) → 104 ≤ length p → rowFaultIn items (p ++ s) ≡ rowFaultIn items p
+  unfolding rowFaultIn
+  row-in-same p s l = ap (λ (f : ℕ). orElse f (cond (triggersFine items (rowAt (p ++ s) .uses)) 0 43)) (row-same (length items) few p s l) ∙ go (rowFault (length items) p) refl
+    where
+      go : (f : ℕ) → rowFault (length items) p ≡ f → orElse f (cond (triggersFine items (rowAt (p ++ s) .uses)) 0 43) ≡ orElse f (cond (triggersFine items (rowAt p .uses)) 0 43)
+      go zero e = ap (λ (r : Row). cond (triggersFine items (r .uses)) 0 43) (row-valued p s l e)
+      go (suc f) e = refl
+
+  unfaulted : (p : List ℕ) → rowFaultIn items p ≡ 0 → rowFault (length items) p ≡ 0
+  unfolding rowFaultIn
+  unfaulted p e = else-none (rowFault (length items) p) _ e .0
 
 -- head values that are not off
 record Few (p : List ℕ) : Type 0 where
@@ -185,7 +220,7 @@ head-clean p e =
 
 module _ (p s : List ℕ) (long : 8192 ≤ length p) where
   -- the file is longer than any diagram file: 6 behind the last row
-  rows-over : (items : List ℕ) (g : Got (List Row)) → 1 ≤ length (g .rest)
+  rows-over : (items : List Item) (g : Got (List Row)) → 1 ≤ length (g .rest)
       → afterRows (p ++ s) items (record { value = g .value; rest = g .rest ++ s }) ≡ afterRows p items g
   unfolding afterRows
   rows-over items g l = rw (ne-eqb (length (g .rest ++ s)) 0 (λ z. let e = length-append (g .rest) s in omega arith), ne-eqb (length (g .rest)) 0 (λ z. omega arith))
@@ -198,46 +233,51 @@ module _ (p s : List ℕ) (long : 8192 ≤ length p) where
     item-total : spent 6 (word p 8) ≤ 96
     item-total = spent-most 6 (word p 8) 16 (few .items)
 
-    abbrev rowsIn : List ℕ → List ℕ → Outcome (Got (List Row))
-    rowsIn file rest = readMany (rowFault (word p 8)) rowAt (length file) (word p 6) rest
-
-    items-over : (g : Got (List ℕ)) → length p ≤ length (g .rest) + 106 → afterItems (p ++ s) (record { value = g .value; rest = g .rest ++ s }) ≡ afterItems p g
+    items-over : (g : Got (List Item)) → length (g .value) ≤ 16 → length p ≤ length (g .rest) + 106
+        → afterItems (p ++ s) (record { value = g .value; rest = g .rest ++ s }) ≡ afterItems p g
     unfolding afterItems
-    items-over g l =
-        ap (λ (m : ℕ). andThen (readMany (rowFault m) rowAt (length (p ++ s)) (word (p ++ s) 6) (g .rest ++ s)) (afterRows (p ++ s) (g .value))) (word-same p s 8 (omega arith))
-        ∙ (ap (λ (n : ℕ). andThen (readMany (rowFault (word p 8)) rowAt (length (p ++ s)) n (g .rest ++ s)) (afterRows (p ++ s) (g .value))) (word-same p s 6 (omega arith))
+    items-over g many l =
+        ap (λ (n : ℕ). andThen (readMany fault rowAt (length (p ++ s)) n (g .rest ++ s)) (afterRows (p ++ s) (g .value))) (word-same p s 6 (omega arith))
         ∙ (ap (λ (o : Outcome (Got (List Row))). andThen o (afterRows (p ++ s) (g .value)))
-        (ap (λ (n : ℕ). readMany (rowFault (word p 8)) rowAt n (word p 6) (g .rest ++ s)) (length-append p s)
-        ∙ many-same (rowFault (word p 8)) rowAt 104 (row-same (word p 8) (few .items)) (row-clean (word p 8) (few .items)) valued (word p 6) (length p) (g .rest) s (omega arith) enough)
-        ∙ after (rowsIn p (g .rest)) refl))
+        (ap (λ (n : ℕ). readMany fault rowAt n (word p 6) (g .rest ++ s)) (length-append p s)
+        ∙ many-same fault rowAt 104 (row-in-same (g .value) many) clean valued (word p 6) (length p) (g .rest) s (omega arith) enough)
+        ∙ after (readMany fault rowAt (length p) (word p 6) (g .rest)) refl)
       where
-        valued : (q r : List ℕ) → 104 ≤ length q → rowFault (word p 8) q ≡ 0 → rowAt (q ++ r) ≡ rowAt q
-        valued q r m e = row-at-same (word p 8) (few .items) q r m (row-clean (word p 8) (few .items) q e)
+        fault : List ℕ → ℕ
+        fault = rowFaultIn (g .value)
+
+        clean : (q : List ℕ) → fault q ≡ 0 → lengthAt q ≤ 104
+        clean q e = row-clean (length (g .value)) many q (unfaulted (g .value) many q e)
+
+        valued : (q r : List ℕ) → 104 ≤ length q → fault q ≡ 0 → rowAt (q ++ r) ≡ rowAt q
+        valued q r m e = row-valued (g .value) many q r m (unfaulted (g .value) many q e)
 
         enough : spent 104 (word p 6) + 104 ≤ length (g .rest)
         enough = let a = row-total in omega arith
 
-        after : (o : Outcome (Got (List Row))) → rowsIn p (g .rest) ≡ o → andThen (extended s o) (afterRows (p ++ s) (g .value)) ≡ andThen o (afterRows p (g .value))
+        after : (o : Outcome (Got (List Row))) → readMany fault rowAt (length p) (word p 6) (g .rest) ≡ o
+            → andThen (extended s o) (afterRows (p ++ s) (g .value)) ≡ andThen o (afterRows p (g .value))
         after (accepted h) e = rows-over (g .value) h
-            (let a = row-total in let b = many-left (rowFault (word p 8)) rowAt 104 (row-same (word p 8) (few .items)) (row-clean (word p 8) (few .items)) valued (word p 6) (length p) (g .rest) h enough e in omega arith)
+            (let a = row-total in let b = many-left fault rowAt 104 (row-in-same (g .value) many) clean valued (word p 6) (length p) (g .rest) h enough e in omega arith)
         after (refused number value) e = refl
 
     items-same : andThen (readMany itemFault itemAt (length (p ++ s)) (word (p ++ s) 8) (drop 10 (p ++ s))) (afterItems (p ++ s))
         ≡ andThen (readMany itemFault itemAt (length p) (word p 8) (drop 10 p)) (afterItems p)
-    items-same = ap (λ (o : Outcome (Got (List ℕ))). andThen o (afterItems (p ++ s)))
+    items-same = ap (λ (o : Outcome (Got (List Item))). andThen o (afterItems (p ++ s)))
         (ap (λ (n : ℕ). readMany itemFault itemAt (length (p ++ s)) n (drop 10 (p ++ s))) (word-same p s 8 (omega arith))
         ∙ (ap₂ (λ (n : ℕ) (r : List ℕ). readMany itemFault itemAt n (word p 8) r) (length-append p s) (drop-append-le 10 p s (omega arith))
         ∙ many-same itemFault itemAt 6 item-same item-clean valued (word p 8) (length p) (drop 10 p) s (omega arith) enough))
         ∙ after (readMany itemFault itemAt (length p) (word p 8) (drop 10 p)) refl
       where
         valued : (q r : List ℕ) → 104 ≤ length q → itemFault q ≡ 0 → itemAt (q ++ r) ≡ itemAt q
-        valued q r m e = word-same q r 4 (omega arith)
+        valued q r m e = ap₂ (λ (n k : ℕ). itemOf n (eqb k 3)) (word-same q r 4 (omega arith)) (word-same q r 2 (omega arith))
 
         enough : spent 6 (word p 8) + 104 ≤ length (drop 10 p)
         enough = let a = item-total in let b = length-drop 10 p in omega arith
 
-        after : (o : Outcome (Got (List ℕ))) → readMany itemFault itemAt (length p) (word p 8) (drop 10 p) ≡ o → andThen (extended s o) (afterItems (p ++ s)) ≡ andThen o (afterItems p)
+        after : (o : Outcome (Got (List Item))) → readMany itemFault itemAt (length p) (word p 8) (drop 10 p) ≡ o → andThen (extended s o) (afterItems (p ++ s)) ≡ andThen o (afterItems p)
         after (accepted g) e = items-over g
+            (let n = many-length itemFault itemAt 6 item-same item-clean valued (word p 8) (length p) (drop 10 p) g e in let f = few .items in omega arith)
             (let a = item-total in let b = length-drop 10 p in let c = many-left itemFault itemAt 6 item-same item-clean valued (word p 8) (length p) (drop 10 p) g enough e in omega arith)
         after (refused number value) e = refl
 

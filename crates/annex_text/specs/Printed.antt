@@ -33,5 +33,5 @@ annexed {file} {net} {text} {after} {size} b w = record {
     e : answerText (translated file net .answer) (translated file net .area) ≡ T
     e = answer-text file net
 
-    short : length T ≤ 6000000
+    short : length T ≤ 24000000
     short = annex-short (length net) file b

@@ -1,11 +1,11 @@
 -- How long the annex text is.
-use Prim.Native.Nat.{ℕ, zero, suc, _+_, _*_, _/_, _%_, _≤_}
+use Prim.Native.Nat.{ℕ, zero, suc, _+_, _*_, _≤_}
 use mathlib.Core.Path.{_≡_, refl, subst}
 use mathlib.Core.Bool.{Bool, true, _&&_}
 use mathlib.Core.List.{List, [], _∷_, _++_, map}
 use native.Mathlib.Omega.{arith}
 use lib.ListN.{length, length-append}
-use lib.Dec.{leb, ltb, eqb}
+use lib.Dec.{leb, eqb}
 use borrow.Author.Tests.{leb-true}
 use Rattle.effbd.specs.Answers.{Outcome, accepted, refused, andThen}
 use Rattle.effbd.specs.Records.{areBytes}
@@ -14,11 +14,12 @@ use Rattle.effbd.specs.Layout.{placeOf, places}
 use Rattle.effbd.specs.Nesting.{readDiagram}
 use Rattle.effbd.specs.Nets.{Arc, Transition, Net, arcBytes, transitionBytes, markBytes, netBytes, mostPlaces, mostTransitions}
 use Rattle.effbd.specs.Patterns.{Name, arcsOf, joinRange, rangesFrom, names, patternOf, transitionOf, netOf}
-use Rattle.effbd.specs.Annex.{digits, number, numbers, line, tLetter, labelLetters, fromLetters, toLetters, arcLetters, arcLines, transitionLines, netLines, printed, fitted, annexIn}
+use Rattle.effbd.specs.Annex.{number, numbers, line, tLetter, labelLetters, fromLetters, toLetters, arcLetters, arcLines, transitionLines, netLines, printed, fitted, annexIn}
 use Rattle.text.specs.NumberLengths.{number-short}
 use Rattle.agreement.specs.AcceptedFiles.{AllOf, Held, held}
 use Rattle.ranges.specs.Tests.{decide, and-left, and-right}
 use Rattle.agreement.specs.ByteLaws.{bind-inv, never}
+use Rattle.agreement.specs.Counts.{counts-few}
 use Rattle.agreement.specs.Formed.{marksFine, transitionsFine, wellFormed}
 use Rattle.agreement.specs.WellFormed.{well-made}
 
@@ -141,13 +142,13 @@ unfolding markBytes
 mark-bytes [] = refl
 mark-bytes (m ∷ ms) = let a = mark-bytes ms in omega arith
 
-transition-bytes : (ts : List Transition) → AllOf (λ (t : Transition). length (t .arcs) ≤ 624) ts → length (transitionBytes ts) ≤ 5002 * length ts
+transition-bytes : (ts : List Transition) → AllOf (λ (t : Transition). length (t .arcs) ≤ 3648) ts → length (transitionBytes ts) ≤ 29194 * length ts
 unfolding transitionBytes
 transition-bytes [] h = omega arith
 transition-bytes (t ∷ ts) h = let a = transition-bytes ts (h .1) in let b = arc-bytes (t .arcs) in let c = length-append (arcBytes (t .arcs)) (transitionBytes ts) in let d = h .0 in omega arith
 
 module _ (d : Diagram) (h : Held d) where
-  arcs-few : (x : Name d) → length (transitionOf d x .arcs) ≤ 624
+  arcs-few : (x : Name d) → length (transitionOf d x .arcs) ≤ 3648
   unfolding transitionOf
   arcs-few x =
       let takes = arcsOf 35 (places d) (λ p. patternOf d x .take (placeOf d p)) in
@@ -160,13 +161,14 @@ module _ (d : Diagram) (h : Held d) where
       let f = length-append clears gives in
       let r = h .rows in
       let i = h .items in
+      let k = counts-few d 63 (h .works) in
       omega arith
 
-  each-few : (xs : List (Name d)) → AllOf (λ (t : Transition). length (t .arcs) ≤ 624) (map (transitionOf d) xs)
+  each-few : (xs : List (Name d)) → AllOf (λ (t : Transition). length (t .arcs) ≤ 3648) (map (transitionOf d) xs)
   each-few [] = tt
   each-few (x ∷ xs) = (arcs-few x, each-few xs)
 
-  net-small : length (netBytes (netOf d)) ≤ 1000000
+  net-small : length (netBytes (netOf d)) ≤ 4000000
   unfolding netBytes
   net-small =
       let n = netOf d in
@@ -182,7 +184,7 @@ module _ (d : Diagram) (h : Held d) where
       omega arith
 
 -- THEOREM: the text is short, whatever the room lent for the net
-pub annex-short : (room : ℕ) (file : List ℕ) → areBytes file ≡ true → length (annexIn room file) ≤ 6000000
+pub annex-short : (room : ℕ) (file : List ℕ) → areBytes file ≡ true → length (annexIn room file) ≤ 24000000
 unfolding annexIn
-annex-short room file b = printed-short (andThen (readDiagram file) (λ d. fitted room (netOf d))) 1000000 (omega arith)
-    (λ n e. let a = of-diagram file room n e in subst (λ x. length (netBytes x) ≤ 1000000) (a .3) (net-small (a .0) (held file (a .0) b (a .1))))
+annex-short room file b = printed-short (andThen (readDiagram file) (λ d. fitted room (netOf d))) 4000000 (omega arith)
+    (λ n e. let a = of-diagram file room n e in subst (λ x. length (netBytes x) ≤ 4000000) (a .3) (net-small (a .0) (held file (a .0) b (a .1))))

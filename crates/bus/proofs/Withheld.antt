@@ -15,6 +15,7 @@ use Rattle.effbd.specs.Layout.{places}
 use Rattle.effbd.specs.Nets.{mostPlaces}
 use Rattle.effbd.specs.Moves.{moveOf, checkedMove, stepDiagram}
 use Rattle.agreement.specs.AcceptedFiles.{held}
+use Rattle.agreement.specs.WellFormed.{few-places}
 use Rattle.words.specs.Stores.{copied}
 use Rattle.effbd.specs.BusEnds.{telegram, Offered, turnedAway, offered}
 use Rattle.bus.specs.Telegrams.{withheld}
@@ -30,7 +31,7 @@ too-long file state code argument number value b l = go (readDiagram file) refl
         → (returningZero (andThen x (λ d. checkedMove d (moveOf code argument) state)) ≡ withheld number value (andThen x (λ d. checkedMove d (moveOf code argument) state)))
         × (afterwards state (andThen x (λ d. checkedMove d (moveOf code argument) state)) ≡ state)
     go (refused n v) e = (refl, refl)
-    go (accepted d) e = let h = held file d b e in let r = h .rows in let i = h .items in
+    go (accepted d) e = let few = few-places d (held file d b e) in
         rw (ne-eqb (length state) (places d) (omega arith)) (refl, refl)
 
 -- a copy as long is the state

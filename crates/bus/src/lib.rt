@@ -6,6 +6,8 @@ ghost use lib.ListN.{length, drop};
 ghost use Rattle.effbd.specs.Answers.{said, returningZero, afterwards};
 ghost use Rattle.effbd.specs.Firing.{stepNet};
 ghost use Rattle.effbd.specs.Moves.{stepDiagram};
+ghost use Rattle.effbd.specs.Nets.{mostPlaces};
+ghost use Rattle.diagram_table.specs.Cells.{plainPlaces};
 ghost use Rattle.effbd.specs.BusEnds.{telegram as telegramOf, offered, taken};
 ghost use Rattle.bus.specs.Telegrams.{judged, counted, withheld};
 use effbd::Answer;
@@ -84,6 +86,24 @@ pub fn offer(
     }
 }
 
+// What a step of a state without copies is answered, tried on a copy of it: no diagram without triggers has more words.
+fn try_plain(file: &[u8], state: &[u16], code: u16, argument: u16) -> Answer
+    requires { ⌜ length (now state) ≤ plainPlaces ⌝ }
+    ensures { λ r. ⌜ said r ≡ returningZero (stepDiagram (now (file .entry)) code argument (now (state .entry))) ⌝ }
+{
+    let mut copy = [0u16; limits::PLAIN_PLACES as usize];
+    step_copy(file, &mut copy[0..state.len()], state, code, argument)
+}
+
+// The same of a longer one.
+fn try_long(file: &[u8], state: &[u16], code: u16, argument: u16) -> Answer
+    requires { ⌜ length (now state) ≤ mostPlaces ⌝ }
+    ensures { λ r. ⌜ said r ≡ returningZero (stepDiagram (now (file .entry)) code argument (now (state .entry))) ⌝ }
+{
+    let mut copy = [0u16; limits::MOST_PLACES as usize];
+    step_copy(file, &mut copy[0..state.len()], state, code, argument)
+}
+
 // The refusal of an offer that 27 or 10 stands against: the move's own, or that one. The move is tried on a copy of the state;
 // a longer state than any diagram has is refused by every file, so that it needs none.
 fn withhold(
@@ -101,8 +121,11 @@ fn withhold(
     if (limits::MOST_PLACES as usize) < size {
         return diagram_step::step(file, state, code, argument);
     }
-    let mut copy = [0u16; limits::MOST_PLACES as usize];
-    let answer = step_copy(file, &mut copy[0..size], state, code, argument);
+    if size <= limits::PLAIN_PLACES as usize {
+        let answer = try_plain(file, state, code, argument);
+        return refused_as(answer, number, value);
+    }
+    let answer = try_long(file, state, code, argument);
     refused_as(answer, number, value)
 }
 

@@ -92,9 +92,9 @@ line-short call answer v =
     let a = length-append (upTo 70 front ++ endsText v) (10 ∷ []) in let b = length-append (upTo 70 front) (endsText v) in
     let c = column-short 70 front in let d = front-short call answer in let e = ends-short v in omega arith
 
--- a line that shows the states of every diagram and every net fits 8,192 bytes
+-- a line that shows the states of every diagram and every net fits 32,768 bytes
 pub line-fits : {a b : List ℕ} {n : ℕ} (call : Call) (answer : Outcome ℕ) (v : Live) → length (v .leader) ≤ leaderRoom → length (v .follower) ≤ followerRoom
-    → Laid a 0 b n (lineText call answer v) → n ≤ 8192
+    → Laid a 0 b n (lineText call answer v) → n ≤ 32768
 line-fits call answer v l f w = let s = line-short call answer v in let e = laid-size w (omega arith) in omega arith
 
 -- the three columns of a line, one after the other
@@ -118,7 +118,7 @@ module _ {file net : List ℕ} {station : ℕ} {v : Live} {call leader follower 
   line-played w = same (ap₂ (lineText (callOf call)) (c .answer-is) (live-is _ leader follower sent took (c .leader-holds) (c .sent-is) (c .follower-holds) (c .taken-is))) w
 
   pub played-fits : {a b : List ℕ} {n : ℕ} → length leader ≤ leaderRoom → length follower ≤ followerRoom
-      → Laid a 0 b n (lineText (callOf call) (liveAnswer file net station v (callOf call)) (liveAfter file net station v (callOf call))) → n ≤ 8192
+      → Laid a 0 b n (lineText (callOf call) (liveAnswer file net station v (callOf call)) (liveAfter file net station v (callOf call))) → n ≤ 32768
   played-fits l f w = line-fits (callOf call) (liveAnswer file net station v (callOf call)) (liveAfter file net station v (callOf call))
       (let e = ap length (c .leader-holds) in omega arith) (let e = ap length (c .follower-holds) in omega arith) w
 

@@ -74,7 +74,7 @@ fn show_call(
     requires { ⌜ length (now follower) ≤ followerRoom ⌝ }
     requires { ⌜ length (now call) ≤ mostWord ⌝ }
 {
-    let mut text = [0u8; 8192];
+    let mut text = [0u8; 32768];
     let shown = play_call(
         &mut text,
         file,

@@ -1,16 +1,17 @@
 -- Rows of a state: one at rest passes the check, the BRANCH rows of an AND are done one after another.
-use Prim.Native.Nat.{ℕ, _-_, _≤_}
-use mathlib.Core.Path.{_≡_, refl, sym}
+use Prim.Native.Nat.{ℕ, _+_, _-_, _*_, _≤_}
+use mathlib.Core.Path.{_≡_, refl, sym, _∙_}
 use mathlib.Core.Bool.{Bool, true, false, cond, _&&_}
 use mathlib.Core.List.{List}
 use native.Mathlib.Omega.{arith}
 use lib.Dec.{eqb}
+use lib.ListN.{length}
 use borrow.Author.Tests.{lt-ltb, le-ltb, le-leb, eqb-true}
 use Rattle.effbd.specs.Ranges.{allBelow}
 use Rattle.ranges.specs.Tests.{and-left, and-right, and-intro}
 use Rattle.ranges.specs.RangeLaws.{all-intro}
-use Rattle.diagram_table.specs.Cells.{kindIn, firstIn}
-use Rattle.diagram_moves.specs.Decisions.{activityAllowed, turnsAllowed, clockAllowed, doneAt, doneFrom}
+use Rattle.diagram_table.specs.Cells.{kindIn, firstIn, countsIn}
+use Rattle.diagram_moves.specs.Decisions.{activityAllowed, turnsAllowed, clockAllowed, rowAllowed, sharedAllowed, stateAllowed, doneAt, doneFrom}
 
 -- a row at rest passes, whatever its kind
 always : (b : Bool) {x y : Bool} → x ≡ true → y ≡ true → cond b x y ≡ true
@@ -25,6 +26,26 @@ rest-allowed table r a n c h =
   where
     k : ℕ → Bool
     k n = eqb (kindIn table r) n
+
+-- the rows of a state first, then the shared counts
+and-off : (x y z : Bool) → (x && y) ≡ false → (x && (y && z)) ≡ false
+and-off true y z e = rw e
+and-off false y z e = refl
+
+and-on : (x y z : Bool) → (x && y) ≡ true → (x && (y && z)) ≡ z
+and-on x y z e = rw (and-left x y e, and-right x y e)
+
+module _ (table : List ℕ) (rows items : ℕ) (l : List ℕ) {c : ℕ} {b : Bool} (counts : c ≡ countsIn table items) (told : b ≡ (eqb (length l) (3 * rows + c) && allBelow rows (rowAllowed table l))) where
+  told-so : (eqb (length l) (3 * rows + countsIn table items) && allBelow rows (rowAllowed table l)) ≡ b
+  told-so = rw (sym counts) (sym told)
+
+  pub rows-off : b ≡ false → false ≡ stateAllowed table rows items l
+  unfolding stateAllowed
+  rows-off e = sym (and-off (eqb (length l) (3 * rows + countsIn table items)) (allBelow rows (rowAllowed table l)) (sharedAllowed table rows items l) (told-so ∙ e))
+
+  pub rows-pass : b ≡ true → stateAllowed table rows items l ≡ sharedAllowed table rows items l
+  unfolding stateAllowed
+  rows-pass e = and-on (eqb (length l) (3 * rows + countsIn table items)) (allBelow rows (rowAllowed table l)) (sharedAllowed table rows items l) (told-so ∙ e)
 
 -- before row o nothing is asked
 pub done-start : (table l : List ℕ) (o : ℕ) → allBelow o (doneFrom table l o) ≡ true

@@ -1,27 +1,50 @@
--- The first use that its count stops, one use after another.
-use Prim.Native.Nat.{ℕ, _-_, _≤_, _<_}
-use mathlib.Core.Path.{_≡_, sym, _∙_, ap}
-use mathlib.Core.Bool.{Bool, true, false, cond}
+-- The first use that is stopped, one use after another; how long a row's uses can be.
+use Prim.Native.Nat.{ℕ, _+_, _*_, _≤_, _<_}
+use mathlib.Core.Path.{_≡_, refl, sym, _∙_, ap}
+use mathlib.Core.Bool.{Bool, true, false, not, cond, _&&_}
 use mathlib.Core.List.{List}
-use lib.ListN.{length, getD, drop}
+use native.Mathlib.Omega.{arith}
+use lib.ListN.{length, getD, drop, length-drop}
+use lib.Seq.{length-take-le}
+use lib.Dec.{leb}
+use borrow.Author.Tests.{leb-true}
 use Rattle.effbd.specs.Records.{word}
-use Rattle.diagram_table.specs.Cells.{usesOf}
+use Rattle.ranges.specs.Tests.{decide}
+use Rattle.diagram_table.specs.Cells.{usesBytes, usesNumberIn, usesOf, usesStartIn}
 use Rattle.diagram_table.proofs.UsesWalked.{uses-next, uses-over}
-use Rattle.diagram_moves.specs.Decisions.{countPlace, exceeds, blockedItem}
+use Rattle.diagram_moves.specs.Decisions.{countPlace, exceeds, countAllows, runBlocked, blockedItem, useBlocked}
 
--- a use stands at the front of `rest`; w, x and y are its item, that item's count and its amount
-module _ (giving : Bool) (rows items : ℕ) (l rest : List ℕ) (b : 6 ≤ length rest) (w x y : ℕ) (t : Bool)
-    (item : w ≡ word rest 0) (count : x ≡ getD l (countPlace rows w) 0) (amount : y ≡ cond giving (word rest 4) (word rest 2)) (test : t ≡ exceeds giving x y) where
-  blocked-turn : blockedItem giving rows items l (usesOf rest) ≡ cond t w (blockedItem giving rows items l (usesOf (drop 6 rest)))
+-- use j of row r stands at the front of `rest`; w and y are its item and its amount
+module _ (table : List ℕ) (giving : Bool) (rows items : ℕ) (l : List ℕ) (r j : ℕ) (rest : List ℕ) (b : 6 ≤ length rest) (w y : ℕ) (t : Bool)
+    (item : w ≡ word rest 0) (amount : y ≡ cond giving (word rest 4) (word rest 2)) (test : t ≡ useBlocked table giving rows l r j w y) where
+  blocked-turn : blockedItem table giving rows items l r j (usesOf rest) ≡ cond t w (blockedItem table giving rows items l r (j + 1) (usesOf (drop 6 rest)))
   unfolding blockedItem
-  blocked-turn = rw (uses-next rest b, blockedItem, ← item, ← count, ← amount, ← test)
+  blocked-turn = rw (uses-next rest b, blockedItem, ← item, ← amount, ← test)
 
-  pub blocked-hit : t ≡ true → w ≡ blockedItem giving rows items l (usesOf rest)
+  pub blocked-hit : t ≡ true → w ≡ blockedItem table giving rows items l r j (usesOf rest)
   blocked-hit h = sym (blocked-turn ∙ rw h)
 
-  pub blocked-miss : (more : List ℕ) → more ≡ drop 6 rest → t ≡ false → blockedItem giving rows items l (usesOf more) ≡ blockedItem giving rows items l (usesOf rest)
-  blocked-miss more e h = ap (λ (m : List ℕ). blockedItem giving rows items l (usesOf m)) e ∙ sym (blocked-turn ∙ rw h)
+  pub blocked-miss : (more : List ℕ) → more ≡ drop 6 rest → t ≡ false → blockedItem table giving rows items l r (j + 1) (usesOf more) ≡ blockedItem table giving rows items l r j (usesOf rest)
+  blocked-miss more e h = ap (λ (m : List ℕ). blockedItem table giving rows items l r (j + 1) (usesOf m)) e ∙ sym (blocked-turn ∙ rw h)
 
-pub blocked-none : (giving : Bool) (rows items : ℕ) (l rest : List ℕ) → length rest < 6 → items ≡ blockedItem giving rows items l (usesOf rest)
+pub blocked-none : (table : List ℕ) (giving : Bool) (rows items : ℕ) (l : List ℕ) (r j : ℕ) (rest : List ℕ) → length rest < 6 → items ≡ blockedItem table giving rows items l r j (usesOf rest)
 unfolding blockedItem
-blocked-none giving rows items l rest b = rw (uses-over rest b)
+blocked-none table giving rows items l r j rest b = rw (uses-over rest b)
+
+-- their number is a word
+pub uses-short : (table file : List ℕ) (r : ℕ) → usesNumberIn table r ≤ 65535 → length (usesBytes table file r) < 393216
+unfolding usesBytes
+uses-short table file r h = decide (leb (usesStartIn table r + 6 * usesNumberIn table r) (length file))
+    (λ y. let b = leb-true (usesStartIn table r + 6 * usesNumberIn table r) (length file) y in
+    rw (y, length-take-le (6 * usesNumberIn table r) (drop (usesStartIn table r) file) (omega (arith, length-drop (usesStartIn table r) file))) (omega arith))
+    (λ y. rw y (omega arith))
+
+-- a run of one count
+pub one-blocked : (giving : Bool) (rows first amount : ℕ) (words : List ℕ) {n x : ℕ} {e : Bool} → n ≡ 1 → x ≡ getD words (countPlace rows (first + 0)) 0 → e ≡ exceeds giving x amount
+    → e ≡ runBlocked giving rows first amount n words
+unfolding runBlocked countAllows
+one-blocked giving rows first amount words l ex ee = rw (l, ee, ex) (go (exceeds giving (getD words (countPlace rows (first + 0)) 0) amount))
+  where
+    go : (b : Bool) → b ≡ not (not b && true)
+    go true = refl
+    go false = refl

@@ -28,11 +28,11 @@ pub fn clock(state: &[u16], row: u32) -> u16
     words::get(state, 3 * row as usize + 2)
 }
 
-// The count of an item.
-pub fn count(state: &[u16], rows: u32, item: u32) -> u16
-    ensures { λ r. ⌜ r ≡ getD (now (state .entry)) (countPlace rows item) 0 ⌝ }
+// A count: number `index` from count `first` on.
+pub fn count(state: &[u16], rows: u32, first: u32, index: u32) -> u16
+    ensures { λ r. ⌜ r ≡ getD (now (state .entry)) (countPlace rows (first + index)) 0 ⌝ }
 {
-    words::get(state, 3 * rows as usize + item as usize)
+    words::get(state, 3 * rows as usize + (first as usize + index as usize))
 }
 
 // The word at `at`, where it is known to stand.

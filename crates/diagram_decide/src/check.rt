@@ -1,12 +1,17 @@
 // The check of a state: refusal 20.
 ghost use mathlib.Core.Path.{_≡_};
 ghost use mathlib.Core.Bool.{_&&_};
+ghost use Prim.Native.Nat.{_+_, _*_};
 ghost use lib.Dec.{eqb};
-ghost use Rattle.diagram_moves.specs.Decisions.{activityAllowed, turnsAllowed, clockAllowed, rowAllowed, stateAllowed};
+ghost use lib.ListN.{length};
+ghost use Rattle.diagram_moves.specs.Decisions.{activityAllowed, turnsAllowed, clockAllowed, rowAllowed, countAllowed, sharedAllowed, stateAllowed};
+ghost use Rattle.effbd.specs.Ranges.{allBelow};
 use crate::cells;
 use diagram_table::FIRST;
 use diagram_table::OWNER;
 use diagram_table::SECOND;
+use diagram_table::SOME_TRIGGER;
+use diagram_table::TRIGGER;
 use words::kinds;
 
 // The activities that the kind of a row has.
@@ -79,11 +84,11 @@ fn row_allowed(table: &[u16], state: &[u16], row: u32) -> bool
     clock_allowed(table, row, activity, clock)
 }
 
-// A state has three words for each row and one for each item, and every row passes.
-pub fn state_allowed(table: &[u16], rows: u32, items: u32, state: &[u16]) -> bool
-    ensures { λ r. ⌜ r ≡ stateAllowed (now (table .entry)) rows items (now (state .entry)) ⌝ }
+// A state has three words for each row and one for each count, and every row passes.
+pub fn rows_allowed(table: &[u16], rows: u32, counts: u32, state: &[u16]) -> bool
+    ensures { λ r. ⌜ r ≡ (eqb (length (now (state .entry))) (3 * rows + counts) && allBelow rows (rowAllowed (now (table .entry)) (now (state .entry)))) ⌝ }
 {
-    if state.len() != 3 * rows as usize + items as usize {
+    if state.len() != 3 * rows as usize + counts as usize {
         return false;
     }
     for row in 0..rows {
@@ -92,4 +97,39 @@ pub fn state_allowed(table: &[u16], rows: u32, items: u32, state: &[u16]) -> boo
         }
     }
     true
+}
+
+// The shared count of a trigger is 0.
+fn count_allowed(table: &[u16], rows: u32, state: &[u16], item: u32) -> bool
+    ensures { λ r. ⌜ r ≡ countAllowed (now (table .entry)) rows (now (state .entry)) item ⌝ }
+{
+    if diagram_table::cell(table, TRIGGER, item) == 0 {
+        return true;
+    }
+    cells::count(state, rows, item, 0) == 0
+}
+
+// A plant without triggers has no such count to look at.
+fn shared_allowed(table: &[u16], rows: u32, items: u32, state: &[u16]) -> bool
+    ensures { λ r. ⌜ r ≡ sharedAllowed (now (table .entry)) rows items (now (state .entry)) ⌝ }
+{
+    if diagram_table::cell(table, SOME_TRIGGER, 0) == 0 {
+        return true;
+    }
+    for item in 0..items {
+        if !count_allowed(table, rows, state, item) {
+            return false;
+        }
+    }
+    true
+}
+
+// The check of a state on any table: its rows with the counts that the table has, then the shared counts of its triggers.
+pub fn state_allowed(table: &[u16], rows: u32, items: u16, state: &[u16]) -> bool
+    ensures { λ r. ⌜ r ≡ stateAllowed (now (table .entry)) rows items (now (state .entry)) ⌝ }
+{
+    if !rows_allowed(table, rows, diagram_table::count_total(table, items), state) {
+        return false;
+    }
+    shared_allowed(table, rows, items as u32, state)
 }

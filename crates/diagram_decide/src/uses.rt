@@ -1,9 +1,11 @@
 // The uses of a FUNCTION in the file's bytes: what stops its takes or its gives.
 ghost use mathlib.Core.Path.{_≡_};
 ghost use mathlib.Core.Bool.{cond};
+ghost use Prim.Native.Nat.{_<_};
+ghost use lib.ListN.{length};
 ghost use Rattle.effbd.specs.Records.{word};
 ghost use Rattle.diagram_table.specs.Cells.{usesOf, usesIn};
-ghost use Rattle.diagram_moves.specs.Decisions.{blockedItem};
+ghost use Rattle.diagram_moves.specs.Decisions.{runBlocked, useBlocked, blockedItem};
 ghost use Rattle.diagram_moves.specs.Decisions.{exceeds as exceeding};
 use crate::cells;
 use diagram_table::USE_SIZE;
@@ -29,19 +31,66 @@ fn exceeds(giving: bool, count: u16, amount: u16) -> bool
     count < amount
 }
 
-// The item of the first of some uses whose count stops it, or the number of items. "lowest": uses name rising items.
-fn blocked_in(uses: &[u8], rows: u32, items: u32, state: &[u16], giving: bool) -> u32
-    ensures { λ r. ⌜ r ≡ blockedItem giving rows items (now (state .entry)) (usesOf (now (uses .entry))) ⌝ }
+// Some count of a run stops a take or a give.
+fn run_blocked(state: &[u16], rows: u32, first: u32, length: u32, giving: bool, amount: u16) -> bool
+    ensures { λ r. ⌜ r ≡ runBlocked giving rows first amount length (now (state .entry)) ⌝ }
+{
+    for index in 0..length {
+        if exceeds(giving, cells::count(state, rows, first, index), amount) {
+            return true;
+        }
+    }
+    false
+}
+
+// Use `index` of a row is stopped. An amount of 0 never is: a row that only takes a trigger does not look at all its copies when it ends.
+fn use_blocked(
+    table: &[u16],
+    rows: u32,
+    state: &[u16],
+    row: u32,
+    index: u32,
+    item: u32,
+    giving: bool,
+    amount: u16,
+) -> bool
+    ensures { λ r. ⌜ r ≡ useBlocked (now (table .entry)) giving rows (now (state .entry)) row index item amount ⌝ }
+{
+    if amount == 0 {
+        return false;
+    }
+    let first = diagram_table::run_first(table, giving, row, index, item);
+    let length = diagram_table::run_length(table, giving, item);
+    if length == 1 {
+        return exceeds(giving, cells::count(state, rows, first, 0), amount);
+    }
+    run_blocked(state, rows, first, length, giving, amount)
+}
+
+// The item of the first of a row's uses that is stopped, or the number of items. "lowest": uses name rising items.
+fn blocked_in(
+    uses: &[u8],
+    table: &[u16],
+    rows: u32,
+    items: u32,
+    state: &[u16],
+    row: u32,
+    giving: bool,
+) -> u32
+    requires { ⌜ length (now uses) < 393216 ⌝ }
+    ensures { λ r. ⌜ r ≡ blockedItem (now (table .entry)) giving rows items (now (state .entry)) row 0 (usesOf (now (uses .entry))) ⌝ }
 {
     let mut rest = uses;
+    let mut index = 0;
     while USE_SIZE <= rest.len() {
         let item = words::word(rest, 0) as u32;
         let amount = amount(rest, giving);
-        if exceeds(giving, cells::count(state, rows, item), amount) {
+        if use_blocked(table, rows, state, row, index, item, giving, amount) {
             return item;
         }
         let more = words::tail(rest, USE_SIZE);
         rest = more;
+        index += 1;
     }
     items
 }
@@ -56,8 +105,8 @@ pub(crate) fn blocked_item(
     row: u32,
     giving: bool,
 ) -> u32
-    ensures { λ r. ⌜ r ≡ blockedItem giving rows items (now (state .entry)) (usesIn (now (table .entry)) (now (file .entry)) row) ⌝ }
+    ensures { λ r. ⌜ r ≡ blockedItem (now (table .entry)) giving rows items (now (state .entry)) row 0 (usesIn (now (table .entry)) (now (file .entry)) row) ⌝ }
 {
     let uses = diagram_table::uses(file, table, row);
-    blocked_in(uses, rows, items, state, giving)
+    blocked_in(uses, table, rows, items, state, row, giving)
 }

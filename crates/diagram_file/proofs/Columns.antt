@@ -19,7 +19,7 @@ use Rattle.diagram_file.specs.declared.structure.Around.{Around}
 use Rattle.nesting.specs.declared.Part.{Part}
 use Rattle.nesting.specs.declared.Part.the-variants.{Opens, Turns, Closes, Stays}
 use Rattle.nesting.specs.Runs.{partOf}
-use Rattle.diagram_table.specs.Cells.{cellOf, countCell, cellTotal}
+use Rattle.diagram_table.specs.Cells.{cellOf, itemCell, cellTotal}
 use Rattle.diagram_file.specs.Cells.{cell}
 use Rattle.diagram_file.specs.Structure.{structureCells, putStructure, AroundAt, loopingIn, followedAs, followed, structured}
 use Rattle.diagram_file.proofs.Cells.{put-long, put-away, put-at}
@@ -94,11 +94,11 @@ module _ (rows r o b p : ℕ) (t : List ℕ) where
         put-at (x ∷ y ∷ z ∷ []) w [] t (omega arith) tt,
       )
 
--- the columns below 5 and the counts stay
+-- the columns below 5 and the items' cells stay
 pub record Same (t u : List ℕ) : Type 0 where
   pub long : length u ≡ length t
   pub below : (j : ℕ) → j < cellOf 5 0 → getD u j 0 ≡ getD t j 0
-  pub above : (j : ℕ) → countCell 0 ≤ j → getD u j 0 ≡ getD t j 0
+  pub above : (j : ℕ) → itemCell 0 0 ≤ j → getD u j 0 ≡ getD t j 0
 
 same-self : (t : List ℕ) → Same t t
 same-self t = record { long = refl; below = λ j l. refl; above = λ j l. refl }

@@ -2,7 +2,7 @@
 use Prim.Native.Nat.{ℕ, zero, suc, _+_, _-_, _*_, _/_, _≤_, _<_}
 use mathlib.Core.Path.{_≡_, refl, sym, _∙_, ap, ap₂}
 use mathlib.Core.Logic.{_≢_}
-use mathlib.Core.Bool.{Bool, true, false, not, cond, _&&_}
+use mathlib.Core.Bool.{Bool, true, false, not, cond, _&&_, _||_}
 use mathlib.Core.List.{List}
 use native.Mathlib.Omega.{arith}
 use lib.ListN.{length, getD, drop}
@@ -10,9 +10,9 @@ use lib.Dec.{leb, ltb, eqb}
 use borrow.Author.Tests.{lt-ltb, le-leb, lt-leb, eqb-true, ne-eqb}
 use Rattle.ranges.specs.Tests.{decide}
 use Rattle.effbd.specs.Records.{word, lengthAt, kindAt, kindTable, entryIn, lengthOf, fieldsOf, KindBytes, faultAt}
-use Rattle.effbd.specs.Diagrams.{and-open, branch, and-close, or-open, or-close, it-open, it-close, lp-open, lp-close, loop-exit, end, Row, kindOf, headFault, itemFault, usesAt, usesFine, rowAt, rowRight, rowFineAs, rowFine, rowFault}
-use Rattle.diagram_file.specs.Fields.{fieldOf, useFine, isRow, functionRight, functionFine, functionFault, turnLimitFine, headFine}
-use Rattle.diagram_file.specs.Reading.{usesFrom, column, putRow, fillRow}
+use Rattle.effbd.specs.Diagrams.{and-open, branch, and-close, or-open, or-close, it-open, it-close, lp-open, lp-close, loop-exit, end, Use, Row, kindOf, headFault, itemFault, usesAt, usesFine, rowAt, rowRight, rowFineAs, rowFine, rowFault}
+use Rattle.diagram_file.specs.Fields.{fieldOf, useFine, isItem, isRow, functionRight, functionFine, functionFault, turnLimitFine, headFine}
+use Rattle.diagram_file.specs.Reading.{usesFrom, column, putRow, fillRow, useFits, triggersFit, triggerFault}
 
 positive : (x : ℕ) → not (eqb x 0) ≡ ltb 0 x
 positive zero = refl
@@ -161,11 +161,58 @@ module _ (items : ℕ) (bytes : List ℕ) where
         rw (z, eb, et, en, es)
 
 module _ (bytes : List ℕ) where
-  pub item-fault-is : (kind size n r : ℕ) → kind ≡ word bytes 2 → size ≡ word bytes 0 → n ≡ lengthOf kind → r ≡ faultAt bytes (eqb kind 2) (eqb size n) true 5 → r ≡ itemFault bytes
-  unfolding itemFault
-  item-fault-is kind size n r ek es en e = e ∙ (rw (en, es, ek) (own-length bytes (kindAt bytes) 2 (lengthAt bytes) 5 true))
+  pub item-fault-is : (kind size n r : ℕ) (due : Bool) → kind ≡ word bytes 2 → size ≡ word bytes 0 → n ≡ lengthOf kind → due ≡ isItem kind → r ≡ faultAt bytes due (eqb size n) true 5
+      → r ≡ itemFault bytes
+  unfolding itemFault isItem
+  item-fault-is kind size n r due ek es en ed e = e ∙ rw (ed, en, es, ek)
 
   pub head-fault-is : (kind size n a rows items r : ℕ) (fine : Bool) → kind ≡ word bytes 2 → size ≡ word bytes 0 → n ≡ lengthOf kind → a ≡ word bytes 4 → rows ≡ word bytes 6 → items ≡ word bytes 8
       → fine ≡ headFine a rows items → r ≡ faultAt bytes (eqb kind 1) (eqb size n) fine 4 → r ≡ headFault bytes
   unfolding headFault headFine
   head-fault-is kind size n a rows items r fine ek es en ea er ei ef e = e ∙ (rw (ef, ea, er, ei, en, es, ek) (own-length bytes (kindAt bytes) 1 (lengthAt bytes) 4 _))
+
+-- 43: one use after another
+abbrev useAt : List ℕ → Use
+useAt bytes = record { item = word bytes 0; take = word bytes 2; give = word bytes 4 }
+
+module _ (table bytes : List ℕ) where
+  pub fits-stop : (left item took gave : ℕ) → 0 < left → item ≡ word bytes 0 → took ≡ word bytes 2 → gave ≡ word bytes 4 → false ≡ useFits table (record { item = item; take = took; give = gave })
+      → false ≡ triggersFit table (usesAt left bytes)
+  unfolding triggersFit usesAt
+  fits-stop zero item took gave p a b c e = absurd (omega arith)
+  fits-stop (suc n) item took gave p a b c e = let z : useFits table (useAt bytes) ≡ false = rw (← a, ← b, ← c) (sym e) in rw z
+
+  pub fits-go : (left item took gave : ℕ) (rest : List ℕ) → 0 < left → item ≡ word bytes 0 → took ≡ word bytes 2 → gave ≡ word bytes 4 → true ≡ useFits table (record { item = item; take = took; give = gave })
+      → rest ≡ drop 6 bytes → triggersFit table (usesAt (left - 1) rest) ≡ triggersFit table (usesAt left bytes)
+  unfolding triggersFit usesAt
+  fits-go zero item took gave rest p a b c e f = absurd (omega arith)
+  fits-go (suc n) item took gave rest p a b c e f =
+      let z : useFits table (useAt bytes) ≡ true = rw (← a, ← b, ← c) (sym e) in
+      let m : suc n - 1 ≡ n = omega arith in rw (m, f, z)
+
+  pub fits-over : (left : ℕ) → left ≡ 0 → true ≡ triggersFit table (usesAt left bytes)
+  unfolding triggersFit usesAt
+  fits-over left e = rw e
+
+  -- a row without uses has no such fault
+  pub no-uses : {kind : ℕ} → kind ≡ kindAt bytes → kind ≢ 16 → 0 ≡ triggerFault table bytes
+  unfolding triggerFault rowAt triggersFit
+  no-uses ek ne = rw (ne-eqb (kindAt bytes) 16 (λ z. ne (ek ∙ z)))
+
+  module _ {kind size base n behind : ℕ} {uses : List ℕ} {fit : Bool} (ek : kind ≡ kindAt bytes) (e : kind ≡ 16) (es : size ≡ lengthAt bytes) (eb : base ≡ lengthOf kind) (en : n ≡ (size - base) / 6)
+      (eh : behind ≡ 4 + 2 * fieldsOf kind) (eu : uses ≡ drop behind bytes) (ef : fit ≡ triggersFit table (usesAt n uses)) where
+    fit-is : fit ≡ triggersFit table (rowAt bytes .uses)
+    unfolding rowAt
+    fit-is =
+        let k : kindAt bytes ≡ 16 = sym ek ∙ e in
+        let b : base ≡ 8 = eb ∙ (ap lengthOf e ∙ function-base) in
+        let h : behind ≡ 8 = eh ∙ (ap (λ (x : ℕ). 4 + 2 * fieldsOf x) e ∙ function-behind) in
+        rw (k, ef, en, eu, es, b, h)
+
+    pub fault-none : fit ≡ true → 0 ≡ triggerFault table bytes
+    unfolding triggerFault
+    fault-none z = rw (← fit-is, z)
+
+    pub fault-some : fit ≡ false → 43 ≡ triggerFault table bytes
+    unfolding triggerFault
+    fault-some z = rw (← fit-is, z)

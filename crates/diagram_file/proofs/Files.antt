@@ -2,28 +2,29 @@
 use Prim.Native.Nat.{ℕ, zero, suc, _+_, _-_, _*_, _/_, _%_, _≤_, _<_}
 use mathlib.Core.Path.{_≡_, refl, sym, _∙_, ap, ap₂, subst}
 use mathlib.Core.Logic.{_≢_}
-use mathlib.Core.Bool.{Bool, true, false, cond, _&&_, _||_}
+use mathlib.Core.Bool.{Bool, true, false, not, cond, _&&_, _||_}
 use mathlib.Core.List.{List, [], _∷_}
 use native.Mathlib.Omega.{arith}
 use lib.ListN.{length, getD, drop, length-drop, drop-of-length-le}
 use lib.Seq.{drop-drop, drop-length}
-use lib.Dec.{leb, eqb}
-use borrow.Author.Tests.{leb-true, leb-false, eqb-true, eqb-false}
+use lib.Dec.{leb, ltb, eqb}
+use borrow.Author.Tests.{ltb-true, leb-true, leb-false, eqb-true, eqb-false}
 use Rattle.effbd.specs.Ranges.{allBelow}
-use Rattle.effbd.specs.Answers.{Outcome, accepted, refused, unless, andThen}
+use Rattle.effbd.specs.Answers.{Outcome, accepted, refused, unless, orElse, andThen}
 use Rattle.effbd.specs.Records.{word, lengthAt, kindAt, kindTable, entryIn, lengthOf, fieldsOf, Got, adding, readMany}
-use Rattle.effbd.specs.Diagrams.{mostRows, mostItems, function, end, numberOf, sameKind, kindOf, Row, plain, Diagram, rowCount, row, isKind, headFault, itemFault, itemAt, usesAt, rowAt, rowRight, rowFine, rowFault}
+use Rattle.effbd.specs.Diagrams.{mostRows, mostItems, function, end, numberOf, sameKind, kindOf, Use, Row, Item, plain, noItem, Diagram, rowCount, row, isKind, headFault, itemFault, itemAt, usesAt, usesFine, rowAt, rowRight, rowFine, rowFault, triggersFine, rowFaultIn}
 use Rattle.effbd.specs.Nesting.{nested, afterRows, afterItems, readDiagram, skip, fromRow}
 use Rattle.ranges.specs.Tests.{decide, and-left, and-right}
 use Rattle.ranges.specs.RangeLaws.{all-elim}
 use Rattle.agreement.specs.ByteLaws.{Clean, none-clean}
 use Rattle.diagram_file.specs.declared.records.Reached.{Reached}
-use Rattle.diagram_table.specs.Cells.{cellOf, countCell}
+use Rattle.diagram_table.specs.Cells.{cellOf, itemCell, someTriggerCell, triggerIn, someTriggerIn}
 use Rattle.diagram_table.specs.Held.{Tabulated}
 use Rattle.diagram_file.specs.Fields.{fieldOf}
-use Rattle.diagram_file.specs.Reading.{Stopped, ItemsRead, RowsRead, endReached, usesFrom, column, recordRows, recordItems, readRecords, TabledUses, Recorded}
+use Rattle.diagram_file.specs.Reading.{useFits, triggersFit, triggerFault, tableFault, Stopped, ItemsRead, RowsRead, endReached, usesFrom, column, recordRows, recordItems, readRecords, TabledUses, Recorded}
 use Rattle.ranges.specs.Outcomes.{unless-refused, unless-then, andThen-twice}
 use Rattle.diagram_file.proofs.Fields.{function-base, function-behind}
+use Rattle.diagram_file.proofs.RecordsRead.{row-fine}
 
 -- n records that were read: their values, their faults, the rest
 pub record Many (A : Type 0) (fault : List ℕ → ℕ) (value : List ℕ → A) (n : ℕ) (start : List ℕ) (g : Got (List A)) : Type 0 where
@@ -60,6 +61,12 @@ module _ {A : Type 0} (fault : List ℕ → ℕ) (value : List ℕ → A) (total
           → (i : ℕ) → i < suc n → (z : A) → getD (value l ∷ g .value) i z ≡ value (skip i l)
       each g m zero h z = refl
       each g m (suc i) h z = m .each i (omega arith) z
+
+  -- two faults that are the same of every record
+  many-same : (other : List ℕ → ℕ) → ((l : List ℕ) → fault l ≡ other l) → (n : ℕ) (l : List ℕ) → readMany fault value total n l ≡ readMany other value total n l
+  unfolding readMany
+  many-same other e zero l = refl
+  many-same other e (suc n) l = ap₂ (λ (f : ℕ) (x : Outcome (Got (List A))). unless f (total - length l) (adding (value l) x)) (e l) (many-same other e n (drop (lengthAt l) l))
 
   -- the code's report of a loop, against the definition
   stopped-many : (from : ℕ) (start : List ℕ) (n : ℕ) (r : Reached) → from + length start ≡ total → Stopped fault from start n r → r .fault ≢ 0
@@ -224,6 +231,52 @@ module _ (items at : ℕ) (file l : List ℕ) (clean : rowFault items l ≡ 0) w
           let x = eqb-true ((lengthAt l - 8) % 6) 0 (and-left (eqb ((lengthAt l - 8) % 6) 0) _ (and-right (leb 8 (lengthAt l)) _ h)) in (omega arith, λ z. omega arith)
       go false h w = (refl, λ z. omega arith)
 
+-- 43 by the table is 43 by the items that it was filled from
+module _ (items : List Item) (t : List ℕ) where
+  -- the first of some uses names an item that is there, and so do the others
+  first-use : (from : ℕ) (u : Use) (us : List Use) → usesFine (length items) from (u ∷ us) ≡ true → (u .item < length items) × (usesFine (length items) (suc (u .item)) us ≡ true)
+  unfolding usesFine
+  first-use from u us h =
+      let a = and-right (leb from (u .item)) _ h in
+      (ltb-true (u .item) (length items) (and-left (ltb (u .item) (length items)) _ a), and-right (not (eqb (u .take + u .give) 0)) _ (and-right (ltb (u .item) (length items)) _ a))
+
+  fits-are : ((k : ℕ) → k < length items → triggerIn t k ≡ cond (getD items k noItem .trigger) 1 0) → (from : ℕ) (us : List Use) → usesFine (length items) from us ≡ true → triggersFit t us ≡ triggersFine items us
+  unfolding triggersFit useFits triggersFine
+  fits-are marks from [] h = refl
+  fits-are marks from (u ∷ us) h =
+      let w = first-use from u us h in
+      ap₂ (λ (x y : Bool). (x || (leb (u .take) 1 && leb (u .give) 1)) && y) (ap (λ (x : ℕ). eqb x 0) (marks (u .item) (w .0)) ∙ go (getD items (u .item) noItem .trigger)) (fits-are marks (suc (u .item)) us (w .1))
+    where
+      go : (b : Bool) → eqb (cond b 1 0) 0 ≡ not b
+      go true = refl
+      go false = refl
+
+  fits-all : ((k : ℕ) → k < length items → getD items k noItem .trigger ≡ false) → (from : ℕ) (us : List Use) → usesFine (length items) from us ≡ true → triggersFine items us ≡ true
+  unfolding triggersFine
+  fits-all none from [] h = refl
+  fits-all none from (u ∷ us) h = let w = first-use from u us h in rw (none (u .item) (w .0), fits-all none (suc (u .item)) us (w .1))
+
+  uses-clean : (l : List ℕ) → rowFault (length items) l ≡ 0 → usesFine (length items) 0 (rowAt l .uses) ≡ true
+  unfolding rowAt kindOf rowFine
+  uses-clean l e = decide (eqb (kindAt l) 16)
+      (λ z. let f = whole (length items) 0 l l e .isFine in rw z (and-right (leb (word l 4) (word l 6)) _ (rw z at f)))
+      (λ z. rw z (unfold usesFine in refl))
+
+  faults-are : ((k : ℕ) → k < length items → triggerIn t k ≡ cond (getD items k noItem .trigger) 1 0) → (someTriggerIn t ≡ 0 → (k : ℕ) → k < length items → getD items k noItem .trigger ≡ false)
+      → (l : List ℕ) → tableFault (length items) t l ≡ rowFaultIn items l
+  unfolding tableFault triggerFault rowFaultIn
+  faults-are marks none l = go (rowFault (length items) l) refl
+    where
+      late : rowFault (length items) l ≡ 0 → _≡_ {A = ℕ} (cond (eqb (someTriggerIn t) 0) 0 (cond (triggersFit t (rowAt l .uses)) 0 43)) (cond (triggersFine items (rowAt l .uses)) 0 43)
+      late e = decide (eqb (someTriggerIn t) 0)
+          (λ z. rw (z, fits-all (none (eqb-true (someTriggerIn t) 0 z)) 0 (rowAt l .uses) (uses-clean l e)))
+          (λ z. rw (z, fits-are marks 0 (rowAt l .uses) (uses-clean l e)))
+
+      go : (f : ℕ) → f ≡ rowFault (length items) l
+          → orElse f (cond (eqb (someTriggerIn t) 0) 0 (cond (triggersFit t (rowAt l .uses)) 0 43)) ≡ orElse f (cond (triggersFine items (rowAt l .uses)) 0 43)
+      go zero e = late (sym e)
+      go (suc f) e = refl
+
 -- the rest of a file n records on is a tail of it
 skip-drop : (n k : ℕ) (file : List ℕ) → (j : ℕ) × (skip n (drop k file) ≡ drop j file)
 unfolding skip
@@ -259,7 +312,7 @@ module _ (file t : List ℕ) (r : Reached) (k : headFault file ≡ 0) (i : Items
     start : List ℕ
     start = skip (word file 8) (drop 10 file)
 
-    q : RowsRead (s .at) start (word file 8) (word file 6) (i .counted) t r
+    q : RowsRead (tableFault (word file 8) t) (s .at) start (word file 6) (i .counted) t r
     unfolding s start
     q = i .rowsRead z
 
@@ -282,20 +335,33 @@ module _ (file t : List ℕ) (r : Reached) (k : headFault file ≡ 0) (i : Items
     unfolding s l
     near = let h = head-good file k in omega (arith, i .near, q .near, h .items, h .rows)
 
-    so-far : readRecords file ≡ andThen (readMany (rowFault (word file 8)) rowAt (length file) (word file 6) start) (recordRows file (its .got .value))
+    -- the fault of a row's record, by the table
+    rowsFault : List ℕ → ℕ
+    rowsFault l = tableFault (word file 8) t l
+
+    same-fault : (l : List ℕ) → rowFaultIn (its .got .value) l ≡ rowsFault l
+    unfolding rowsFault s q
+    same-fault l =
+        let m = its .held .many in
+        sym (subst (λ (x : ℕ). tableFault x t l ≡ rowFaultIn (its .got .value) l) m (faults-are (its .got .value) t
+        (λ k g. let h : k < word file 8 = omega arith in q .kept .cell (itemCell 1 k) (omega arith) ∙ (i .filled z .trigger k h ∙ ap (λ (x : Item). cond (x .trigger) 1 0) (sym (its .held .each k h noItem))))
+        (λ e k g. let h : k < word file 8 = omega arith in ap (λ (x : Item). x .trigger) (its .held .each k h noItem) ∙ i .filled z .none (sym (q .kept .cell someTriggerCell (omega arith)) ∙ e) k h) l))
+
+    so-far : readRecords file ≡ andThen (readMany rowsFault rowAt (length file) (word file 6) start) (recordRows file (its .got .value))
     unfolding readRecords recordItems start
     so-far = ap₂ (λ f x. unless f 0 (andThen x (recordItems file))) k (its .read)
-        ∙ ap (λ l. andThen (readMany (rowFault (word file 8)) rowAt (length file) (word file 6) l) (recordRows file (its .got .value))) (its .held .rest)
+        ∙ (ap (λ l. andThen (readMany (rowFaultIn (its .got .value)) rowAt (length file) (word file 6) l) (recordRows file (its .got .value))) (its .held .rest)
+        ∙ ap (λ x. andThen x (recordRows file (its .got .value))) (many-same (rowFaultIn (its .got .value)) rowAt (length file) rowsFault same-fault (word file 6) start))
 
     rows-bad : l .fault ≢ 0 → Recorded file t l
-    unfolding l
+    unfolding l rowsFault
     rows-bad ne = refused-is file t (l .fault) (l .at) ne near (so-far ∙ ap (λ x. andThen x (recordRows file (its .got .value)))
-        (stopped-many (rowFault (word file 8)) rowAt (length file) (s .at) start (word file 6) l whole-file (q .stopped) ne))
+        (stopped-many rowsFault rowAt (length file) (s .at) start (word file 6) l whole-file (q .stopped) ne))
 
     module _ (y : l .fault ≡ 0) where
-      rws : All (rowFault (word file 8)) rowAt (length file) (s .at) start (word file 6) (l .at)
-      unfolding l
-      rws = all-many (rowFault (word file 8)) rowAt (length file) (s .at) start (word file 6) l (q .stopped) y
+      rws : All rowsFault rowAt (length file) (s .at) start (word file 6) (l .at)
+      unfolding l rowsFault
+      rws = all-many rowsFault rowAt (length file) (s .at) start (word file 6) l (q .stopped) y
 
       left : ℕ
       left = length (skip (word file 6) start)
@@ -320,8 +386,8 @@ module _ (file t : List ℕ) (r : Reached) (k : headFault file ≡ 0) (i : Items
       each p g = rws .held .each p (let n = rws .held .many in omega arith) (plain end)
 
       fine : (p : ℕ) → p < rowCount dia → rowFault (word file 8) (from p) ≡ 0
-      unfolding dia from
-      fine p g = rws .held .clean p (let n = rws .held .many in omega arith)
+      unfolding dia from rowsFault
+      fine p g = row-fine (word file 8) t (skip p start) (rws .held .clean p (let n = rws .held .many in omega arith))
 
       isFunction : (p : ℕ) → p < rowCount dia → eqb (kindAt (from p)) 16 ≡ isKind dia function p
       isFunction p g = row-function (word file 8) 0 file (from p) (fine p g) ∙ ap (λ (x : Row). sameKind (x .kind) function) (sym (each p g))
@@ -359,7 +425,9 @@ module _ (file t : List ℕ) (r : Reached) (k : headFault file ≡ 0) (i : Items
             firsts = λ p g. cell 1 p (omega arith) (in-rows p g) ∙ (row-first (word file 8) (at p) file (from p) (fine p (in-rows p g)) ∙ ap (λ (x : Row). x .first) (sym (each p (in-rows p g))));
             seconds = λ p g. cell 2 p (omega arith) (in-rows p g) ∙ (row-second (word file 8) (at p) file (from p) (fine p (in-rows p g)) ∙ ap (λ (x : Row). x .second) (sym (each p (in-rows p g))));
             numbers = λ p g. cell 4 p (omega arith) (in-rows p g) ∙ (row-number (word file 8) (at p) file (from p) (fine p (in-rows p g)) ∙ ap (λ (x : Row). length (x .uses)) (sym (each p (in-rows p g))));
-            counts = λ p g. q .kept .cell (countCell p) (omega arith) ∙ (i .filled z .cell p g ∙ sym (its .held .each p g 0));
+            counts = λ p g. q .kept .cell (itemCell 0 p) (omega arith) ∙ (i .filled z .count p g ∙ ap (λ (x : Item). x .initial) (sym (its .held .each p g noItem)));
+            triggers = λ p g. q .kept .cell (itemCell 1 p) (omega arith) ∙ (i .filled z .trigger p g ∙ ap (λ (x : Item). cond (x .trigger) 1 0) (sym (its .held .each p g noItem)));
+            noTrigger = λ e p g. ap (λ (x : Item). x .trigger) (its .held .each p g noItem) ∙ i .filled z .none (sym (q .kept .cell someTriggerCell (omega arith)) ∙ e) p g;
           }
 
       tabled-uses : TabledUses file dia t
@@ -424,7 +492,7 @@ module _ (file : List ℕ) {fault size n m : ℕ} (ef : fault ≡ headFault file
 pub two-parts : (file : List ℕ) → readDiagram file ≡ andThen (readRecords file) nested
 unfolding readDiagram readRecords afterItems recordItems afterRows recordRows
 two-parts file = unless-after (headFault file) 0 _ nested _ (andThen-twice (readMany itemFault itemAt (length file) (word file 8) (drop 10 file)) (recordItems file) nested (afterItems file)
-    (λ got. andThen-twice (readMany (rowFault (word file 8)) rowAt (length file) (word file 6) (got .rest)) (recordRows file (got .value)) nested (afterRows file (got .value))
+    (λ got. andThen-twice (readMany (rowFaultIn (got .value)) rowAt (length file) (word file 6) (got .rest)) (recordRows file (got .value)) nested (afterRows file (got .value))
     (λ rs. unless-after (cond (eqb (length (rs .rest)) 0) 0 6) (length file - length (rs .rest)) _ nested _ refl)))
   where
     unless-after : {A B : Type 0} (n v : ℕ) (a : Outcome A) (g : A → Outcome B) (b : Outcome B) → b ≡ andThen a g → unless n v b ≡ andThen (unless n v a) g

@@ -11,17 +11,18 @@ use lib.Dec.{ltb, eqb}
 use borrow.Author.Tests.{ltb-true, ltb-false, lt-ltb, le-ltb, eqb-true, eqb-false, eq-eqb, ne-eqb}
 use Rattle.effbd.specs.Answers.{accepted}
 use Rattle.effbd.specs.Ranges.{only, tabulate}
-use Rattle.effbd.specs.Diagrams.{Kind, function, and-open, branch, and-close, or-open, or-close, it-open, it-close, lp-open, lp-close, loop-exit, end, numberOf, sameKind, Diagram, rowCount, initialCount, kind, isKind}
+use Rattle.effbd.specs.Diagrams.{Kind, function, and-open, branch, and-close, or-open, or-close, it-open, it-close, lp-open, lp-close, loop-exit, end, numberOf, sameKind, Diagram, rowCount, itemTotal, item, isTrigger, kind, isKind}
+use Rattle.effbd.specs.Counts.{shared, initialAs, initialCount}
 use Rattle.effbd.specs.Nesting.{stack, owner, nested}
 use Rattle.effbd.specs.Layout.{byPlace, places, placeOf}
-use Rattle.effbd.specs.Nets.{mostPlaces}
 use Rattle.effbd.specs.States.{stateWords, enteredAs, enteredRow, fresh, freshWords}
 use Rattle.ranges.specs.RangeLaws.{length-tab, getD-tab}
 use Rattle.ranges.specs.Tests.{decide, clash, and-left, and-right}
 use Rattle.nesting.specs.Runs.{partOf}
-use Rattle.diagram_file.specs.Tables.{countsPut, freshPut, FreshOf, Freshened}
-use Rattle.diagram_table.specs.Cells.{countIn}
-use Rattle.diagram_table.specs.Held.{Holds}
+use Rattle.diagram_file.specs.Tables.{countsPut, freshPut, Freshened}
+use Rattle.diagram_table.specs.Cells.{plainPlaces, sharedIn, triggerIn}
+use Rattle.diagram_table.specs.Held.{Holds, FreshFront}
+use Rattle.agreement.specs.Sources.{item-shared, counts-are}
 use Rattle.nesting.proofs.Rules.{ending}
 use Rattle.nesting.proofs.Stacks.{does, held}
 
@@ -40,21 +41,21 @@ zero-at (x ∷ l) h (suc i) = zero-at l (and-right (eqb x 0) (allZero l) h) i
 counts-long : (rows k : ℕ) (table l : List ℕ) → length (countsPut rows k table l) ≡ length l
 unfolding countsPut
 counts-long rows zero table l = refl
-counts-long rows (suc k) table l = length-set (countsPut rows k table l) (3 * rows + k) (countIn table k) ∙ counts-long rows k table l
+counts-long rows (suc k) table l = length-set (countsPut rows k table l) (3 * rows + k) (sharedIn table k) ∙ counts-long rows k table l
 
 counts-other : (rows k : ℕ) (table l : List ℕ) (i : ℕ) → ((j : ℕ) → j < k → i ≢ 3 * rows + j) → getD (countsPut rows k table l) i 0 ≡ getD l i 0
 unfolding countsPut
 counts-other rows zero table l i h = refl
 counts-other rows (suc k) table l i h =
-    getD-set-other (countsPut rows k table l) (3 * rows + k) i (countIn table k) 0 (h k (omega arith)) ∙ counts-other rows k table l i (λ j z. h j (omega arith))
+    getD-set-other (countsPut rows k table l) (3 * rows + k) i (sharedIn table k) 0 (h k (omega arith)) ∙ counts-other rows k table l i (λ j z. h j (omega arith))
 
-counts-at : (rows k : ℕ) (table l : List ℕ) (j : ℕ) → j < k → 3 * rows + k ≤ length l → getD (countsPut rows k table l) (3 * rows + j) 0 ≡ countIn table j
+counts-at : (rows k : ℕ) (table l : List ℕ) (j : ℕ) → j < k → 3 * rows + k ≤ length l → getD (countsPut rows k table l) (3 * rows + j) 0 ≡ sharedIn table j
 unfolding countsPut
 counts-at rows zero table l j h n = absurd (omega arith)
 counts-at rows (suc k) table l j h n = decide (eqb j k)
-    (λ e. let z = eqb-true j k e in rw z (getD-set-same (countsPut rows k table l) (3 * rows + k) (countIn table k) 0 (omega (arith, counts-long rows k table l))))
+    (λ e. let z = eqb-true j k e in rw z (getD-set-same (countsPut rows k table l) (3 * rows + k) (sharedIn table k) 0 (omega (arith, counts-long rows k table l))))
     (λ e. let z : j ≢ k = eqb-false j k e in
-    getD-set-other (countsPut rows k table l) (3 * rows + k) (3 * rows + j) (countIn table k) 0 (λ y. z (omega arith)) ∙ counts-at rows k table l j (omega arith) (omega arith))
+    getD-set-other (countsPut rows k table l) (3 * rows + k) (3 * rows + j) (sharedIn table k) 0 (λ y. z (omega arith)) ∙ counts-at rows k table l j (omega arith) (omega arith))
 
 module _ (d : Diagram) (acc : nested d ≡ accepted d) (some : 0 < rowCount d) where
   -- row 0 is neither BRANCH nor close, so that entering it makes it ready itself
@@ -112,7 +113,17 @@ module _ (d : Diagram) (acc : nested d ≡ accepted d) (some : 0 < rowCount d) w
       let z : 3 * rowCount d + k - 3 * rowCount d ≡ k = omega arith in
       rw (le-ltb (3 * rowCount d + k) (3 * rowCount d) (omega arith), z)
 
-  module _ (rows items : ℕ) (table zeros : List ℕ) (h : Holds d rows items table) (n : length zeros ≡ mostPlaces) (e : allZero zeros ≡ true) where
+  shared-is : (rows items : ℕ) (table : List ℕ) → Holds d rows items table → (k : ℕ) → k < items → sharedIn table k ≡ initialCount d k
+  unfolding sharedIn initialCount
+  shared-is rows items table h k l =
+      let m = h .records .itemsAre in
+      rw (item-shared d k (omega arith), h .records .triggers k l, h .records .counts k l) (go (isTrigger d k))
+    where
+      go : (b : Bool) → cond (eqb (cond b 1 0) 0) (item d k .initial) 0 ≡ cond b 0 (item d k .initial)
+      go true = refl
+      go false = refl
+
+  module _ (rows items : ℕ) (table zeros : List ℕ) (h : Holds d rows items table) (n : length zeros ≡ plainPlaces) (e : allZero zeros ≡ true) where
     abbrev put : List ℕ
     put = freshPut rows items table zeros
 
@@ -122,21 +133,21 @@ module _ (d : Diagram) (acc : nested d ≡ accepted d) (some : 0 < rowCount d) w
         (λ x. let z = eqb-true p 0 x in rw z (getD-set-same zeros 0 1 0 (omega arith)))
         (λ x. rw x (getD-set-other zeros 0 p 1 0 (eqb-false p 0 x) ∙ zero-at zeros e p))
 
-    put-long : length put ≡ mostPlaces
+    put-long : length put ≡ plainPlaces
     unfolding freshPut
     put-long = counts-long rows items table (set zeros 0 1) ∙ (length-set zeros 0 1 ∙ n)
 
     put-count : (k : ℕ) → k < items → getD put (3 * rows + k) 0 ≡ initialCount d k
     unfolding freshPut
-    put-count k l = counts-at rows items table (set zeros 0 1) k l (let a = h .records .fewRows in let b = h .records .fewItems in omega (arith, length-set zeros 0 1)) ∙ h .records .counts k l
+    put-count k l = counts-at rows items table (set zeros 0 1) k l (let a = h .records .fewRows in let b = h .records .fewItems in omega (arith, length-set zeros 0 1)) ∙ shared-is rows items table h k l
 
-    put-behind : (i : ℕ) → 3 * rows + items ≤ i → getD put i 0 ≡ 0
+    put-behind : (i : ℕ) → 3 * rowCount d + itemTotal d ≤ i → getD put i 0 ≡ 0
     unfolding freshPut
-    put-behind i l = let a = h .records .someRow in
+    put-behind i l = let a = h .records .someRow in let b = h .records .rowsAre in let c = h .records .itemsAre in
         counts-other rows items table (set zeros 0 1) i (λ j z y. absurd (omega arith))
         ∙ (getD-set-other zeros 0 i 1 0 (λ z. absurd (omega arith)) ∙ zero-at zeros e i)
 
-    word-is : (p : ℕ) → p < places d → getD put p 0 ≡ fresh-word p
+    word-is : (p : ℕ) → p < 3 * rowCount d + itemTotal d → getD put p 0 ≡ fresh-word p
     word-is p l = let a = h .records .rowsAre in let b = h .records .itemsAre in decide (ltb p (3 * rows))
         (λ x. let z = ltb-true p (3 * rows) x in put-low p z ∙ sym (word-row p (omega arith)))
         (λ x. let z = ltb-false p (3 * rows) x in
@@ -144,20 +155,22 @@ module _ (d : Diagram) (acc : nested d ≡ accepted d) (some : 0 < rowCount d) w
         let m : 3 * rowCount d + (p - 3 * rows) ≡ p = omega arith in
         ap (λ (i : ℕ). getD put i 0) (sym k) ∙ (put-count (p - 3 * rows) (omega arith) ∙ (sym (word-count (p - 3 * rows)) ∙ ap fresh-word m)))
 
-    fresh-put : FreshOf d put
+    fresh-front : FreshFront d put
     unfolding freshWords stateWords fresh-word
-    fresh-put = let a = h .records .rowsAre in let b = h .records .itemsAre in let f = h .records .fewRows in let g = h .records .fewItems in
-        let long = put-long in
-        let size : length (take (places d) put) ≡ places d = simp (length-take) (omega arith) in
+    fresh-front = let a = h .records .rowsAre in let b = h .records .itemsAre in let f = h .records .fewRows in let g = h .records .fewItems in
+        let long = put-long in let total = counts-are d in
         record {
-          words = ext-getD 0 (take (places d) put) (tabulate (places d) fresh-word) (size ∙ sym (length-tab (places d) fresh-word))
-              (λ i l. getD-take (places d) put i 0 (omega arith) ∙ (word-is i (omega arith) ∙ sym (getD-tab (places d) fresh-word i 0 (omega arith))));
-          behind = λ i l. put-behind i (omega arith);
+          long = omega arith;
+          words = λ i l. word-is i l ∙ sym (getD-tab (places d) fresh-word i 0 (omega arith));
         }
 
-pub fresh-is : (rows items : ℕ) (table zeros state : List ℕ) → state ≡ freshPut rows items table zeros → length zeros ≡ mostPlaces → allZero zeros ≡ true → zeros ≡ tabulate mostPlaces (λ i. 0)
+pub fresh-is : (rows items : ℕ) (table zeros state : List ℕ) → state ≡ freshPut rows items table zeros → length zeros ≡ plainPlaces → allZero zeros ≡ true → zeros ≡ tabulate plainPlaces (λ i. 0)
     → Freshened rows items table (state ++ [])
 fresh-is rows items table zeros state es n e z = record {
   is = append-nil state ∙ (es ∙ ap (freshPut rows items table) z);
-  of = λ d h. subst (FreshOf d) (sym (append-nil state ∙ es)) (fresh-put d (h .nests) (omega (arith, h .records .someRow, h .records .rowsAre)) rows items table zeros h n e);
+  of = λ d h. subst (FreshFront d) (sym (append-nil state ∙ es)) (fresh-front d (h .nests) (some d h) rows items table zeros h n e);
+  behind = λ d h i l. subst (λ (x : List ℕ). getD x i 0 ≡ 0) (sym (append-nil state ∙ es)) (put-behind d (h .nests) (some d h) rows items table zeros h n e i l);
 }
+  where
+    some : (d : Diagram) → Holds d rows items table → 0 < rowCount d
+    some d h = omega (arith, h .records .someRow, h .records .rowsAre)

@@ -5,4 +5,3 @@ pub mod Files
 pub mod Columns
 pub mod Promises
 pub mod Freshness
-pub mod HeldCells

@@ -8,10 +8,11 @@ use native.Mathlib.Omega.{arith}
 use lib.ListN.{length, getD, take, drop, length-take, length-drop, List·getD-eq-default}
 use lib.Seq.{getD-take, take-nil}
 use borrow.Author.Tests.{le-leb}
-use Rattle.effbd.specs.Answers.{Outcome, accepted, refused, unless, andThen}
-use Rattle.effbd.specs.Records.{word, lengthAt}
+use Rattle.effbd.specs.Answers.{Outcome, accepted, refused, unless, andThen, refusalNumber, refusalValue}
+use Rattle.effbd.specs.Records.{word, lengthAt, areBytes}
 use Rattle.effbd.specs.Diagrams.{mostRows, function, end, sameKind, Use, Row, plain, Diagram, rowCount, kind, isKind, usesAt}
 use Rattle.effbd.specs.Nesting.{nested, readDiagram, fromRow, Part, partIn, usesPartOf, usesPart}
+use Rattle.effbd.specs.Counts.{countTotal}
 use Rattle.effbd.specs.Layout.{places}
 use Rattle.effbd.specs.States.{stateLength}
 use Rattle.diagram_file.specs.declared.records.Reached.{Reached}
@@ -21,11 +22,14 @@ use Rattle.diagram_file.specs.declared.Refusal.{Refusal}
 use Rattle.diagram_file.specs.Reading.{Tabled, Recorded}
 use Rattle.nesting.specs.Runs.{Kinds, NestingRead}
 use Rattle.diagram_file.specs.Structure.{putStructure, structured}
-use Rattle.diagram_file.specs.Tables.{refusalNumber, refusalValue, Judged, Filled, Parsed, PartIs}
+use Rattle.diagram_file.specs.Tables.{Judged, Filled, Parsed, PartIs}
 use Rattle.diagram_table.specs.declared.Part.{Part as Lies}
-use Rattle.diagram_table.specs.Cells.{cellOf, countCell, cellTotal, usesStartIn, usesNumberIn, usesPartIn, usesBytes, usesOf, usesIn}
+use Rattle.diagram_table.specs.Cells.{cellOf, itemCell, someTriggerCell, cellTotal, someTriggerIn, usesStartIn, usesNumberIn, usesPartIn, usesBytes, usesOf, usesIn}
 use Rattle.diagram_table.specs.Held.{Tabulated, Holds, HoldsUses, HoldsFile}
 use Rattle.ranges.specs.Outcomes.{unless-refused}
+use Rattle.agreement.specs.AcceptedFiles.{held}
+use Rattle.agreement.specs.Sources.{counts-are, no-copies}
+use Rattle.copies.specs.Promised.{CopyTotal}
 use Rattle.diagram_file.proofs.Files.{two-parts}
 use Rattle.nesting.proofs.Stacks.{owner-low, loop-low, close-low}
 use Rattle.diagram_file.proofs.Columns.{Sound, sound, close-is}
@@ -121,7 +125,9 @@ module _ {file t : List ℕ} (w : Tabled file t) where
           firsts = λ r l. s .same .below (cellOf 1 r) (omega arith) ∙ b .firsts r l;
           seconds = λ r l. s .same .below (cellOf 2 r) (omega arith) ∙ b .seconds r l;
           numbers = λ r l. s .same .below (cellOf 4 r) (omega arith) ∙ b .numbers r l;
-          counts = λ k l. s .same .above (countCell k) (omega arith) ∙ b .counts k l;
+          counts = λ k l. s .same .above (itemCell 0 k) (omega arith) ∙ b .counts k l;
+          triggers = λ k l. s .same .above (itemCell 1 k) (omega arith) ∙ b .triggers k l;
+          noTrigger = λ e. b .noTrigger (sym (s .same .above someTriggerCell (omega arith)) ∙ e);
         }
 
     holds : Holds dia (word file 6) (word file 8) pass
@@ -130,7 +136,7 @@ module _ {file t : List ℕ} (w : Tabled file t) where
         let few = few-rows in let some = some-row in
         record {
           nests = acc;
-          long = s .same .long ∙ long;
+          long = let z = s .same .long ∙ long in omega arith;
           records = tabulated;
           owners = λ r l. s .owners r (omega arith);
           branches = λ r l. s .branches r (omega arith);
@@ -182,11 +188,26 @@ module _ {file t : List ℕ} {r : Refusal} (w : Judged file t r) where
   unfolding stateLength
   length-refused ne = sym (ap (λ x. andThen x (λ d. accepted (places d))) (refused-back (readDiagram file) (r .number) (r .value) (w .number) (w .value) ne))
 
-  pub length-accepted : {n m : ℕ} → r .number ≡ 0 → n ≡ word file 6 → m ≡ word file 8 → accepted (3 * n + m) ≡ stateLength file
-  unfolding stateLength
-  length-accepted z en em =
-      let b = w .tabled z .tabulated in
-      sym (ap (λ x. andThen x (λ d. accepted (places d))) (w .read z) ∙ ap₂ (λ (x y : ℕ). accepted (3 * x + y)) (sym (en ∙ b .rowsAre)) (sym (em ∙ b .itemsAre)))
+  module _ (z : r .number ≡ 0) {n m : ℕ} (en : n ≡ word file 6) (em : m ≡ word file 8) where
+    -- the words of the state of a diagram with so many counts
+    length-is : {c : ℕ} → c ≡ countTotal (w .tabled z .diagram) → accepted (3 * n + c) ≡ stateLength file
+    unfolding stateLength
+    length-is e =
+        let b = w .tabled z .tabulated in
+        sym (ap (λ x. andThen x (λ d. accepted (places d))) (w .read z) ∙ ap₂ (λ (x y : ℕ). accepted (3 * x + y)) (sym (en ∙ b .rowsAre)) (sym e))
+
+    pub length-plain : {s : ℕ} → s ≡ someTriggerIn t → s ≡ 0 → accepted (3 * n + m) ≡ stateLength file
+    length-plain e none =
+        let b = w .tabled z .tabulated in
+        length-is (em ∙ (b .itemsAre ∙ sym (no-copies (w .tabled z .diagram) (λ k l. b .noTrigger (sym e ∙ none) k (let i = b .itemsAre in omega arith)))))
+
+    pub length-copies : areBytes file ≡ true → {c : ℕ} → CopyTotal file n m t c → accepted (3 * n + m + c) ≡ stateLength file
+    length-copies bytes {c} total =
+        let d = w .tabled z .diagram in let b = w .tabled z .tabulated in let u = w .tabled z .uses in
+        let tab : Tabulated d n m t = subst (λ (x : ℕ). Tabulated d x m t) (sym en) (subst (λ (x : ℕ). Tabulated d (word file 6) x t) (sym em) b) in
+        let many = total .of d (held file d bytes (w .read z)) tab (λ q l. uses-in t file q (u .inside q l) ∙ u .uses q l) in
+        let sum : 3 * n + m + c ≡ 3 * n + (m + c) = omega arith in
+        ap accepted sum ∙ length-is (omega (arith, em, b .itemsAre, many, counts-are d))
 
 -- ---- the struct
 pub parsed-is : (file t : List ℕ) (r : Refusal) (n m : ℕ) → Filled file t r → n ≡ word file 6 → m ≡ word file 8

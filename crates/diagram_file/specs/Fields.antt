@@ -1,6 +1,6 @@
 -- The tests of one record's fields, over numbers. Assumes nothing.
 use Prim.Native.Nat.{ℕ, _+_, _-_, _*_, _/_, _%_}
-use mathlib.Core.Bool.{Bool, true, cond, _&&_}
+use mathlib.Core.Bool.{Bool, true, cond, _&&_, _||_}
 use mathlib.Core.List.{List}
 use lib.ListN.{drop}
 use lib.Dec.{leb, ltb, eqb}
@@ -13,6 +13,9 @@ fieldOf fields number bytes = cond (leb number fields) (word bytes (2 + 2 * numb
 
 unfoldable pub useFine : (items from item take give : ℕ) → Bool
 useFine items from item take give = leb from item && (ltb item items && ltb 0 (take + give))
+
+unfoldable pub isItem : ℕ → Bool
+isItem kind = eqb kind 2 || eqb kind 3
 
 unfoldable pub isRow : ℕ → Bool
 isRow kind = leb 16 kind && leb kind 27

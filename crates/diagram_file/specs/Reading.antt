@@ -2,15 +2,15 @@
 use Prim.Native.Nat.{ℕ, zero, suc, _+_, _-_, _*_, _/_, _≤_, _<_}
 use mathlib.Core.Path.{_≡_}
 use mathlib.Core.Logic.{_≢_}
-use mathlib.Core.Bool.{cond}
+use mathlib.Core.Bool.{Bool, true, false, cond, _&&_, _||_}
 use mathlib.Core.List.{List, [], _∷_}
-use lib.ListN.{length, getD, drop}
-use lib.Dec.{eqb}
-use Rattle.effbd.specs.Answers.{Outcome, accepted, refused, unless, andThen}
+use lib.ListN.{length, getD, set, drop}
+use lib.Dec.{leb, eqb}
+use Rattle.effbd.specs.Answers.{Outcome, accepted, refused, unless, orElse, andThen}
 use Rattle.effbd.specs.Records.{word, lengthAt, kindAt, lengthOf, fieldsOf, Got, readMany}
-use Rattle.effbd.specs.Diagrams.{function, Row, Diagram, rowCount, row, isKind, headFault, itemFault, itemAt, rowFault, rowAt, usesAt}
+use Rattle.effbd.specs.Diagrams.{function, Use, Row, Item, Diagram, rowCount, row, isKind, headFault, itemFault, itemAt, rowFault, rowFaultIn, rowAt, usesAt}
 use Rattle.effbd.specs.Nesting.{skip, fromRow}
-use Rattle.diagram_table.specs.Cells.{cellOf, countCell, cellTotal, usesStartIn, usesNumberIn}
+use Rattle.diagram_table.specs.Cells.{cellOf, itemCell, someTriggerCell, cellTotal, triggerIn, someTriggerIn, usesStartIn, usesNumberIn}
 use Rattle.diagram_table.specs.Held.{Tabulated}
 use Rattle.diagram_file.specs.Cells.{Cell, cell, putAll}
 use Rattle.diagram_file.specs.Fields.{fieldOf}
@@ -39,6 +39,27 @@ putRow row kind first second offset number table = putAll (rowCells row kind fir
 unfoldable pub fillRow : (row at : ℕ) → (bytes table : List ℕ) → List ℕ
 fillRow row at bytes table = putRow row (column at 0 bytes) (column at 1 bytes) (column at 2 bytes) (column at 3 bytes) (column at 4 bytes) table
 
+-- the cells of an item: its initial count, whether it is a trigger; of a trigger also that there is one
+unfoldable pub putItem : (item count : ℕ) (trigger : Bool) → List ℕ → List ℕ
+putItem item count trigger table = cond trigger
+    (set (set (set table (itemCell 0 item) count) (itemCell 1 item) 1) someTriggerCell 1)
+    (set (set table (itemCell 0 item) count) (itemCell 1 item) 0)
+
+-- 43, by the table's items: no trigger's take or give is above 1
+unfoldable pub useFits : List ℕ → Use → Bool
+useFits table u = eqb (triggerIn table (u .item)) 0 || (leb (u .take) 1 && leb (u .give) 1)
+
+unfoldable pub triggersFit : List ℕ → List Use → Bool
+triggersFit table [] = true
+triggersFit table (u ∷ us) = useFits table u && triggersFit table us
+
+unfoldable pub triggerFault : (table bytes : List ℕ) → ℕ
+triggerFault table bytes = cond (triggersFit table (rowAt bytes .uses)) 0 43
+
+-- the fault of a row's record with its 43, by the table's items
+unfoldable pub tableFault : (items : ℕ) → (table bytes : List ℕ) → ℕ
+tableFault items table bytes = orElse (rowFault items bytes) (cond (eqb (someTriggerIn table) 0) 0 (triggerFault table bytes))
+
 -- so many records of a sort are read without fault, of those that `start` begins with, at byte `from` of the file; the rest begins at byte `at`
 pub record Reading (fault : List ℕ → ℕ) (from : ℕ) (start : List ℕ) (count : ℕ) (rest : List ℕ) (at : ℕ) : Type 0 where
   pub clean : (j : ℕ) → j < count → fault (skip j start) ≡ 0
@@ -54,12 +75,14 @@ pub record Stopped (fault : List ℕ → ℕ) (from : ℕ) (start : List ℕ) (d
   pub ended : r .fault ≡ 0 → count ≡ due
   pub stopped : r .fault ≢ 0 → (count < due) × (fault (skip count start) ≡ r .fault)
 
--- the table has the columns of the first rows, which begin a file of `total` bytes at `start`, and the initial counts of the first items
+-- the table has the columns of the first rows, which begin a file of `total` bytes at `start`, and the cells of the first items
 pub record FilledRows (total : ℕ) (start : List ℕ) (rows : ℕ) (table : List ℕ) : Type 0 where
   pub cell : (c : ℕ) → c < 5 → (i : ℕ) → i < rows → getD table (cellOf c i) 0 ≡ column (total - length (skip i start)) c (skip i start)
 
 pub record FilledItems (start : List ℕ) (items : ℕ) (table : List ℕ) : Type 0 where
-  pub cell : (i : ℕ) → i < items → getD table (countCell i) 0 ≡ itemAt (skip i start)
+  pub count : (i : ℕ) → i < items → getD table (itemCell 0 i) 0 ≡ itemAt (skip i start) .initial
+  pub trigger : (i : ℕ) → i < items → triggerIn table i ≡ cond (itemAt (skip i start) .trigger) 1 0
+  pub none : someTriggerIn table ≡ 0 → (i : ℕ) → i < items → itemAt (skip i start) .trigger ≡ false
 
 -- the columns behind the records' are kept
 pub record Kept (before after : List ℕ) : Type 0 where
@@ -76,14 +99,23 @@ pub record RowsState (from : ℕ) (start : List ℕ) (items count : ℕ) (rest :
 abbrev pub endReached : (left at : ℕ) → Reached
 endReached left at = record { fault = cond (eqb left 0) 0 6; at = at }
 
-pub record RowsRead (from : ℕ) (start : List ℕ) (items due : ℕ) (before table : List ℕ) (r : Reached) : Type 0 where
+pub record RowsRead (fault : List ℕ → ℕ) (from : ℕ) (start : List ℕ) (due : ℕ) (before table : List ℕ) (r : Reached) : Type 0 where
   pub line : Reached
-  pub stopped : Stopped (rowFault items) from start due line
+  pub stopped : Stopped fault from start due line
   pub filled : line .fault ≡ 0 → FilledRows (from + length start) start due table
   pub kept : Kept before table
   pub near : line .at ≤ from + 104 * due
   pub off : line .fault ≢ 0 → r ≡ line
   pub end : line .fault ≡ 0 → r ≡ endReached (length (skip due start)) (line .at)
+
+-- rows were read, from whatever table
+pub record SomeRowsRead (items from : ℕ) (start : List ℕ) (due : ℕ) (table : List ℕ) (r : Reached) : Type 0 where
+  pub before : List ℕ
+  pub read : RowsRead (rowFault items) from start due before table r
+
+-- they were gone through again, for 43
+pub record Refined (items from : ℕ) (start : List ℕ) (due : ℕ) (table : List ℕ) (reached r : Reached) : Type 0 where
+  pub is : (before : List ℕ) → RowsRead (rowFault items) from start due before table reached → RowsRead (tableFault items table) from start due before table r
 
 -- while items are read, and behind them: then the rows are, from the rest
 pub record ItemsState (from : ℕ) (start : List ℕ) (count : ℕ) (rest : List ℕ) (at : ℕ) (table : List ℕ) : Type 0 where
@@ -99,15 +131,15 @@ pub record ItemsRead (from : ℕ) (start : List ℕ) (items rows : ℕ) (table :
   pub filled : line .fault ≡ 0 → FilledItems start items counted
   pub near : line .at ≤ from + 6 * items
   pub off : line .fault ≢ 0 → r ≡ line
-  pub rowsRead : line .fault ≡ 0 → RowsRead (line .at) (skip items start) items rows counted table r
+  pub rowsRead : line .fault ≡ 0 → RowsRead (tableFault items table) (line .at) (skip items start) rows counted table r
 
 -- what a file's records say, before nesting: readDiagram is this, then `nested` (theorem `two-parts`)
-unfoldable pub recordRows : List ℕ → List ℕ → Got (List Row) → Outcome Diagram
+unfoldable pub recordRows : List ℕ → List Item → Got (List Row) → Outcome Diagram
 recordRows file items got =
     unless (cond (eqb (length (got .rest)) 0) 0 6) (length file - length (got .rest)) (accepted (record { rows = got .value; items = items }))
 
-unfoldable pub recordItems : List ℕ → Got (List ℕ) → Outcome Diagram
-recordItems file got = andThen (readMany (rowFault (word file 8)) rowAt (length file) (word file 6) (got .rest)) (recordRows file (got .value))
+unfoldable pub recordItems : List ℕ → Got (List Item) → Outcome Diagram
+recordItems file got = andThen (readMany (rowFaultIn (got .value)) rowAt (length file) (word file 6) (got .rest)) (recordRows file (got .value))
 
 unfoldable pub readRecords : List ℕ → Outcome Diagram
 readRecords file =

@@ -2,30 +2,18 @@
 use Prim.Native.Nat.{ℕ, zero, suc, _+_, _*_, _≤_, _<_}
 use mathlib.Core.Path.{_≡_}
 use mathlib.Core.List.{List}
-use lib.ListN.{length, getD, take, set}
+use lib.ListN.{length, getD, set}
 use Rattle.effbd.specs.Ranges.{tabulate}
-use Rattle.effbd.specs.Answers.{Outcome, accepted, refused}
+use Rattle.effbd.specs.Answers.{Outcome, accepted, refused, refusalNumber, refusalValue}
 use Rattle.effbd.specs.Records.{word}
-use Rattle.effbd.specs.Diagrams.{Diagram}
+use Rattle.effbd.specs.Diagrams.{Diagram, rowCount, itemTotal}
 use Rattle.effbd.specs.Nesting.{readDiagram, Part}
-use Rattle.effbd.specs.Layout.{places}
-use Rattle.effbd.specs.States.{freshWords}
-use Rattle.effbd.specs.Nets.{mostPlaces}
 use Rattle.diagram_table.specs.declared.Part.{Part as Lies}
-use Rattle.diagram_table.specs.Cells.{countIn}
-use Rattle.diagram_table.specs.Held.{Holds, HoldsFile}
+use Rattle.diagram_table.specs.Cells.{plainPlaces, sharedIn}
+use Rattle.diagram_table.specs.Held.{Holds, HoldsFile, FreshFront}
 use Rattle.diagram_file.specs.declared.Diagram.{Diagram as Parse}
 use Rattle.diagram_file.specs.declared.Refusal.{Refusal}
 use Rattle.diagram_file.specs.Reading.{Tabled}
-
--- number and value of a refusal, 0 and 0 of a result
-abbrev pub refusalNumber : {A : Type 0} → Outcome A → ℕ
-refusalNumber (accepted a) = 0
-refusalNumber (refused number value) = number
-
-abbrev pub refusalValue : {A : Type 0} → Outcome A → ℕ
-refusalValue (accepted a) = 0
-refusalValue (refused number value) = value
 
 -- a file's records and their nesting were judged: where nothing is refused, the table has the records' columns
 pub record Judged (file table : List ℕ) (r : Refusal) : Type 0 where
@@ -48,23 +36,19 @@ pub record Parsed (file : List ℕ) (p : Parse) : Type 0 where
   pub items : p .items ≡ word file 8
   pub holds : p .number ≡ 0 → HoldsFile file (p .rows) (p .items) (p .table)
 
--- row 0 ready, the initial counts from word 3N on
+-- row 0 ready, the counts of the items from word 3N on
 unfoldable pub countsPut : (rows items : ℕ) → (table state : List ℕ) → List ℕ
 countsPut rows zero table state = state
-countsPut rows (suc k) table state = set (countsPut rows k table state) (3 * rows + k) (countIn table k)
+countsPut rows (suc k) table state = set (countsPut rows k table state) (3 * rows + k) (sharedIn table k)
 
 unfoldable pub freshPut : (rows items : ℕ) → (table state : List ℕ) → List ℕ
 freshPut rows items table state = countsPut rows items table (set state 0 1)
 
--- the fresh state of every diagram that the table holds, and 0 behind it
-pub record FreshOf (d : Diagram) (state : List ℕ) : Type 0 where
-  pub words : take (places d) state ≡ freshWords d
-  pub behind : (i : ℕ) → places d ≤ i → getD state i 0 ≡ 0
-
--- a fresh state was made, of whatever the table holds
+-- the words of rows and items of a fresh state were made, of whatever the table holds; behind them stands 0
 pub record Freshened (rows items : ℕ) (table state : List ℕ) : Type 0 where
-  pub is : state ≡ freshPut rows items table (tabulate mostPlaces (λ i. 0))
-  pub of : (d : Diagram) → Holds d rows items table → FreshOf d state
+  pub is : state ≡ freshPut rows items table (tabulate plainPlaces (λ i. 0))
+  pub of : (d : Diagram) → Holds d rows items table → FreshFront d state
+  pub behind : (d : Diagram) → Holds d rows items table → (i : ℕ) → 3 * rowCount d + itemTotal d ≤ i → getD state i 0 ≡ 0
 
 -- a part that lies in the file is that of the definition
 pub record PartIs (file : List ℕ) (part : Part) (r : Lies) : Type 0 where

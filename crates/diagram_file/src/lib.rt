@@ -7,12 +7,12 @@ ghost use Rattle.effbd.specs.States.{stateLength};
 ghost use Rattle.diagram_file.specs.Tables.{freshPut, Judged, Filled, Parsed, Freshened, PartIs};
 ghost use Rattle.diagram_table.specs.Cells.{cellTotal};
 use diagram_table::CELLS;
-use diagram_table::COUNT;
 use diagram_table::Part;
+use diagram_table::SOME_TRIGGER;
 use effbd::Answer;
 use effbd::limits::MOST_ITEMS;
-use effbd::limits::MOST_PLACES;
 use effbd::limits::MOST_ROWS;
+use effbd::limits::PLAIN_PLACES;
 
 mod records;
 mod structure;
@@ -40,13 +40,13 @@ impl Diagram {
 
     pub const ITEMS: u16 = MOST_ITEMS;
 
-    // The words of the fresh state, and 0 behind them.
-    pub fn fresh(self) -> [u16; MOST_PLACES as usize]
+    // The words of the fresh state but for the copies of triggers, which follow them (crate copies), and 0 behind them.
+    pub fn fresh(self) -> [u16; PLAIN_PLACES as usize]
         ensures { λ r. ⌜ Freshened (self .rows) (self .items) (self .table) r ⌝ }
     {
-        let mut state = [0u16; MOST_PLACES as usize];
+        let mut state = [0u16; PLAIN_PLACES as usize];
         put_fresh(
-            &mut state[0..MOST_PLACES as usize],
+            &mut state[0..PLAIN_PLACES as usize],
             self.rows,
             self.items,
             &self.table,
@@ -55,7 +55,7 @@ impl Diagram {
     }
 }
 
-// Row 0 is ready, the counts are the initial ones.
+// Row 0 is ready, the counts are the initial ones; a trigger's shared count is 0.
 fn put_fresh(state: &mut [u16], rows: u16, items: u16, table: &[u16])
     ensures { λ _. ⌜ now (state .exit) ≡ freshPut rows items (now (table .entry)) (now (state .entry)) ⌝ }
 {
@@ -66,7 +66,7 @@ fn put_fresh(state: &mut [u16], rows: u16, items: u16, table: &[u16])
         words::put(
             state,
             first + item,
-            words::get(table, COUNT as usize + item),
+            diagram_table::shared_count(table, item as u32),
         );
         item += 1;
     }
@@ -126,16 +126,31 @@ pub fn parse(file: &[u8]) -> Diagram
     }
 }
 
+// As `read`, over a zeroed table.
+fn read_into(file: &[u8], table: &mut [u16]) -> Answer
+    requires { ⌜ length (now table) ≡ cellTotal ⌝ }
+    ensures { λ r. ⌜ said r ≡ stateLength (now (file .entry)) ⌝ }
+{
+    let refusal = judge(file, table);
+    if refusal.number != 0 {
+        return Answer::Refused(refusal.number, refusal.value);
+    }
+    let rows = words::word(file, 6);
+    let items = words::word(file, 8);
+    let plain = 3 * rows as u32 + items as u32;
+    if diagram_table::cell(table, SOME_TRIGGER, 0) == 0 {
+        return Answer::Accepted(plain);
+    }
+    let copies = copies::copy_total(table, rows, items, file);
+    Answer::Accepted(plain + copies as u32)
+}
+
 // Accepts a diagram file with the number of words of its state, or turns it away. The verdict asks for no structure.
 pub fn read(file: &[u8]) -> Answer
     ensures { λ r. ⌜ said r ≡ stateLength (now (file .entry)) ⌝ }
 {
     let mut table = [0u16; CELLS];
-    let refusal = judge(file, &mut table[0..CELLS]);
-    if refusal.number != 0 {
-        return Answer::Refused(refusal.number, refusal.value);
-    }
-    Answer::Accepted(3 * words::word(file, 6) as u32 + words::word(file, 8) as u32)
+    read_into(file, &mut table[0..CELLS])
 }
 
 // Where the uses of a FUNCTION row lie in the file; for a refused file or another row an empty part at the file's start.

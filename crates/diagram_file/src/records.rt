@@ -1,4 +1,4 @@
-// Reads a diagram file's records by its tails, into one flat table: refusals 1 to 6. `entries` is the constant table of kinds (crate words),
+// Reads a diagram file's records by its tails, into one flat table: refusals 1 to 6 and 43. `entries` is the constant table of kinds (crate words),
 // laid out once and lent on: each record's length and fields are looked up in it by the record's own kind.
 ghost use mathlib.Core.Path.{_≡_};
 ghost use Prim.Native.Nat.{_+_, _-_, _*_, _/_, _≤_, _<_};
@@ -6,18 +6,21 @@ ghost use lib.ListN.{length};
 ghost use Rattle.effbd.specs.Records.{word, KindBytes};
 ghost use Rattle.effbd.specs.Diagrams.{mostRows, mostItems, usesAt, usesFine, headFault, itemFault, rowFault};
 ghost use Rattle.diagram_table.specs.Cells.{cellTotal};
-ghost use Rattle.diagram_file.specs.Fields.{fieldOf, useFine, functionRight, functionFine, functionFault, turnLimitFine, headFine, isRow};
-ghost use Rattle.diagram_file.specs.Reading.{putRow, fillRow, endReached, ItemsRead, RowsRead, Recorded};
+ghost use Rattle.diagram_file.specs.Fields.{fieldOf, useFine, functionRight, functionFine, functionFault, turnLimitFine, headFine, isItem, isRow};
+ghost use Rattle.diagram_file.specs.Reading.{putRow, fillRow, putItem, useFits, triggersFit, triggerFault, endReached, ItemsRead, RowsRead, SomeRowsRead, Refined, Recorded};
 use crate::Diagram;
 use diagram_table::COUNT;
 use diagram_table::FIRST;
 use diagram_table::SECOND;
+use diagram_table::SOME_TRIGGER;
+use diagram_table::TRIGGER;
 use diagram_table::USE_SIZE;
 use diagram_table::USES_NUMBER;
 use diagram_table::USES_START;
 use effbd::refusals::BYTES_AFTER_LAST;
 use effbd::refusals::FIELD_OFF;
 use effbd::refusals::HEAD_VALUE_OFF;
+use effbd::refusals::TRIGGER_OFF;
 use words::kinds;
 
 // Where reading stopped, and the fault of the record there, 0 for none.
@@ -143,13 +146,71 @@ fn row_fault(bytes: &[u8], entries: &[u8], items: u16) -> u16
     }
 }
 
+// A take or a give of a trigger is at most 1.
+fn use_fits(table: &[u16], item: u16, take: u16, give: u16) -> bool
+    ensures { λ r. ⌜ r ≡ useFits (now (table .entry)) (record { item = item; take = take; give = give }) ⌝ }
+{
+    if diagram_table::cell(table, TRIGGER, item as u32) == 0 {
+        return true;
+    }
+    take <= 1 && give <= 1
+}
+
+// The uses at the start of `uses`, as the table's items have it.
+fn triggers_fit(uses: &[u8], count: u16, table: &[u16]) -> bool
+    ensures { λ r. ⌜ r ≡ triggersFit (now (table .entry)) (usesAt count (now (uses .entry))) ⌝ }
+{
+    let mut rest = uses;
+    let mut left = count;
+    while 0 < left {
+        if !use_fits(
+            table,
+            words::word(rest, 0),
+            words::word(rest, 2),
+            words::word(rest, 4),
+        ) {
+            return false;
+        }
+        left -= 1;
+        let more = words::tail(rest, USE_SIZE);
+        rest = more;
+    }
+    true
+}
+
+// 43 of a row's record: only a FUNCTION has uses.
+fn trigger_fault(bytes: &[u8], entries: &[u8], table: &[u16]) -> u16
+    requires { ⌜ KindBytes (now entries) ⌝ }
+    ensures { λ r. ⌜ r ≡ triggerFault (now (table .entry)) (now (bytes .entry)) ⌝ }
+{
+    let kind = words::word(bytes, 2);
+    if kind != kinds::FUNCTION {
+        return 0;
+    }
+    let number = use_count(words::word(bytes, 0), kinds::base_length(entries, kind));
+    let behind = kinds::behind_fields(entries, kind);
+    if triggers_fit(words::tail(bytes, behind as usize), number, table) {
+        return 0;
+    }
+    TRIGGER_OFF
+}
+
+fn is_item(kind: u16) -> bool
+    ensures { λ r. ⌜ r ≡ isItem kind ⌝ }
+{
+    if kind == kinds::ITEM {
+        return true;
+    }
+    kind == kinds::TRIGGER
+}
+
 fn item_fault(bytes: &[u8], entries: &[u8]) -> u16
     requires { ⌜ KindBytes (now entries) ⌝ }
     ensures { λ r. ⌜ r ≡ itemFault (now (bytes .entry)) ⌝ }
 {
     let kind = words::word(bytes, 2);
     let right = words::word(bytes, 0) == kinds::base_length(entries, kind);
-    words::record_fault(bytes, kind == kinds::ITEM, right, true, FIELD_OFF)
+    words::record_fault(bytes, is_item(kind), right, true, FIELD_OFF)
 }
 
 fn head_fine(edition: u16, rows: u16, items: u16) -> bool
@@ -189,6 +250,20 @@ fn put_row(
     table[SECOND as usize + row] = second;
     table[USES_START as usize + row] = offset;
     table[USES_NUMBER as usize + row] = number;
+}
+
+// The cells of an item; of a trigger also that there is one.
+fn put_item(table: &mut [u16], item: usize, count: u16, trigger: bool)
+    requires { ⌜ item < mostItems ⌝ }
+    ensures { λ _. ⌜ now (table .exit) ≡ putItem item count trigger (now (table .entry)) ⌝ }
+{
+    words::put(table, COUNT as usize + item, count);
+    if trigger {
+        words::put(table, TRIGGER as usize + item, 1);
+        words::put(table, SOME_TRIGGER as usize, 1);
+    } else {
+        words::put(table, TRIGGER as usize + item, 0);
+    }
 }
 
 // Field `number` of a record whose kind has `fields`, counted from 1; 0 where it has no such field.
@@ -247,7 +322,7 @@ fn read_rows(
     requires { ⌜ ((from ≤ 106) × (count ≤ mostRows)) × (items ≤ mostItems) ⌝ }
     requires { ⌜ length (now table) ≡ cellTotal ⌝ }
     requires { ⌜ KindBytes (now entries) ⌝ }
-    ensures { λ r. ⌜ RowsRead from (now (lines .entry)) items count (now (table .entry)) (now (table .exit)) r ⌝ }
+    ensures { λ r. ⌜ RowsRead (rowFault items) from (now (lines .entry)) count (now (table .entry)) (now (table .exit)) r ⌝ }
 {
     let mut rest = lines;
     let mut at = from;
@@ -270,7 +345,49 @@ fn read_rows(
     behind_last(rest, at)
 }
 
-// Reads `items` item records, their initial counts into the table, and then the rows from the rest; `lines`, the rest of the file behind the
+// Goes through the rows that were read once more, for 43: the first one that has it stands before whatever stopped the reading. A pass of its
+// own, which only plants with triggers pay for.
+fn refine(
+    lines: &[u8],
+    from: usize,
+    entries: &[u8],
+    count: usize,
+    items: u16,
+    table: &[u16],
+    reached: Reached,
+) -> Reached
+    requires { ⌜ SomeRowsRead items from (now lines) count (now table) reached ⌝ }
+    requires { ⌜ ((from ≤ 106) × (count ≤ mostRows)) × (items ≤ mostItems) ⌝ }
+    requires { ⌜ KindBytes (now entries) ⌝ }
+    ensures { λ r. ⌜ Refined items from (now (lines .entry)) count (now (table .entry)) reached r ⌝ }
+{
+    if diagram_table::cell(table, SOME_TRIGGER, 0) == 0 {
+        return reached;
+    }
+    let mut rest = lines;
+    let mut at = from;
+    let mut row: usize = 0;
+    while row < count {
+        if reached.at <= at {
+            return reached;
+        }
+        let fault = trigger_fault(rest, entries, table);
+        if fault != 0 {
+            return Reached {
+                fault: fault,
+                at: at,
+            };
+        }
+        let size = words::word(rest, 0) as usize;
+        let more = words::tail(rest, size);
+        rest = more;
+        at += size;
+        row += 1;
+    }
+    reached
+}
+
+// Reads `items` item records, their cells into the table, and then the rows from the rest; `lines`, the rest of the file behind the
 // head, begins at byte `from`.
 fn read_items(
     lines: &[u8],
@@ -296,14 +413,20 @@ fn read_items(
                 at: at,
             };
         }
-        words::put(table, COUNT as usize + item, words::word(rest, 4));
+        put_item(
+            table,
+            item,
+            words::word(rest, 4),
+            words::word(rest, 2) == kinds::TRIGGER,
+        );
         let size = words::word(rest, 0) as usize;
         let more = words::tail(rest, size);
         rest = more;
         at += size;
         item += 1;
     }
-    read_rows(rest, at, entries, rows, items, table)
+    let reached = read_rows(rest, at, entries, rows, items, table);
+    refine(rest, at, entries, rows, items, table, reached)
 }
 
 // Reads a diagram file's head, and from the rest its items and rows.

@@ -2,12 +2,13 @@
 use Prim.Native.Nat.{ℕ, zero, suc, _+_}
 use mathlib.Core.Bool.{Bool, true, false, cond}
 use mathlib.Core.List.{List, [], _∷_}
-use lib.ListN.{getD, set}
+use lib.ListN.{length, getD, set, take}
 use lib.Dec.{leb, ltb, eqb}
+use Rattle.words.specs.Stores.{copied}
 use Rattle.effbd.specs.Answers.{Outcome, accepted, refused}
 use Rattle.effbd.specs.Diagrams.{Use}
 use Rattle.effbd.specs.States.{activityAt, turnsAt, clockAt}
-use Rattle.diagram_table.specs.Cells.{kindIn, firstIn, ownerIn, closeIn, loopIn, usesIn, isBranch, enteredIn}
+use Rattle.diagram_table.specs.Cells.{kindIn, firstIn, ownerIn, closeIn, loopIn, runFirst, runLength, usesIn, isBranch, enteredIn}
 use Rattle.diagram_moves.specs.Decisions.{countPlace, amountOf, added, changed, stateAllowed, moveVerdict}
 
 -- a loop of stores: n turns from 0 up; the same with nothing done before row `start`
@@ -22,11 +23,9 @@ startingAt start f r words = cond (leb start r) (f r words) words
 unfoldable pub rowSet : (r a : ℕ) → List ℕ → List ℕ
 rowSet r a words = set (set words (activityAt r) a) (clockAt r) 0
 
--- the counts after the takes or the gives of some uses
-unfoldable pub countsChanged : (giving : Bool) (rows : ℕ) → List Use → List ℕ → List ℕ
-countsChanged giving rows [] words = words
-countsChanged giving rows (u ∷ us) words = countsChanged giving rows us
-    (set words (countPlace rows (u .item)) (changed giving (getD words (countPlace rows (u .item)) 0) (amountOf giving u)))
+-- count number `first` + i after a take or a give
+unfoldable pub countTurn : (giving : Bool) (rows first amount i : ℕ) → List ℕ → List ℕ
+countTurn giving rows first amount i words = set words (countPlace rows (first + i)) (changed giving (getD words (countPlace rows (first + i)) 0) amount)
 
 unfoldable pub clearTurn : ℕ → List ℕ → List ℕ
 clearTurn r words = set (rowSet r 0 words) (turnsAt r) 0
@@ -38,6 +37,15 @@ unfoldable pub tickTurn : (n r : ℕ) → List ℕ → List ℕ
 tickTurn n r words = cond (eqb (getD words (activityAt r) 0) 2) (set words (clockAt r) (added (getD words (clockAt r) 0) n)) words
 
 module _ (table : List ℕ) where
+  -- the counts after use j of row r, of so much of item k: each of its run is changed
+  unfoldable pub useChanged : (giving : Bool) (rows r j k amount : ℕ) → List ℕ → List ℕ
+  useChanged giving rows r j k amount words = cond (eqb amount 0) words (fold (runLength table giving k) (countTurn giving rows (runFirst table giving r j k) amount) words)
+
+  -- after the takes or the gives of row r's uses, from use j on
+  unfoldable pub countsChanged : (giving : Bool) (rows r j : ℕ) → List Use → List ℕ → List ℕ
+  countsChanged giving rows r j [] words = words
+  countsChanged giving rows r j (u ∷ us) words = countsChanged giving rows r (j + 1) us (useChanged giving rows r j (u .item) (amountOf giving u) words)
+
   -- row r is entered
   unfoldable pub entered : ℕ → List ℕ → List ℕ
   entered r words = rowSet (enteredIn table r) (cond (eqb (kindIn table (enteredIn table r)) 18) 3 1) words
@@ -64,8 +72,8 @@ module _ (table : List ℕ) where
   module _ (rows : ℕ) (file : List ℕ) where
     unfoldable pub functionChange : ℕ → List ℕ → List ℕ
     functionChange r words = cond (eqb (getD words (activityAt r) 0) 1)
-        (rowSet r 2 (countsChanged false rows (usesIn table file r) words))
-        (tokenPassed r (r + 1) (countsChanged true rows (usesIn table file r) words))
+        (rowSet r 2 (countsChanged false rows r 0 (usesIn table file r) words))
+        (tokenPassed r (r + 1) (countsChanged true rows r 0 (usesIn table file r) words))
 
     unfoldable pub rowChange : ℕ → List ℕ → List ℕ
     rowChange r words = cond (eqb (kindIn table r) 16) (functionChange r words)
@@ -94,3 +102,7 @@ module _ (table : List ℕ) (rows items : ℕ) (file words : List ℕ) (code arg
   -- the check of the state, then the move
   unfoldable pub checkedTableMove : Outcome (List ℕ)
   checkedTableMove = cond (stateAllowed table rows items words) tableMove (refused 20 0)
+
+-- the first `size` words of `source` in the place of `words`: 20 where their number is another
+unfoldable pub freshPlaced : (size : ℕ) (source words : List ℕ) → Outcome (List ℕ)
+freshPlaced size source words = cond (eqb (length words) size) (accepted (copied (take size source) words)) (refused 20 0)

@@ -9,7 +9,7 @@ use Rattle.effbd.specs.Answers.{Outcome, accepted, refused}
 use Rattle.effbd.specs.Diagrams.{Use}
 use Rattle.effbd.specs.States.{activityAt, turnsAt, clockAt}
 use Rattle.effbd.specs.Moves.{mostWord}
-use Rattle.diagram_table.specs.Cells.{kindIn, firstIn, secondIn, ownerIn, closeIn, usesIn, isBranch}
+use Rattle.diagram_table.specs.Cells.{kindIn, firstIn, secondIn, ownerIn, closeIn, triggerIn, someTriggerIn, countsIn, runFirst, runLength, usesIn, isBranch}
 
 -- where count k stands in a state of so many rows
 abbrev pub countPlace : ℕ → ℕ → ℕ
@@ -28,13 +28,23 @@ added x n = cond (ltb (mostWord - n) x) mostWord (x + n)
 unfoldable pub changed : (giving : Bool) (count amount : ℕ) → ℕ
 changed giving count amount = cond giving (added count amount) (count - amount)
 
--- the first use whose count stops it: its item, or the number of items
-unfoldable pub blockedItem : (giving : Bool) (rows items : ℕ) (words : List ℕ) → List Use → ℕ
-blockedItem giving rows items words [] = items
-blockedItem giving rows items words (u ∷ us) =
-    cond (exceeds giving (getD words (countPlace rows (u .item)) 0) (amountOf giving u)) (u .item) (blockedItem giving rows items words us)
+-- count number `first` + i does not stop it; of so many counts from number `first` on some does
+unfoldable pub countAllows : (giving : Bool) (rows first amount : ℕ) (words : List ℕ) → ℕ → Bool
+countAllows giving rows first amount words i = not (exceeds giving (getD words (countPlace rows (first + i)) 0) amount)
+
+unfoldable pub runBlocked : (giving : Bool) (rows first amount n : ℕ) → List ℕ → Bool
+runBlocked giving rows first amount n words = not (allBelow n (countAllows giving rows first amount words))
 
 module _ (table : List ℕ) where
+  -- use j of row r, of so much of item k, is stopped by a count of its run; an amount of 0 has no business with them
+  unfoldable pub useBlocked : (giving : Bool) (rows : ℕ) (words : List ℕ) (r j k amount : ℕ) → Bool
+  useBlocked giving rows words r j k amount = cond (eqb amount 0) false (runBlocked giving rows (runFirst table giving r j k) amount (runLength table giving k) words)
+
+  -- the first of row r's uses, from use j on, that is stopped: its item, or the number of items
+  unfoldable pub blockedItem : (giving : Bool) (rows items : ℕ) (words : List ℕ) (r j : ℕ) → List Use → ℕ
+  blockedItem giving rows items words r j [] = items
+  blockedItem giving rows items words r j (u ∷ us) = cond (useBlocked giving rows words r j (u .item) (amountOf giving u)) (u .item) (blockedItem giving rows items words r (j + 1) us)
+
   -- 20: the check of a row
   unfoldable pub activityAllowed : ℕ → ℕ → Bool
   activityAllowed r a = cond (eqb (kindIn table r) 16) (leb a 2)
@@ -51,8 +61,15 @@ module _ (table : List ℕ) where
   rowAllowed words r = activityAllowed r (getD words (activityAt r) 0)
       && (turnsAllowed r (getD words (turnsAt r) 0) && clockAllowed r (getD words (activityAt r) 0) (getD words (clockAt r) 0))
 
+  -- 20: the shared count of a trigger is 0
+  unfoldable pub countAllowed : (rows : ℕ) → List ℕ → ℕ → Bool
+  countAllowed rows words k = cond (eqb (triggerIn table k) 0) true (eqb (getD words (countPlace rows k) 0) 0)
+
+  unfoldable pub sharedAllowed : (rows items : ℕ) → List ℕ → Bool
+  sharedAllowed rows items words = cond (eqb (someTriggerIn table) 0) true (allBelow items (countAllowed rows words))
+
   unfoldable pub stateAllowed : (rows items : ℕ) → List ℕ → Bool
-  stateAllowed rows items words = eqb (length words) (3 * rows + items) && allBelow rows (rowAllowed words)
+  stateAllowed rows items words = eqb (length words) (3 * rows + countsIn table items) && (allBelow rows (rowAllowed words) && sharedAllowed rows items words)
 
   -- the BRANCH rows of o are done, all that stand from o to below row e
   unfoldable pub doneAt : List ℕ → ℕ → ℕ → Bool
@@ -84,15 +101,15 @@ closeVerdict table words r = cond (allDoneTo table words (ownerIn table r) r) (a
 
 module _ (table : List ℕ) (rows items : ℕ) (file words : List ℕ) where
   unfoldable pub startVerdict : ℕ → Outcome ℕ
-  startVerdict r = cond (ltb (blockedItem false rows items words (usesIn table file r)) items)
-      (refused 23 (blockedItem false rows items words (usesIn table file r)))
+  startVerdict r = cond (ltb (blockedItem table false rows items words r 0 (usesIn table file r)) items)
+      (refused 23 (blockedItem table false rows items words r 0 (usesIn table file r)))
       (accepted 0)
 
   unfoldable pub endVerdict : ℕ → Outcome ℕ
   endVerdict r = cond (ltb (getD words (clockAt r) 0) (firstIn table r))
       (refused 24 (firstIn table r - getD words (clockAt r) 0))
-      (cond (ltb (blockedItem true rows items words (usesIn table file r)) items)
-      (refused 25 (blockedItem true rows items words (usesIn table file r)))
+      (cond (ltb (blockedItem table true rows items words r 0 (usesIn table file r)) items)
+      (refused 25 (blockedItem table true rows items words r 0 (usesIn table file r)))
       (accepted 0))
 
   unfoldable pub functionVerdict : ℕ → Outcome ℕ
@@ -109,7 +126,7 @@ module _ (table : List ℕ) (rows items : ℕ) (file words : List ℕ) where
 
   -- what holds a wait of n ticks at row r; an AND close that could step is seen at the first BRANCH row of its AND, so that no idle row holds
   unfoldable pub functionHolds : (n r : ℕ) → Bool
-  functionHolds n r = cond (eqb (getD words (activityAt r) 0) 1) (leb items (blockedItem false rows items words (usesIn table file r)))
+  functionHolds n r = cond (eqb (getD words (activityAt r) 0) 1) (leb items (blockedItem table false rows items words r 0 (usesIn table file r)))
       (cond (eqb (getD words (activityAt r) 0) 2) (ltb (secondIn table r) (getD words (clockAt r) 0 + n)) false)
 
   unfoldable pub rowHolds : (n r : ℕ) → Bool

@@ -4,12 +4,11 @@ use mathlib.Core.Path.{_≡_, refl, sym, _∙_, ap}
 use mathlib.Core.Logic.{_≢_}
 use mathlib.Core.Bool.{true}
 use mathlib.Core.List.{List, append-nil}
-use native.Mathlib.Nat.{sub-zero}
 use native.Mathlib.Omega.{arith}
 use lib.ListN.{length, take, drop-of-length-le}
-use borrow.Author.Tests.{le-leb, eq-eqb, ne-eqb}
-use Rattle.words.specs.Stores.{copied}
-use Rattle.effbd.specs.Answers.{Outcome, accepted, refused, andThen}
+use lib.Dec.{eqb}
+use borrow.Author.Tests.{le-leb, eqb-true}
+use Rattle.effbd.specs.Answers.{Outcome, accepted, refused, andThen, refusalNumber, refusalValue}
 use Rattle.effbd.specs.Records.{areBytes}
 use Rattle.effbd.specs.Diagrams.{Diagram}
 use Rattle.effbd.specs.Nesting.{readDiagram}
@@ -17,11 +16,12 @@ use Rattle.effbd.specs.Layout.{places}
 use Rattle.effbd.specs.States.{stateWords, stateOf, freshWords, statePasses}
 use Rattle.effbd.specs.Moves.{stepDiagram, freshDiagram}
 use Rattle.effbd.specs.Logs.{made}
-use Rattle.diagram_file.specs.Tables.{refusalNumber, refusalValue, FreshOf}
-use Rattle.diagram_table.specs.Held.{HoldsFile}
+use Rattle.diagram_table.specs.Held.{HoldsPlant, FreshOf}
+use Rattle.ranges.specs.Tests.{decide}
 use Rattle.ranges.specs.RangeLaws.{length-tab}
 use Rattle.agreement.specs.AcceptedFiles.{held}
-use Rattle.diagram_moves.specs.Changes.{tableMove, checkedTableMove}
+use Rattle.diagram_table.specs.Cells.{countsIn}
+use Rattle.diagram_moves.specs.Changes.{tableMove, checkedTableMove, freshPlaced}
 use Rattle.diagram_moves.specs.FunctionMoves.{Small}
 use Rattle.diagram_moves.specs.MovesAre.{made-is, move-is}
 
@@ -39,41 +39,42 @@ module _ (file l : List ℕ) where
   unfolding freshDiagram
   fresh-refused n = refusing (readDiagram file) _ n
 
-  module _ (rows items : ℕ) (table : List ℕ) (h : HoldsFile file rows items table) (b : areBytes file ≡ true) (small : Small l) (code argument : ℕ) where
+  module _ (rows items : ℕ) (table : List ℕ) (h : HoldsPlant file rows items table) (b : areBytes file ≡ true) (small : Small l) (code argument : ℕ) where
+    d : Diagram
+    d = h .held .diagram
+
     -- THEOREM: of the table that an accepted file gives, the program's outcome is document 01's
     pub step-is : checkedTableMove table rows items file l code argument ≡ stepDiagram file code argument l
-    unfolding stepDiagram
-    step-is = rw (h .read) (move-is file (h .diagram) rows items table l (held file (h .diagram) b (h .read)) (h .holds) (h .uses) small code argument)
+    unfolding stepDiagram d
+    step-is = rw (h .held .read) (move-is file d rows items table l (held file d b (h .held .read)) (h .held .holds) (h .copies) (h .ranks) (h .held .uses) small code argument)
 
     -- THEOREM: on a state that passes 20 a move without the check is document 02's move of a log
-    pub log-move-is : length l ≡ places (h .diagram) → statePasses (h .diagram) (stateOf (h .diagram) l) ≡ true
-        → tableMove table rows items file l code argument ≡ made (h .diagram) (record { code = code; argument = argument }) l
-    unfolding made
-    log-move-is long passes = made-is file (h .diagram) rows items table l (held file (h .diagram) b (h .read)) (h .holds) (h .uses) small code argument long passes
+    pub log-move-is : length l ≡ places (h .held .diagram) → statePasses (h .held .diagram) (stateOf (h .held .diagram) l) ≡ true
+        → tableMove table rows items file l code argument ≡ made (h .held .diagram) (record { code = code; argument = argument }) l
+    unfolding made d
+    log-move-is long passes = made-is file d rows items table l (held file d b (h .held .read)) (h .held .holds) (h .copies) (h .ranks) (h .held .uses) small code argument long passes
 
-  pub fresh-short : (rows items : ℕ) (table : List ℕ) → HoldsFile file rows items table → length l ≢ 3 * rows + items → freshDiagram file l ≡ refused 20 0
-  unfolding freshDiagram
-  fresh-short rows items table h n = rw (h .read, ne-eqb (length l) (places (h .diagram)) (λ e. let a = h .holds .records .rowsAre in let c = h .holds .records .itemsAre in n (omega arith)))
+  -- how many words a state has
+  pub plant-places : (rows items : ℕ) (table : List ℕ) (h : HoldsPlant file rows items table) → 3 * rows + countsIn table items ≡ places (h .held .diagram)
+  plant-places rows items table h = rw (h .held .holds .records .rowsAre, h .held .holds .records .itemsAre, h .copies .total)
 
-  pub fresh-copied : (rows items : ℕ) (table source out : List ℕ) (h : HoldsFile file rows items table) → FreshOf (h .diagram) source → length l ≡ 3 * rows + items
-      → out ≡ copied (take (length l - 0) source) l → freshDiagram file l ≡ accepted out
-  unfolding freshDiagram
-  fresh-copied rows items table source out h f e is =
-      rw (h .read, eq-eqb (length l) (places d) sized) (ap accepted (sym (is ∙ rw (
-        sub-zero (length l),
-        sized,
+  -- THEOREM: the first words of a fresh state's, where there is room for just so many, are document 01's fresh state in the place of l
+  pub fresh-is : (rows items : ℕ) (table source : List ℕ) (size : ℕ) (h : HoldsPlant file rows items table) → FreshOf (h .held .diagram) source → size ≡ 3 * rows + countsIn table items
+      → freshPlaced size source l ≡ freshDiagram file l
+  unfolding freshDiagram freshPlaced
+  fresh-is rows items table source size h f e = rw (h .held .read, e ∙ plant-places rows items table h) (decide (eqb (length l) (places plant))
+      (λ y. let b = eqb-true (length l) (places plant) y in rw y (ap accepted (rw (
         f .words,
         long,
-        le-leb (places d) (places d) (omega arith),
-        drop-of-length-le l (let z : length l ≤ places d = omega arith in z),
-        append-nil (freshWords d),
+        b,
+        le-leb (places plant) (places plant) (omega arith),
+        drop-of-length-le l (let z : length l ≤ places plant = omega (arith, b) in z),
+        append-nil (freshWords plant),
       ))))
+      (λ y. rw y))
     where
-      d : Diagram
-      d = h .diagram
+      plant : Diagram
+      plant = h .held .diagram
 
-      sized : length l ≡ places d
-      sized = let a = h .holds .records .rowsAre in let c = h .holds .records .itemsAre in omega arith
-
-      long : length (freshWords d) ≡ places d
-      long = unfold freshWords stateWords in length-tab (places d) _
+      long : length (freshWords plant) ≡ places plant
+      long = unfold freshWords stateWords in length-tab (places plant) _

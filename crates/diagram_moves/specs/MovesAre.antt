@@ -10,27 +10,30 @@ use lib.Dec.{leb, ltb, eqb}
 use borrow.Author.Tests.{ltb-true, ltb-false, eqb-true, eq-eqb, not-true}
 use Rattle.effbd.specs.Ranges.{allBelow, only, within}
 use Rattle.effbd.specs.Answers.{Outcome, accepted, refused}
-use Rattle.effbd.specs.Diagrams.{Diagram, Kind, Row, function, and-open, branch, and-close, or-open, or-close, it-open, it-close, lp-open, lp-close, loop-exit, end, plain, numberOf, sameKind, row, rowCount, countTotal, kind, isKind}
+use Rattle.effbd.specs.Diagrams.{Diagram, Kind, Row, function, and-open, branch, and-close, or-open, or-close, it-open, it-close, lp-open, lp-close, loop-exit, end, plain, numberOf, sameKind, row, rowCount, itemTotal, isTrigger, kind, isKind}
+use Rattle.effbd.specs.Counts.{Tally, copy, countTotal, itemOf, shared, tally}
 use Rattle.effbd.specs.Nesting.{owner, close, branchOf, loop, isClose}
 use Rattle.effbd.specs.Layout.{places}
-use Rattle.effbd.specs.States.{State, turnsAt, stateOf, enteredAs, enteredRow, activate, enter, branchEntries, makeIdle, clearRows, setTurns, activityFine, rowPasses, statePasses}
+use Rattle.effbd.specs.States.{State, turnsAt, stateOf, enteredAs, enteredRow, activate, enter, branchEntries, makeIdle, clearRows, setTurns, activityFine, rowPasses, countPasses, statePasses}
 use Rattle.effbd.specs.Moves.{mostWord, moveOf, passTicks, enough, allDone, ifReady, stepAs, step, holdsAs, wait, move, wordsOutcome, moveWords, checkedMove}
-use Rattle.diagram_table.specs.Held.{Holds, HoldsUses}
-use Rattle.diagram_file.proofs.HeldCells.{owner-in}
+use Rattle.diagram_table.specs.Held.{Holds, HoldsCopies, HoldsRanks, HoldsUses}
+use Rattle.diagram_table.proofs.HeldCells.{owner-in}
 use Rattle.ranges.specs.Tests.{decide, clash, and-left, and-right, or-split, or-left, or-right, or-false-right}
-use Rattle.ranges.specs.RangeLaws.{all-intro, all-elim, all-ext}
+use Rattle.ranges.specs.RangeLaws.{all-intro, all-elim, all-ext, all-fail, all-find}
 use Rattle.agreement.specs.Basics.{kind-in, not-kind, same-eq}
 use Rattle.agreement.specs.Structure.{opens, Laws}
 use Rattle.agreement.specs.NestingLaws.{laws}
 use Rattle.agreement.specs.AcceptedFiles.{Held}
-use Rattle.diagram_table.specs.Cells.{kindIn, ownerIn, closeIn}
-use Rattle.diagram_moves.specs.Decisions.{added, activityAllowed, turnsAllowed, clockAllowed, rowAllowed, stateAllowed, andDone, readyVerdict, branchVerdict, closeVerdict, rowVerdict, functionHolds, rowHolds, rowFree, waitVerdict, moveVerdict}
+use Rattle.agreement.specs.Sources.{item-in, item-shared, known, numbers}
+use Rattle.agreement.specs.Sources.{numberOf as tallyNumber}
+use Rattle.diagram_table.specs.Cells.{kindIn, ownerIn, closeIn, someTriggerIn}
+use Rattle.diagram_moves.specs.Decisions.{added, activityAllowed, turnsAllowed, clockAllowed, rowAllowed, countAllowed, sharedAllowed, stateAllowed, andDone, readyVerdict, branchVerdict, closeVerdict, rowVerdict, functionHolds, rowHolds, rowFree, waitVerdict, moveVerdict}
 use Rattle.diagram_moves.specs.Changes.{fold, rowSet, tickTurn, tokenPassed, branchesTurned, itOpenChange, exitChange, entered, rowChange, moveChange, outcomeOf, tableMove, checkedTableMove}
 use Rattle.diagram_moves.specs.Stores.{Reads, like, reads-words, words-read, set-turns}
 use Rattle.diagram_moves.specs.RowStores.{tick-fold}
 use Rattle.agreement.specs.Reach.{next-in, close-in, opened-by, and-closed}
 use Rattle.diagram_moves.specs.TokenMoves.{number-is, idle-reads, enter-reads, pass-reads, ready-is, all-done-is, idle-branches, open-branches, clear-reads}
-use Rattle.diagram_moves.specs.FunctionMoves.{Small, whole-sum, enough-is, function-is}
+use Rattle.diagram_moves.specs.FunctionMoves.{Small, SmallCounts, small-counts, whole-sum, enough-is, function-is}
 
 or-nil : (e : Bool) → e ≡ e || false
 or-nil true = refl
@@ -111,8 +114,8 @@ activity-shape d lp-close ofAnd a = refl
 activity-shape d loop-exit ofAnd a = refl
 activity-shape d end ofAnd a = refl
 
-module _ (d : Diagram) (H : Held d) (table : List ℕ) (h : Holds d (rowCount d) (countTotal d) table) (file : List ℕ) (u : HoldsUses file d table)
-    (l : List ℕ) (s : State) (e : Reads d l s) where
+module _ (d : Diagram) (H : Held d) (table : List ℕ) (h : Holds d (rowCount d) (itemTotal d) table) (own : HoldsCopies d table) (ranks : HoldsRanks d table)
+    (file : List ℕ) (u : HoldsUses file d table) (l : List ℕ) (s : State) (e : Reads d l s) where
   row-allowed : (q : ℕ) → q < rowCount d → rowAllowed table l q ≡ rowPasses d s q
   unfolding rowAllowed activityAllowed turnsAllowed clockAllowed
   row-allowed q b = rw (
@@ -121,14 +124,40 @@ module _ (d : Diagram) (H : Held d) (table : List ℕ) (h : Holds d (rowCount d)
     e .clock q b,
     h .owners q b,
     h .records .kinds q b,
-    h .records .kinds (owner d q) (owner-in d (rowCount d) (countTotal d) table h q b),
+    h .records .kinds (owner d q) (owner-in d (rowCount d) (itemTotal d) table h q b),
     h .records .firsts q b,
     h .records .seconds q b,
     activity-shape d (kind d q) (isKind d and-open (owner d q)) (s .activity q),
   )
 
-  pub passes-is : allBelow (rowCount d) (rowAllowed table l) ≡ statePasses d s
-  passes-is = all-ext (rowCount d) (rowAllowed table l) (rowPasses d s) row-allowed
+  -- a trigger's shared count is 0; any other count passes
+  shared-allowed : (k : ℕ) → k < itemTotal d → countAllowed table (rowCount d) l k ≡ countPasses d (shared k) (s .count k)
+  unfolding countAllowed
+  shared-allowed k b = rw (h .records .triggers k b, e .count k (item-in d k b)) (decide (isTrigger d k) (λ y. rw y) (λ y. rw y))
+
+  counts : ℕ → Bool
+  counts c = countPasses d (tally d c) (s .count c)
+
+  plain-passes : (t : Tally) (n : ℕ) → isTrigger d (itemOf t) ≡ false → countPasses d t n ≡ true
+  plain-passes (shared k) n y = rw y
+  plain-passes (copy k q) n y = refl
+
+  count-passes : (c : ℕ) (t : Tally) → tallyNumber d t ≡ c → itemOf t < itemTotal d → allBelow (itemTotal d) (countAllowed table (rowCount d) l) ≡ true → countPasses d t (s .count c) ≡ true
+  count-passes c (shared k) n b y = rw (← n) (sym (shared-allowed k b) ∙ all-elim (itemTotal d) (countAllowed table (rowCount d) l) y k b)
+  count-passes c (copy k q) n b y = refl
+
+  counts-allowed : sharedAllowed table (rowCount d) (itemTotal d) l ≡ allBelow (countTotal d) counts
+  unfolding sharedAllowed counts
+  counts-allowed = decide (eqb (someTriggerIn table) 0)
+      (λ y. rw y (sym (all-intro (countTotal d) counts (λ c b. plain-passes (tally d c) (s .count c) (h .records .noTrigger (eqb-true (someTriggerIn table) 0 y) (itemOf (tally d c)) (known d c b))))))
+      (λ y. rw y (decide (allBelow (itemTotal d) (countAllowed table (rowCount d) l))
+      (λ z. z ∙ sym (all-intro (countTotal d) counts (λ c b. count-passes c (tally d c) (numbers d c b) (known d c b) z)))
+      (λ z. let w = all-find (itemTotal d) (countAllowed table (rowCount d) l) z in
+      z ∙ sym (all-fail (countTotal d) counts (w .0) (item-in d (w .0) (w .1)) (rw (item-shared d (w .0) (w .1)) (sym (shared-allowed (w .0) (w .1)) ∙ w .2))))))
+
+  pub passes-is : (allBelow (rowCount d) (rowAllowed table l) && sharedAllowed table (rowCount d) (itemTotal d) l) ≡ statePasses d s
+  unfolding counts
+  passes-is = rw (all-ext (rowCount d) (rowAllowed table l) (rowPasses d s) row-allowed, counts-allowed)
 
   -- an AND close is the close of its owner
   closing : (r : ℕ) → kind d r ≡ and-close → isClose d r ≡ true
@@ -136,7 +165,7 @@ module _ (d : Diagram) (H : Held d) (table : List ℕ) (h : Holds d (rowCount d)
 
   module _ (n : ℕ) where
     holds : ℕ → Bool
-    holds q = rowHolds table (rowCount d) (countTotal d) file l n q
+    holds q = rowHolds table (rowCount d) (itemTotal d) file l n q
 
     -- what holds a wait at a row, but for an AND close that could step
     plainly : Kind → ℕ → Bool
@@ -144,7 +173,7 @@ module _ (d : Diagram) (H : Held d) (table : List ℕ) (h : Holds d (rowCount d)
 
     row-holds-as : (k : Kind) (q : ℕ) → q < rowCount d → kind d q ≡ k → eqb (s .activity q) 3 ≡ false → holds q ≡ plainly k q
     unfolding holds plainly rowHolds functionHolds
-    row-holds-as function q b k z = rw (number-is d (H .acc) table h q function b k, e .activity q b, e .clock q b, h .records .seconds q b, enough-is d H table h file u l s e q b k)
+    row-holds-as function q b k z = rw (number-is d (H .acc) table h q function b k, e .activity q b, e .clock q b, h .records .seconds q b, enough-is d H table h own ranks file u l s e q b k)
         (holds-shape (s .activity q) (enough d q s) (ltb (row d q .second) (s .clock q + n)))
     row-holds-as and-open q b k z = rw (number-is d (H .acc) table h q and-open b k, e .activity q b, z) (yes-no (eqb (s .activity q) 1))
     row-holds-as branch q b k z = rw (number-is d (H .acc) table h q branch b k, e .activity q b, z) (yes-no (eqb (s .activity q) 1))
@@ -163,7 +192,7 @@ module _ (d : Diagram) (H : Held d) (table : List ℕ) (h : Holds d (rowCount d)
         → holds q ≡ (eqb (owner d q + 1) q && allDone d (owner d q) s)
     unfolding holds rowHolds andDone
     row-holds-done q b k o a =
-        let own : owner d q < rowCount d = owner-in d (rowCount d) (countTotal d) table h q b in
+        let own : owner d q < rowCount d = owner-in d (rowCount d) (itemTotal d) table h q b in
         let opening : opens d (owner d q) ≡ true = rw o in
         let shut = laws d (H .acc) .shut (owner d q) opening in
         let last = close-in d (H .acc) (owner d q) opening in
@@ -180,12 +209,12 @@ module _ (d : Diagram) (H : Held d) (table : List ℕ) (h : Holds d (rowCount d)
     unheld = allBelow (rowCount d) (λ q. not (holdsAs d (kind d q) q n s))
 
     free : Bool
-    free = allBelow (rowCount d) (rowFree table (rowCount d) (countTotal d) file l n)
+    free = allBelow (rowCount d) (rowFree table (rowCount d) (itemTotal d) file l n)
 
     -- a row that holds, where none does
     not-free : {C : Type 0} → free ≡ true → (q : ℕ) → q < rowCount d → holds q ≡ true → C
     unfolding free rowFree holds
-    not-free f q b y = clash y (not-true (rowHolds table (rowCount d) (countTotal d) file l n q) (all-elim (rowCount d) (rowFree table (rowCount d) (countTotal d) file l n) f q b))
+    not-free f q b y = clash y (not-true (rowHolds table (rowCount d) (itemTotal d) file l n q) (all-elim (rowCount d) (rowFree table (rowCount d) (itemTotal d) file l n) f q b))
 
     not-unheld : {C : Type 0} → unheld ≡ true → (q : ℕ) → q < rowCount d → (k : Kind) → kind d q ≡ k → holdsAs d k q n s ≡ true → C
     unfolding unheld
@@ -193,7 +222,7 @@ module _ (d : Diagram) (H : Held d) (table : List ℕ) (h : Holds d (rowCount d)
 
     module _ (passes : statePasses d s ≡ true) where
       fine : (q : ℕ) → q < rowCount d → activityFine d (kind d q) (isKind d and-open (owner d q)) (s .activity q) ≡ true
-      fine q b = and-left _ _ (all-elim (rowCount d) (rowPasses d s) passes q b)
+      fine q b = and-left _ _ (all-elim (rowCount d) (rowPasses d s) (and-left (allBelow (rowCount d) (rowPasses d s)) _ passes) q b)
 
       -- a done row is a BRANCH of an AND
       done-branch : (q : ℕ) → q < rowCount d → s .activity q ≡ 3 → (kind d q ≡ branch) × (kind d (owner d q) ≡ and-open)
@@ -249,7 +278,7 @@ module _ (d : Diagram) (H : Held d) (table : List ℕ) (h : Holds d (rowCount d)
 
       all-free : unheld ≡ true → free ≡ true
       unfolding free rowFree holds
-      all-free g = all-intro (rowCount d) (rowFree table (rowCount d) (countTotal d) file l n) (λ q b. decide (holds q) (λ y. told g q b y) (λ y. ap not y))
+      all-free g = all-intro (rowCount d) (rowFree table (rowCount d) (itemTotal d) file l n) (λ q b. decide (holds q) (λ y. told g q b y) (λ y. ap not y))
 
       free-is : free ≡ unheld
       free-is = decide free (λ f. f ∙ sym (all-unheld f)) (λ f. decide unheld (λ g. clash (all-free g) f) (λ g. f ∙ sym g))
@@ -274,13 +303,13 @@ module _ (d : Diagram) (H : Held d) (table : List ℕ) (h : Holds d (rowCount d)
             clock = λ q c. decide (eqb (s .activity q) 2) (λ y. rw y (whole-sum (s .clock q) n (in-time f q c (eqb-true (s .activity q) 2 y)))) (λ y. rw y);
           })
 
-      pub wait-is : outcomeOf (waitVerdict table (rowCount d) (countTotal d) file l n) (fold (rowCount d) (tickTurn n) l) ≡ wordsOutcome d (wait d n s)
+      pub wait-is : outcomeOf (waitVerdict table (rowCount d) (itemTotal d) file l n) (fold (rowCount d) (tickTurn n) l) ≡ wordsOutcome d (wait d n s)
       unfolding waitVerdict wordsOutcome unheld free
       wait-is = rw free-is (decide (eqb n 0) (λ y. rw y) (λ y. rw y (decide unheld
           (λ z. rw z (ap accepted (reads-words d (fold (rowCount d) (tickTurn n) l) (passTicks n s) (ticked z)))) (λ z. rw z))))
 
   -- a step of row r, by its kind
-  module _ (small : Small l) (r : ℕ) (b : r < rowCount d) where
+  module _ (small : SmallCounts s) (r : ℕ) (b : r < rowCount d) where
     law : Laws d
     law = laws d (H .acc)
 
@@ -306,7 +335,7 @@ module _ (d : Diagram) (H : Held d) (table : List ℕ) (h : Holds d (rowCount d)
     back : (k : Kind) → kind d (owner d r) ≡ k → enteredAs d k (isKind d and-open (owner d (owner d r))) (owner d r) ≡ owner d r
         → outcomeOf (readyVerdict l r r) (tokenPassed table r (ownerIn table r) l) ≡ wordsOutcome d (ifReady d r r s (activate d (only (owner d r)) (makeIdle (only r) s)))
     back k f same = rw (h .owners r b) (ready-is d (H .acc) table h l _ s (enter d (owner d r) (makeIdle (only r) s)) r r b e
-        (pass-reads d (H .acc) table h l s r (owner d r) b (owner-in d (rowCount d) (countTotal d) table h r b) e)
+        (pass-reads d (H .acc) table h l s r (owner d r) b (owner-in d (rowCount d) (itemTotal d) table h r b) e)
         ∙ ap (λ (q : ℕ). wordsOutcome d (ifReady d r r s (activate d (only q) (makeIdle (only r) s)))) itself)
       where
         itself : enteredRow d (owner d r) ≡ owner d r
@@ -320,7 +349,7 @@ module _ (d : Diagram) (H : Held d) (table : List ℕ) (h : Holds d (rowCount d)
 
     branch-step-is : kind d r ≡ branch → outcomeOf (branchVerdict table l r) (tokenPassed table (ownerIn table r) (r + 1) l) ≡ wordsOutcome d (stepAs d branch r s)
     unfolding branchVerdict wordsOutcome
-    branch-step-is f = let o = owner-in d (rowCount d) (countTotal d) table h r b in
+    branch-step-is f = let o = owner-in d (rowCount d) (itemTotal d) table h r b in
         rw (h .owners r b, h .records .kinds (owner d r) o, add-one r) (decide (isKind d or-open (owner d r))
         (λ y. rw y (ready-is d (H .acc) table h l _ s (enter d (suc r) (makeIdle (only (owner d r)) s)) (owner d r) r o e
         (pass-reads d (H .acc) table h l s (owner d r) (suc r) o (next branch f refl) e)))
@@ -355,9 +384,9 @@ module _ (d : Diagram) (H : Held d) (table : List ℕ) (h : Holds d (rowCount d)
         (enter-reads d (H .acc) table h _ (clearRows (within (loop d r) (close d (loop d r))) s) (suc (close d (loop d r))) p
         (clear-reads d (H .acc) table h l s (loop d r) (close d (loop d r)) (omega arith) e)))
 
-    row-as : (k : Kind) → kind d r ≡ k → outcomeOf (rowVerdict table (rowCount d) (countTotal d) file l r) (rowChange table (rowCount d) file r l) ≡ wordsOutcome d (stepAs d k r s)
+    row-as : (k : Kind) → kind d r ≡ k → outcomeOf (rowVerdict table (rowCount d) (itemTotal d) file l r) (rowChange table (rowCount d) file r l) ≡ wordsOutcome d (stepAs d k r s)
     unfolding rowVerdict rowChange wordsOutcome
-    row-as function f = rw (number function f) (function-is d H table h file u l s e r b f small (next function f refl))
+    row-as function f = rw (number function f) (function-is d H table h own ranks file u l s e r b f small (next function f refl))
     row-as and-open f = rw (number and-open f) (and-open-is f)
     row-as branch f = rw (number branch f) (branch-step-is f)
     row-as and-close f = rw (number and-close f) (and-close-is f)
@@ -375,8 +404,8 @@ module _ (d : Diagram) (H : Held d) (table : List ℕ) (h : Holds d (rowCount d)
   unfolding wordsOutcome
   beyond x c = ap (λ (w : Row). wordsOutcome d (stepAs d (w .kind) x s)) (sym (List·getD-eq-default (d .rows) (plain end) c))
 
-  code-is : Small l → statePasses d s ≡ true → (code x : ℕ)
-      → tableMove table (rowCount d) (countTotal d) file l code x ≡ wordsOutcome d (move d (moveOf code x) s)
+  code-is : SmallCounts s → statePasses d s ≡ true → (code x : ℕ)
+      → tableMove table (rowCount d) (itemTotal d) file l code x ≡ wordsOutcome d (move d (moveOf code x) s)
   unfolding tableMove moveVerdict moveChange moveOf wordsOutcome
   code-is small p code x = decide (eqb code 1)
       (λ y. rw y (decide (ltb x (rowCount d))
@@ -384,22 +413,23 @@ module _ (d : Diagram) (H : Held d) (table : List ℕ) (h : Holds d (rowCount d)
       (λ z. rw z (beyond x (ltb-false x (rowCount d) z)))))
       (λ y. rw y (decide (eqb code 2) (λ z. rw z (wait-is x p)) (λ z. rw z)))
 
-module _ (file : List ℕ) (d : Diagram) (rows items : ℕ) (table l : List ℕ) (H : Held d) (h : Holds d rows items table) (u : HoldsUses file d table) (small : Small l) (code x : ℕ) where
+module _ (file : List ℕ) (d : Diagram) (rows items : ℕ) (table l : List ℕ) (H : Held d) (h : Holds d rows items table) (own : HoldsCopies d table) (ranks : HoldsRanks d table)
+    (u : HoldsUses file d table) (small : Small l) (code x : ℕ) where
   -- the table's own numbers of rows and items are the diagram's
-  same-numbers : (F : ℕ → ℕ → Outcome (List ℕ)) (o : Outcome (List ℕ)) → (Holds d (rowCount d) (countTotal d) table → F (rowCount d) (countTotal d) ≡ o) → F rows items ≡ o
+  same-numbers : (F : ℕ → ℕ → Outcome (List ℕ)) (o : Outcome (List ℕ)) → (Holds d (rowCount d) (itemTotal d) table → F (rowCount d) (itemTotal d) ≡ o) → F rows items ≡ o
   same-numbers F o f = rw (h .records .rowsAre, h .records .itemsAre) (f (rw (h .records .rowsAre, h .records .itemsAre) at h))
 
   -- THEOREM: on a state that passes 20 the verdict and the stores are the move of the diagram that the table holds
   pub made-is : length l ≡ places d → statePasses d (stateOf d l) ≡ true → tableMove table rows items file l code x ≡ moveWords d (moveOf code x) l
   unfolding moveWords
   made-is long passes = same-numbers (λ n m. tableMove table n m file l code x) (wordsOutcome d (move d (moveOf code x) (stateOf d l)))
-      (λ g. code-is d H table g file u l (stateOf d l) (words-read d l long) small passes code x)
+      (λ g. code-is d H table g own ranks file u l (stateOf d l) (words-read d l long) (small-counts d l small) passes code x)
 
   -- THEOREM: with the check of the state they are its checked move
   pub move-is : checkedTableMove table rows items file l code x ≡ checkedMove d (moveOf code x) l
   unfolding checkedTableMove stateAllowed checkedMove moveWords
-  move-is = same-numbers (λ n m. checkedTableMove table n m file l code x) (checkedMove d (moveOf code x) l) (λ g. decide (eqb (length l) (places d))
+  move-is = same-numbers (λ n m. checkedTableMove table n m file l code x) (checkedMove d (moveOf code x) l) (λ g. rw (own .total) (decide (eqb (length l) (places d))
       (λ y. let e = words-read d l (eqb-true (length l) (places d) y) in
-      rw (y, passes-is d H table g file u l (stateOf d l) e) (decide (statePasses d (stateOf d l))
-      (λ z. rw z (code-is d H table g file u l (stateOf d l) e small z code x)) (λ z. rw z)))
-      (λ y. rw y))
+      rw (y, passes-is d H table g own ranks file u l (stateOf d l) e) (decide (statePasses d (stateOf d l))
+      (λ z. rw z (code-is d H table g own ranks file u l (stateOf d l) e (small-counts d l small) z code x)) (λ z. rw z)))
+      (λ y. rw y)))

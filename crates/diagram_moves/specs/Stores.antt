@@ -10,7 +10,8 @@ use lib.Seq.{getD-set-same, getD-set-other, ext-getD}
 use lib.Dec.{ltb, eqb}
 use borrow.Author.Tests.{ltb-false, lt-ltb, eqb-true, eqb-false}
 use Rattle.effbd.specs.Ranges.{only}
-use Rattle.effbd.specs.Diagrams.{Diagram, rowCount, countTotal}
+use Rattle.effbd.specs.Diagrams.{Diagram, rowCount}
+use Rattle.effbd.specs.Counts.{countTotal}
 use Rattle.effbd.specs.Layout.{Place, P, Q, R, Count, byPlace, placeOf, places}
 use Rattle.effbd.specs.States.{State, activityAt, turnsAt, clockAt, countAt, stateWords, stateOf, setTurns}
 use Rattle.ranges.specs.Tests.{decide}

@@ -10,12 +10,12 @@ use lib.Dec.{leb, ltb, eqb}
 use borrow.Author.Tests.{ltb-true, ltb-false, lt-ltb, le-ltb, leb-true, leb-false, eqb-true, eqb-false, ne-eqb}
 use Rattle.effbd.specs.Ranges.{allBelow, only, within}
 use Rattle.effbd.specs.Answers.{accepted}
-use Rattle.effbd.specs.Diagrams.{Diagram, Kind, branch, end, numberOf, rowCount, countTotal, kind, isKind}
+use Rattle.effbd.specs.Diagrams.{Diagram, Kind, branch, end, numberOf, rowCount, itemTotal, kind, isKind}
 use Rattle.effbd.specs.Nesting.{owner, isClose, branchOf}
 use Rattle.effbd.specs.States.{State, enteredRow, activate, enter, branchEntries, makeIdle, clearRows}
 use Rattle.effbd.specs.Moves.{allDone, ifReady, wordsOutcome}
 use Rattle.diagram_table.specs.Held.{Holds}
-use Rattle.diagram_file.proofs.HeldCells.{entered-cell, branch-cell}
+use Rattle.diagram_table.proofs.HeldCells.{entered-cell, branch-cell}
 use Rattle.ranges.specs.Tests.{decide, and-left}
 use Rattle.ranges.specs.RangeLaws.{all-intro, all-elim, all-fail, all-find, all-ext}
 use Rattle.agreement.specs.Basics.{same-eq, not-kind}
@@ -33,7 +33,7 @@ all-cut n N f b h = decide (allBelow n f)
     (λ e. e ∙ sym (all-intro N f (λ i c. decide (ltb i n) (λ y. all-elim n f e i (ltb-true i n y)) (λ y. h i (ltb-false i n y) c))))
     (λ e. let w = all-find n f e in let x = w .1 in e ∙ sym (all-fail N f (w .0) (omega arith) (w .2)))
 
-module _ (d : Diagram) (acc : wellNested d ≡ true) (table : List ℕ) (h : Holds d (rowCount d) (countTotal d) table) where
+module _ (d : Diagram) (acc : wellNested d ≡ true) (table : List ℕ) (h : Holds d (rowCount d) (itemTotal d) table) where
   pub number-is : (q : ℕ) (k : Kind) → q < rowCount d → kind d q ≡ k → kindIn table q ≡ numberOf k
   number-is q k b e = h .records .kinds q b ∙ ap numberOf e
 
@@ -45,7 +45,7 @@ module _ (d : Diagram) (acc : wellNested d ≡ true) (table : List ℕ) (h : Hol
 
   pub enter-reads : (l : List ℕ) (s : State) (q : ℕ) → q < rowCount d → Reads d l s → Reads d (entered table q l) (enter d q s)
   unfolding entered
-  enter-reads l s q b e = rw (entered-cell d (rowCount d) (countTotal d) table h q b) (activate-reads l s (enteredRow d q) (entered-in d acc q b) e)
+  enter-reads l s q b e = rw (entered-cell d (rowCount d) (itemTotal d) table h q b) (activate-reads l s (enteredRow d q) (entered-in d acc q b) e)
 
   pub pass-reads : (l : List ℕ) (s : State) (o q : ℕ) → o < rowCount d → q < rowCount d → Reads d l s → Reads d (tokenPassed table o q l) (enter d q (makeIdle (only o) s))
   unfolding tokenPassed
@@ -73,12 +73,12 @@ module _ (d : Diagram) (acc : wellNested d ≡ true) (table : List ℕ) (h : Hol
         ∙ all-cut e (rowCount d) (λ b. not (branchOf d o b) || eqb (s .activity b) 3) (omega arith) (λ b c i. rw (outside b c))
       where
         same : (b : ℕ) → b < e → doneFrom table l o b ≡ (not (branchOf d o b) || eqb (s .activity b) 3)
-        same b c = decide (ltb b o) (λ y. rw (y, lower b (ltb-true b o y))) (λ y. rw (y, branch-cell d (rowCount d) (countTotal d) table h o b (omega arith), f .activity b (omega arith)))
+        same b c = decide (ltb b o) (λ y. rw (y, lower b (ltb-true b o y))) (λ y. rw (y, branch-cell d (rowCount d) (itemTotal d) table h o b (omega arith), f .activity b (omega arith)))
 
     turn-is : (entering : Bool) (b : ℕ) (m : List ℕ) → b < rowCount d
         → startingAt o (branchTurn table entering o) b m ≡ cond (branchOf d o b) (cond entering (entered table (b + 1) m) (rowSet b 0 m)) m
     unfolding startingAt branchTurn
-    turn-is entering b m c = rw (branch-cell d (rowCount d) (countTotal d) table h o b c) (decide (leb o b) (λ y. rw y) (λ y. rw (y, lower b (leb-false o b y))))
+    turn-is entering b m c = rw (branch-cell d (rowCount d) (itemTotal d) table h o b c) (decide (leb o b) (λ y. rw y) (λ y. rw (y, lower b (leb-false o b y))))
 
     pub idle-branches : (l : List ℕ) (s : State) → Reads d l s → Reads d (branchesTurned table false o e l) (makeIdle (branchOf d o) s)
     unfolding branchesTurned

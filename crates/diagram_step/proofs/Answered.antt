@@ -1,17 +1,21 @@
 -- Answers and what they leave.
-use Prim.Native.Nat.{ℕ, _-_}
+use Prim.Native.Nat.{ℕ, _+_, _*_, _-_}
 use mathlib.Core.Path.{_≡_, refl, sym, _∙_, ap}
-use mathlib.Core.Bool.{Bool, true, false}
+use mathlib.Core.Bool.{Bool, true, false, _&&_}
 use mathlib.Core.List.{List}
 use mathlib.Core.Logic.{_≢_}
-use Rattle.effbd.specs.Answers.{Outcome, accepted, refused, afterwards, returningZero, said}
+use lib.Dec.{eqb}
+use lib.ListN.{length}
+use Rattle.effbd.specs.Ranges.{allBelow}
+use Rattle.diagram_table.specs.Cells.{someTriggerIn, countsIn}
+use Rattle.effbd.specs.Answers.{Outcome, accepted, refused, afterwards, returningZero, said, refusalNumber, refusalValue}
 use Rattle.effbd.specs.declared.Answer.{Answer}
 use Rattle.effbd.specs.declared.Answer.the-variants.{Accepted, Refused}
 use Rattle.effbd.specs.Nesting.{readDiagram}
 use Rattle.effbd.specs.Moves.{stepDiagram, freshDiagram}
-use Rattle.diagram_file.specs.Tables.{refusalNumber, refusalValue, Parsed}
+use Rattle.diagram_file.specs.Tables.{Parsed}
 use Rattle.diagram_file.specs.declared.Diagram.{Diagram as Parse}
-use Rattle.diagram_moves.specs.Decisions.{stateAllowed, moveVerdict}
+use Rattle.diagram_moves.specs.Decisions.{rowAllowed, sharedAllowed, stateAllowed, moveVerdict}
 use Rattle.diagram_moves.specs.Changes.{moveChange, tableMove, checkedTableMove}
 use Rattle.diagram_moves.specs.FileMoves.{step-refused, fresh-refused}
 
@@ -47,6 +51,15 @@ module _ (table : List ℕ) (rows items : ℕ) (file l : List ℕ) (code argumen
   pub check-failed : b ≡ false → Answered (refused 20 0) l l (checkedTableMove table rows items file l code argument)
   unfolding checkedTableMove
   check-failed e = rw (sym told ∙ e) (refl, refl)
+
+-- the same of a plant without triggers, which has no more counts than items
+pub plain-check : (table : List ℕ) (rows items : ℕ) (l : List ℕ) (b : Bool) → someTriggerIn table ≡ 0 → b ≡ (eqb (length l) (3 * rows + items) && allBelow rows (rowAllowed table l)) → b ≡ stateAllowed table rows items l
+unfolding stateAllowed sharedAllowed countsIn
+plain-check table rows items l b none told = rw none (told ∙ ap (λ (x : Bool). eqb (length l) (3 * rows + items) && x) (sym (and-true (allBelow rows (rowAllowed table l)))))
+  where
+    and-true : (x : Bool) → (x && true) ≡ x
+    and-true true = refl
+    and-true false = refl
 
 -- a file that was refused
 module _ (file l : List ℕ) (p : Parse) (parsed : Parsed file p) (off : p .number ≢ 0) where

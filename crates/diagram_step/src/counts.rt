@@ -1,9 +1,11 @@
 // Counts and clocks: takes, gives and ticks.
 ghost use mathlib.Core.Path.{_≡_};
+ghost use Prim.Native.Nat.{_<_};
+ghost use lib.ListN.{length};
 ghost use Rattle.diagram_table.specs.Cells.{usesOf, usesIn};
 ghost use Rattle.diagram_moves.specs.Decisions.{added as adding};
 ghost use Rattle.diagram_moves.specs.Decisions.{changed as changing};
-ghost use Rattle.diagram_moves.specs.Changes.{countsChanged, tickTurn, fold};
+ghost use Rattle.diagram_moves.specs.Changes.{countTurn, useChanged, countsChanged, tickTurn, fold};
 use diagram_decide::cells;
 use diagram_decide::uses;
 use diagram_table::USE_SIZE;
@@ -32,26 +34,69 @@ fn changed(giving: bool, count: u16, amount: u16) -> u16
     0
 }
 
-// The takes or the gives of some uses.
-fn change_uses(uses: &[u8], rows: u32, state: &mut [u16], giving: bool)
-    ensures { λ _. ⌜ now (state .exit) ≡ countsChanged giving rows (usesOf (now (uses .entry))) (now (state .entry)) ⌝ }
+// Count number `index` from count `first` on, after a take or a give.
+fn change_count(state: &mut [u16], rows: u32, first: u32, index: u32, giving: bool, amount: u16)
+    ensures { λ _. ⌜ now (state .exit) ≡ countTurn giving rows first amount index (now (state .entry)) ⌝ }
 {
-    let mut rest = uses;
-    while USE_SIZE <= rest.len() {
-        let item = words::word(rest, 0) as u32;
-        let amount = uses::amount(rest, giving);
-        let count = cells::count(state, rows, item);
-        words::put(
-            state,
-            3 * rows as usize + item as usize,
-            changed(giving, count, amount),
-        );
-        let more = words::tail(rest, USE_SIZE);
-        rest = more;
+    let count = cells::count(state, rows, first, index);
+    words::put(
+        state,
+        3 * rows as usize + (first as usize + index as usize),
+        changed(giving, count, amount),
+    );
+}
+
+// Each count of a run: a give of a trigger reaches all its copies.
+fn change_run(state: &mut [u16], rows: u32, first: u32, length: u32, giving: bool, amount: u16)
+    ensures { λ _. ⌜ now (state .exit) ≡ fold length (countTurn giving rows first amount) (now (state .entry)) ⌝ }
+{
+    for index in 0..length {
+        change_count(state, rows, first, index, giving, amount);
     }
 }
 
-// The takes or the gives of a row's uses, which are the very bytes of the file.
+// Use `index` of a row: where its amount is 0 no count is touched.
+fn change_use(
+    table: &[u16],
+    rows: u32,
+    state: &mut [u16],
+    row: u32,
+    index: u32,
+    item: u32,
+    giving: bool,
+    amount: u16,
+)
+    ensures { λ _. ⌜ now (state .exit) ≡ useChanged (now (table .entry)) giving rows row index item amount (now (state .entry)) ⌝ }
+{
+    if amount != 0 {
+        let first = diagram_table::run_first(table, giving, row, index, item);
+        let length = diagram_table::run_length(table, giving, item);
+        if length == 1 {
+            change_count(state, rows, first, 0, giving, amount);
+        } else {
+            change_run(state, rows, first, length, giving, amount);
+        }
+    }
+}
+
+// The takes or the gives of a row's uses.
+fn change_uses(uses: &[u8], table: &[u16], rows: u32, state: &mut [u16], row: u32, giving: bool)
+    requires { ⌜ length (now uses) < 393216 ⌝ }
+    ensures { λ _. ⌜ now (state .exit) ≡ countsChanged (now (table .entry)) giving rows row 0 (usesOf (now (uses .entry))) (now (state .entry)) ⌝ }
+{
+    let mut rest = uses;
+    let mut index = 0;
+    while USE_SIZE <= rest.len() {
+        let item = words::word(rest, 0) as u32;
+        let amount = uses::amount(rest, giving);
+        change_use(table, rows, state, row, index, item, giving, amount);
+        let more = words::tail(rest, USE_SIZE);
+        rest = more;
+        index += 1;
+    }
+}
+
+// The same for the uses of a row, as the very bytes of the file.
 pub(crate) fn change_counts(
     table: &[u16],
     rows: u32,
@@ -60,10 +105,10 @@ pub(crate) fn change_counts(
     row: u32,
     giving: bool,
 )
-    ensures { λ _. ⌜ now (state .exit) ≡ countsChanged giving rows (usesIn (now (table .entry)) (now (file .entry)) row) (now (state .entry)) ⌝ }
+    ensures { λ _. ⌜ now (state .exit) ≡ countsChanged (now (table .entry)) giving rows row 0 (usesIn (now (table .entry)) (now (file .entry)) row) (now (state .entry)) ⌝ }
 {
     let uses = diagram_table::uses(file, table, row);
-    change_uses(uses, rows, state, giving);
+    change_uses(uses, table, rows, state, row, giving);
 }
 
 fn tick_row(state: &mut [u16], ticks: u16, row: u32)

@@ -3,15 +3,19 @@ ghost use mathlib.Core.Path.{_≡_};
 ghost use mathlib.Core.Bool.{true, false};
 ghost use Rattle.effbd.specs.Answers.{said, returningZero, afterwards};
 ghost use Rattle.effbd.specs.Moves.{stepDiagram, freshDiagram};
-ghost use Prim.Native.Nat.{_+_};
-ghost use Rattle.diagram_table.specs.Cells.{ownerIn, closeIn};
-ghost use Rattle.diagram_moves.specs.Changes.{rowSet, entered, branchesTurned, itOpenChange, exitChange, functionChange, rowChange, moveChange, tableMove, checkedTableMove};
+ghost use Prim.Native.Nat.{_+_, _≤_};
+ghost use lib.ListN.{length};
+ghost use Rattle.diagram_table.specs.Cells.{ownerIn, closeIn, someTriggerIn};
+ghost use Rattle.diagram_table.specs.Held.{HoldsFile};
+ghost use Rattle.diagram_moves.specs.Changes.{rowSet, entered, branchesTurned, itOpenChange, exitChange, functionChange, rowChange, moveChange, tableMove, checkedTableMove, freshPlaced};
 use diagram_decide::cells;
 use diagram_decide::check;
+use diagram_file::Diagram;
 use diagram_table::CLOSE;
 use diagram_table::FIRST;
 use diagram_table::LOOP;
 use diagram_table::OWNER;
+use diagram_table::SOME_TRIGGER;
 use effbd::Answer;
 use effbd::moves;
 use effbd::refusals;
@@ -131,11 +135,31 @@ pub fn make_move(
     }
 }
 
-// The check of the state, then the move.
-fn step_table(
+// The check of the state, then the move, on the table of a plant without triggers.
+fn step_plain(
     table: &[u16],
     rows: u32,
     items: u32,
+    file: &[u8],
+    state: &mut [u16],
+    code: u16,
+    argument: u16,
+) -> Answer
+    requires { ⌜ someTriggerIn (now table) ≡ 0 ⌝ }
+    ensures { λ r. ⌜ said r ≡ returningZero (checkedTableMove (now (table .entry)) rows items (now (file .entry)) (now (state .entry)) code argument) ⌝ }
+    ensures { λ r. ⌜ now (state .exit) ≡ afterwards (now (state .entry)) (checkedTableMove (now (table .entry)) rows items (now (file .entry)) (now (state .entry)) code argument) ⌝ }
+{
+    if check::rows_allowed(table, rows, items, state) {
+        return make_move(code, argument, table, state, rows, items, file);
+    }
+    Answer::Refused(refusals::STATE_OFF, 0)
+}
+
+// The same on any table.
+fn step_table(
+    table: &[u16],
+    rows: u32,
+    items: u16,
     file: &[u8],
     state: &mut [u16],
     code: u16,
@@ -145,12 +169,12 @@ fn step_table(
     ensures { λ r. ⌜ now (state .exit) ≡ afterwards (now (state .entry)) (checkedTableMove (now (table .entry)) rows items (now (file .entry)) (now (state .entry)) code argument) ⌝ }
 {
     if check::state_allowed(table, rows, items, state) {
-        return make_move(code, argument, table, state, rows, items, file);
+        return make_move(code, argument, table, state, rows, items as u32, file);
     }
     Answer::Refused(refusals::STATE_OFF, 0)
 }
 
-// A move of a diagram: code 1 steps the row `argument`, code 2 waits `argument` ticks.
+// A move of a diagram: code 1 steps the row `argument`, code 2 waits `argument` ticks. Only a plant with triggers needs its table widened.
 pub fn step(file: &[u8], state: &mut [u16], code: u16, argument: u16) -> Answer
     ensures { λ r. ⌜ said r ≡ returningZero (stepDiagram (now (file .entry)) code argument (now (state .entry))) ⌝ }
     ensures { λ r. ⌜ now (state .exit) ≡ afterwards (now (state .entry)) (stepDiagram (now (file .entry)) code argument (now (state .entry))) ⌝ }
@@ -159,15 +183,49 @@ pub fn step(file: &[u8], state: &mut [u16], code: u16, argument: u16) -> Answer
     if diagram.number != 0 {
         return Answer::Refused(diagram.number, diagram.value);
     }
-    step_table(
-        &diagram.table,
-        diagram.rows as u32,
-        diagram.items as u32,
-        file,
-        state,
-        code,
-        argument,
-    )
+    let rows = diagram.rows;
+    let items = diagram.items;
+    if diagram_table::cell(&diagram.table, SOME_TRIGGER, 0) == 0 {
+        return step_plain(
+            &diagram.table,
+            rows as u32,
+            items as u32,
+            file,
+            state,
+            code,
+            argument,
+        );
+    }
+    let table = copies::widened(&diagram.table, rows, items, file);
+    step_table(&table, rows as u32, items, file, state, code, argument)
+}
+
+// The first `size` words of a fresh state in the place of `state`, if it has just so many.
+fn put_fresh(state: &mut [u16], size: usize, fresh: &[u16]) -> Answer
+    requires { ⌜ size ≤ length (now fresh) ⌝ }
+    ensures { λ r. ⌜ said r ≡ returningZero (freshPlaced size (now (fresh .entry)) (now (state .entry))) ⌝ }
+    ensures { λ r. ⌜ now (state .exit) ≡ afterwards (now (state .entry)) (freshPlaced size (now (fresh .entry)) (now (state .entry))) ⌝ }
+{
+    if state.len() != size {
+        return Answer::Refused(refusals::STATE_OFF, 0);
+    }
+    words::copy(state, &fresh[0..size]);
+    Answer::Accepted(0)
+}
+
+// The fresh state of a plant with triggers, whose table is widened, in the place of `state`.
+fn fresh_with_copies(diagram: Diagram, file: &[u8], state: &mut [u16]) -> Answer
+    requires { ⌜ HoldsFile (now file) (diagram .rows) (diagram .items) (diagram .table) ⌝ }
+    ensures { λ r. ⌜ said r ≡ returningZero (freshDiagram (now (file .entry)) (now (state .entry))) ⌝ }
+    ensures { λ r. ⌜ now (state .exit) ≡ afterwards (now (state .entry)) (freshDiagram (now (file .entry)) (now (state .entry))) ⌝ }
+{
+    let rows = diagram.rows;
+    let items = diagram.items;
+    let table = copies::widened(&diagram.table, rows, items, file);
+    let size = 3 * rows as usize + diagram_table::count_total(&table, items) as usize;
+    let plain = diagram.fresh();
+    let fresh = copies::fresh_state(&plain, &table, rows, items);
+    put_fresh(state, size, &fresh)
 }
 
 // The fresh state of a diagram, in the place of `state`.
@@ -179,11 +237,13 @@ pub fn fresh(file: &[u8], state: &mut [u16]) -> Answer
     if diagram.number != 0 {
         return Answer::Refused(diagram.number, diagram.value);
     }
-    let size = state.len();
-    if size != 3 * diagram.rows as usize + diagram.items as usize {
-        return Answer::Refused(refusals::STATE_OFF, 0);
+    if diagram_table::cell(&diagram.table, SOME_TRIGGER, 0) != 0 {
+        return fresh_with_copies(diagram, file, state);
     }
     let fresh = diagram.fresh();
-    words::copy(state, &fresh[0..size]);
-    Answer::Accepted(0)
+    put_fresh(
+        state,
+        3 * diagram.rows as usize + diagram.items as usize,
+        &fresh,
+    )
 }

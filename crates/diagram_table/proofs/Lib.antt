@@ -1,2 +1,3 @@
+pub mod HeldCells
 pub mod UsesCut
 pub mod UsesWalked

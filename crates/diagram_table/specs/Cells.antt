@@ -1,5 +1,6 @@
--- The layout of a diagram's table: a cell for each row in each column, then a cell for each item; and what the columns say of a row's uses,
--- of a construct's BRANCH rows and of entering a row. Past the table's end a cell is 0. Assumes nothing.
+-- The layout of a diagram's table: a cell for each row in each column, then cells for each item, then, where an item is a trigger, one for each
+-- use; and what they say of a row's uses, of the counts that a use changes, of a construct's BRANCH rows and of entering a row. Past the
+-- table's end a cell is 0. Assumes nothing.
 use Prim.Native.Nat.{ℕ, _+_, _*_, _/_}
 use mathlib.Core.Bool.{Bool, cond, _&&_}
 use mathlib.Core.List.{List, []}
@@ -16,13 +17,34 @@ cellOf column row = mostRows * column + row
 abbrev pub columns : ℕ
 columns = 9
 
--- the cell of an item's initial count
-abbrev pub countCell : ℕ → ℕ
-countCell k = mostRows * columns + k
+-- the cells of an item: 0 initial count, 1 whether it is a trigger, 2 how many rows receive it, 3 the number of its first copy
+abbrev pub itemCell : (column item : ℕ) → ℕ
+itemCell column k = mostRows * columns + mostItems * column + k
+
+abbrev pub itemColumns : ℕ
+itemColumns = 4
+
+-- behind them whether some item is a trigger, and the number of copies
+abbrev pub someTriggerCell : ℕ
+someTriggerCell = itemCell itemColumns 0
+
+abbrev pub copiesCell : ℕ
+copiesCell = itemCell itemColumns 1
 
 -- how many cells a table has
 abbrev pub cellTotal : ℕ
-cellTotal = mostRows * columns + mostItems
+cellTotal = itemCell itemColumns 2
+
+-- where there are triggers, behind all these a cell for each use of each row: its row's place among the receivers of its item
+abbrev pub rankCell : (row index : ℕ) → ℕ
+rankCell r j = cellTotal + mostItems * r + j
+
+abbrev pub wideTotal : ℕ
+wideTotal = rankCell mostRows 0
+
+-- the words of a state, and the places of a net, before the copies of triggers
+abbrev pub plainPlaces : ℕ
+plainPlaces = 3 * mostRows + mostItems
 
 module _ (table : List ℕ) where
   abbrev pub kindIn : ℕ → ℕ
@@ -55,9 +77,44 @@ module _ (table : List ℕ) where
   abbrev pub loopIn : ℕ → ℕ
   loopIn r = getD table (cellOf 8 r) 0
 
-  -- the initial count of an item
+  -- of an item: its initial count, 1 where it is a trigger, how many rows receive it, the number of its first copy
   abbrev pub countIn : ℕ → ℕ
-  countIn k = getD table (countCell k) 0
+  countIn k = getD table (itemCell 0 k) 0
+
+  abbrev pub triggerIn : ℕ → ℕ
+  triggerIn k = getD table (itemCell 1 k) 0
+
+  abbrev pub receiversIn : ℕ → ℕ
+  receiversIn k = getD table (itemCell 2 k) 0
+
+  abbrev pub firstCopyIn : ℕ → ℕ
+  firstCopyIn k = getD table (itemCell 3 k) 0
+
+  -- 1 where some item is a trigger; the number of copies
+  abbrev pub someTriggerIn : ℕ
+  someTriggerIn = getD table someTriggerCell 0
+
+  abbrev pub copiesIn : ℕ
+  copiesIn = getD table copiesCell 0
+
+  -- the count of an item at first: a trigger's shared count is 0
+  unfoldable pub sharedIn : ℕ → ℕ
+  sharedIn k = cond (eqb (triggerIn k) 0) (countIn k) 0
+
+  -- how many counts a state has behind its rows: a table without triggers says nothing of copies
+  unfoldable pub countsIn : (items : ℕ) → ℕ
+  countsIn items = cond (eqb someTriggerIn 0) items (items + copiesIn)
+
+  -- how many rows above row r receive the item of its use j
+  abbrev pub rankIn : (r j : ℕ) → ℕ
+  rankIn r j = getD table (rankCell r j) 0
+
+  -- the counts that use j of row r changes, which names item k: of a trigger a take changes the row's own copy, a give all of them
+  unfoldable pub runFirst : (giving : Bool) (r j k : ℕ) → ℕ
+  runFirst giving r j k = cond (eqb (triggerIn k) 0) k (firstCopyIn k + cond giving 0 (rankIn r j))
+
+  unfoldable pub runLength : (giving : Bool) (k : ℕ) → ℕ
+  runLength giving k = cond giving (cond (eqb (triggerIn k) 0) 1 (receiversIn k)) 1
 
   -- the part of a file that holds a row's uses
   abbrev pub usesPartIn : ℕ → Part

@@ -2,16 +2,20 @@
 use Prim.Native.Nat.{ℕ, _+_, _*_, _≤_, _<_}
 use mathlib.Core.Path.{_≡_}
 use mathlib.Core.List.{List}
-use lib.ListN.{length}
+use mathlib.Core.Bool.{true, false, cond}
+use lib.ListN.{length, getD, take}
 use Rattle.effbd.specs.Answers.{accepted}
-use Rattle.effbd.specs.Diagrams.{Diagram, mostRows, mostItems, numberOf, rowCount, countTotal, initialCount, row, kind}
+use Rattle.effbd.specs.Diagrams.{Diagram, Use, mostRows, mostItems, numberOf, rowCount, itemTotal, item, isTrigger, row, kind}
+use Rattle.effbd.specs.Counts.{copiesOf, copies, countTotal}
 use Rattle.effbd.specs.Nesting.{owner, branchEnded, close, loop, nested, readDiagram, usesPart}
-use Rattle.diagram_table.specs.Cells.{cellTotal, kindIn, firstIn, secondIn, usesStartIn, usesNumberIn, ownerIn, branchIn, closeIn, loopIn, countIn, usesPartIn, usesIn}
+use Rattle.effbd.specs.Layout.{places}
+use Rattle.effbd.specs.States.{freshWords}
+use Rattle.diagram_table.specs.Cells.{cellTotal, kindIn, firstIn, secondIn, usesStartIn, usesNumberIn, ownerIn, branchIn, closeIn, loopIn, countIn, triggerIn, receiversIn, firstCopyIn, someTriggerIn, countsIn, rankIn, usesPartIn, usesIn}
 
--- the records of a diagram: the columns that a row's record gives, the items' initial counts
+-- the records of a diagram: the columns that a row's record gives, the items' initial counts, which of them are triggers
 pub record Tabulated (d : Diagram) (rows items : ℕ) (table : List ℕ) : Type 0 where
   pub rowsAre : rows ≡ rowCount d
-  pub itemsAre : items ≡ countTotal d
+  pub itemsAre : items ≡ itemTotal d
   pub someRow : 1 ≤ rows
   pub fewRows : rows ≤ mostRows
   pub fewItems : items ≤ mostItems
@@ -19,12 +23,14 @@ pub record Tabulated (d : Diagram) (rows items : ℕ) (table : List ℕ) : Type 
   pub firsts : (r : ℕ) → r < rows → firstIn table r ≡ row d r .first
   pub seconds : (r : ℕ) → r < rows → secondIn table r ≡ row d r .second
   pub numbers : (r : ℕ) → r < rows → usesNumberIn table r ≡ length (row d r .uses)
-  pub counts : (k : ℕ) → k < items → countIn table k ≡ initialCount d k
+  pub counts : (k : ℕ) → k < items → countIn table k ≡ item d k .initial
+  pub triggers : (k : ℕ) → k < items → triggerIn table k ≡ cond (isTrigger d k) 1 0
+  pub noTrigger : someTriggerIn table ≡ 0 → (k : ℕ) → k < items → isTrigger d k ≡ false
 
 -- an accepted diagram: its records, and the structure of its rows
 pub record Holds (d : Diagram) (rows items : ℕ) (table : List ℕ) : Type 0 where
   pub nests : nested d ≡ accepted d
-  pub long : length table ≡ cellTotal
+  pub long : cellTotal ≤ length table
   pub records : Tabulated d rows items table
   pub owners : (r : ℕ) → r < rows → ownerIn table r ≡ owner d r
   pub branches : (r : ℕ) → r < rows → branchIn table r ≡ branchEnded d r
@@ -34,6 +40,10 @@ pub record Holds (d : Diagram) (rows items : ℕ) (table : List ℕ) : Type 0 wh
   pub ownerLow : (r : ℕ) → owner d r ≤ r
   pub loopLow : (r : ℕ) → loop d r ≤ r
   pub closeLow : (r : ℕ) → close d r ≤ rows
+
+-- a use that no list has
+abbrev pub noUse : Use
+noUse = record { item = 0; take = 0; give = 0 }
 
 -- the uses of its rows, as parts of the file
 pub record HoldsUses (file : List ℕ) (d : Diagram) (table : List ℕ) : Type 0 where
@@ -47,3 +57,29 @@ pub record HoldsFile (file : List ℕ) (rows items : ℕ) (table : List ℕ) : T
   pub read : readDiagram file ≡ accepted diagram
   pub holds : Holds diagram rows items table
   pub uses : HoldsUses file diagram table
+
+-- the copies of its triggers: how many counts there are with them, the first of each trigger, its number of receivers, each use's place among them
+pub record HoldsCopies (d : Diagram) (table : List ℕ) : Type 0 where
+  pub total : countsIn table (itemTotal d) ≡ countTotal d
+  pub firsts : (k : ℕ) → k < itemTotal d → isTrigger d k ≡ true → firstCopyIn table k ≡ itemTotal d + length (copies d k)
+  pub receivers : (k : ℕ) → k < itemTotal d → isTrigger d k ≡ true → receiversIn table k ≡ length (copiesOf d k (rowCount d))
+
+pub record HoldsRanks (d : Diagram) (table : List ℕ) : Type 0 where
+  pub ranks : (r j : ℕ) → r < rowCount d → j < length (row d r .uses) → isTrigger d (getD (row d r .uses) j noUse .item) ≡ true
+      → rankIn table r j ≡ length (copiesOf d (getD (row d r .uses) j noUse .item) r)
+
+-- all that a move or a net asks for: an accepted file's diagram, its uses and its copies
+pub record HoldsPlant (file : List ℕ) (rows items : ℕ) (table : List ℕ) : Type 0 where
+  pub held : HoldsFile file rows items table
+  pub copies : HoldsCopies (held .diagram) table
+  pub ranks : HoldsRanks (held .diagram) table
+
+-- words that begin with a fresh state's words of the rows and the items
+pub record FreshFront (d : Diagram) (plain : List ℕ) : Type 0 where
+  pub long : 3 * rowCount d + itemTotal d ≤ length plain
+  pub words : (i : ℕ) → i < 3 * rowCount d + itemTotal d → getD plain i 0 ≡ getD (freshWords d) i 0
+
+-- words that begin with the fresh state of a diagram, and have 0 behind it
+pub record FreshOf (d : Diagram) (state : List ℕ) : Type 0 where
+  pub words : take (places d) state ≡ freshWords d
+  pub behind : (i : ℕ) → places d ≤ i → getD state i 0 ≡ 0

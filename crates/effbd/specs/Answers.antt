@@ -24,6 +24,20 @@ abbrev pub unless : {A : Type 0} → ℕ → ℕ → Outcome A → Outcome A
 unless zero value on = on
 unless (suc n) value on = refused (suc n) value
 
+-- number and value of a refusal, 0 and 0 of a result
+abbrev pub refusalNumber : {A : Type 0} → Outcome A → ℕ
+refusalNumber (accepted a) = 0
+refusalNumber (refused number value) = number
+
+abbrev pub refusalValue : {A : Type 0} → Outcome A → ℕ
+refusalValue (accepted a) = 0
+refusalValue (refused number value) = value
+
+-- one fault after another: the second only where the first is none
+abbrev pub orElse : ℕ → ℕ → ℕ
+orElse zero later = later
+orElse (suc n) later = suc n
+
 -- on with the result, if there is one
 abbrev pub andThen : {A B : Type 0} → Outcome A → (A → Outcome B) → Outcome B
 andThen (accepted a) f = f a

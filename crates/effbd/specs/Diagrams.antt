@@ -1,10 +1,11 @@
--- Document 01, "Diagram records": a diagram, and its records in a file (refusals 1 to 5). Assumes nothing.
+-- Document 01, "Diagram records", and document 02, CR 2: a diagram and its records in a file (refusals 1 to 5, 43). Assumes nothing.
 use Prim.Native.Nat.{ℕ, zero, suc, _+_, _-_, _/_, _%_}
-use mathlib.Core.Bool.{Bool, true, not, cond, _&&_, _||_}
+use mathlib.Core.Bool.{Bool, true, not, cond, _&&_, _||_, false}
 use mathlib.Core.List.{List, [], _∷_}
 use lib.ListN.{length, getD, drop}
 use lib.Dec.{leb, ltb, eqb}
 use Rattle.effbd.specs.Records.{word, lengthAt, kindAt, lengthOf, faultAt}
+use Rattle.effbd.specs.Answers.{orElse}
 
 -- the kinds of rows, and their numbers
 pub data Kind : Type 0 where
@@ -48,22 +49,33 @@ pub record Row : Type 0 where
 abbrev pub plain : Kind → Row
 plain k = record { kind = k; first = 0; second = 0; uses = [] }
 
--- "A row is numbered from 0 by its place"; of the items, their initial counts
+-- "2 item, length 6: initial count"; "Item kind 3, otherwise like 2, is a trigger"
+pub record Item : Type 0 where
+  pub initial : ℕ
+  pub trigger : Bool
+
+abbrev pub noItem : Item
+noItem = record { initial = 0; trigger = false }
+
+-- "A row is numbered from 0 by its place"
 pub record Diagram : Type 0 where
   pub rows : List Row
-  pub items : List ℕ
+  pub items : List Item
 
 module _ (d : Diagram) where
   -- N
   abbrev pub rowCount : ℕ
   rowCount = length (d .rows)
 
-  -- "An item is one count, whoever takes from it": as many counts as items, M
-  abbrev pub countTotal : ℕ
-  countTotal = length (d .items)
+  -- M
+  abbrev pub itemTotal : ℕ
+  itemTotal = length (d .items)
 
-  abbrev pub initialCount : ℕ → ℕ
-  initialCount k = getD (d .items) k 0
+  abbrev pub item : ℕ → Item
+  item k = getD (d .items) k noItem
+
+  abbrev pub isTrigger : ℕ → Bool
+  isTrigger k = item k .trigger
 
   -- a number that no row has stands for an END, which never steps
   abbrev pub row : ℕ → Row
@@ -85,22 +97,6 @@ module _ (d : Diagram) where
   abbrev pub turnLimit : ℕ → ℕ
   turnLimit r = row r .first
 
--- the take and the give of count k among a row's uses, 0 where there is none
-abbrev pub takeOf : List Use → ℕ → ℕ
-takeOf [] k = 0
-takeOf (u ∷ us) k = cond (eqb (u .item) k) (u .take) (takeOf us k)
-
-abbrev pub giveOf : List Use → ℕ → ℕ
-giveOf [] k = 0
-giveOf (u ∷ us) k = cond (eqb (u .item) k) (u .give) (giveOf us k)
-
--- which counts row r takes from and gives to, and how much
-abbrev pub takes : Diagram → ℕ → ℕ → ℕ
-takes d r = takeOf (row d r .uses)
-
-abbrev pub gives : Diagram → ℕ → ℕ → ℕ
-gives d r = giveOf (row d r .uses)
-
 -- "1 head, length 10: edition 1, rows N (1 to 64), items M (0 to 16)"; "The edition 1, the 64 rows and 16 items are constants of the diagram"
 abbrev pub edition : ℕ
 edition = 1
@@ -115,12 +111,12 @@ unfoldable pub headFault : List ℕ → ℕ
 headFault bytes = faultAt bytes (eqb (kindAt bytes) 1) (eqb (lengthAt bytes) (lengthOf 1))
     (eqb (word bytes 4) edition && (leb 1 (word bytes 6) && (leb (word bytes 6) mostRows && leb (word bytes 8) mostItems))) 4
 
--- "2 item, length 6: initial count"
+-- "2 item, length 6: initial count"; "Item kind 3, otherwise like 2, is a trigger"
 unfoldable pub itemFault : List ℕ → ℕ
-itemFault bytes = faultAt bytes (eqb (kindAt bytes) 2) (eqb (lengthAt bytes) (lengthOf 2)) true 5
+itemFault bytes = faultAt bytes (eqb (kindAt bytes) 2 || eqb (kindAt bytes) 3) (eqb (lengthAt bytes) (lengthOf (kindAt bytes))) true 5
 
-abbrev pub itemAt : List ℕ → ℕ
-itemAt bytes = word bytes 4
+abbrev pub itemAt : List ℕ → Item
+itemAt bytes = record { initial = word bytes 4; trigger = eqb (kindAt bytes) 3 }
 
 -- "then u uses (item, take, give)"
 unfoldable pub usesAt : ℕ → List ℕ → List Use
@@ -168,3 +164,12 @@ rowFine M r = rowFineAs (r .kind) M r
 -- "Then N rows", of the kinds 16 to 27
 unfoldable pub rowFault : ℕ → List ℕ → ℕ
 rowFault M bytes = faultAt bytes (leb 16 (kindAt bytes) && leb (kindAt bytes) 27) (rowRight M bytes) (rowFine M (rowAt bytes)) 5
+
+-- 43: "a trigger's take or give above 1"
+unfoldable pub triggersFine : List Item → List Use → Bool
+triggersFine items [] = true
+triggersFine items (u ∷ us) = (not (getD items (u .item) noItem .trigger) || (leb (u .take) 1 && leb (u .give) 1)) && triggersFine items us
+
+-- a row of a diagram with these items: 43 "after 5 at the same record"
+unfoldable pub rowFaultIn : List Item → List ℕ → ℕ
+rowFaultIn items bytes = orElse (rowFault (length items) bytes) (cond (triggersFine items (rowAt bytes .uses)) 0 43)

@@ -3,9 +3,10 @@
 use Prim.Native.Nat.{ℕ, _+_, _-_, _*_, _/_, _%_}
 use mathlib.Core.Bool.{cond}
 use lib.Dec.{ltb, eqb}
-use Rattle.effbd.specs.Diagrams.{Diagram, rowCount, countTotal}
+use Rattle.effbd.specs.Diagrams.{Diagram, rowCount}
+use Rattle.effbd.specs.Counts.{countTotal}
 
--- "Places 3r, 3r + 1, 3r + 2 for each row, called P, Q, R; then 3N + k for item k"
+-- "Places 3r, 3r + 1, 3r + 2 for each row, called P, Q, R; then 3N + k for item k"; "the copies follow the items, by item and then row, in state and net"
 pub data Place : Type 0 where
   P Q R Count : ℕ → Place
 

@@ -2,6 +2,7 @@ pub mod Ranges
 pub mod Answers
 pub mod Records
 pub mod Diagrams
+pub mod Counts
 pub mod Nesting
 pub mod Layout
 pub mod States

@@ -1,4 +1,4 @@
--- Document 01, "Diagram state and moves": steps and waits of a diagram (refusals 20 to 26). Assumes nothing.
+-- Document 01, "Diagram state and moves": steps and waits of a diagram (refusals 20 to 26), over the counts of document 02's CR 2. Assumes nothing.
 use Prim.Native.Nat.{ℕ, suc, _+_, _-_}
 use mathlib.Core.Bool.{Bool, false, not, cond, _&&_, _||_}
 use mathlib.Core.List.{List}
@@ -6,7 +6,8 @@ use lib.ListN.{length}
 use lib.Dec.{leb, ltb, eqb}
 use Rattle.effbd.specs.Ranges.{allBelow, least, only}
 use Rattle.effbd.specs.Answers.{Outcome, accepted, refused, andThen}
-use Rattle.effbd.specs.Diagrams.{Kind, function, and-open, branch, and-close, or-open, or-close, it-open, it-close, lp-open, lp-close, loop-exit, end, Diagram, rowCount, countTotal, kind, isKind, alpha, beta, turnLimit, takes, gives}
+use Rattle.effbd.specs.Diagrams.{Kind, function, and-open, branch, and-close, or-open, or-close, it-open, it-close, lp-open, lp-close, loop-exit, end, Diagram, rowCount, kind, itemTotal, isKind, alpha, beta, turnLimit}
+use Rattle.effbd.specs.Counts.{itemOf, countTotal, tally, takes, gives}
 use Rattle.effbd.specs.Nesting.{owner, close, branchOf, loop, inLoop, readDiagram}
 use Rattle.effbd.specs.Layout.{places}
 use Rattle.effbd.specs.States.{State, stateWords, stateOf, activate, enter, branchEntries, makeIdle, clearRows, setTurns, setCounts, setRunning, freshWords, statePasses}
@@ -35,11 +36,21 @@ passTicks n s = record {
 
 module _ (d : Diagram) where
   -- "every count at least its take"; no sum with a give is above 65,535; all BRANCH rows of the AND that row o opens are done
+  abbrev pub isThere : ℕ → State → ℕ → Bool
+  isThere r s c = leb (takes d r c) (s .count c)
+
   abbrev pub enough : ℕ → State → Bool
-  enough r s = allBelow (countTotal d) (λ k. leb (takes d r k) (s .count k))
+  enough r s = allBelow (countTotal d) (isThere r s)
+
+  abbrev pub sumFits : ℕ → State → ℕ → Bool
+  sumFits r s c = leb (s .count c + gives d r c) mostWord
 
   abbrev pub sumsFit : ℕ → State → Bool
-  sumsFit r s = allBelow (countTotal d) (λ k. leb (s .count k + gives d r k) mostWord)
+  sumsFit r s = allBelow (countTotal d) (sumFits r s)
+
+  -- "this item (lowest)": the lowest item with a count that does not pass
+  unfoldable pub lowestItem : (ℕ → Bool) → ℕ
+  lowestItem passes = least (itemTotal d) (λ k. not (allBelow (countTotal d) (λ c. not (only k (itemOf (tally d c))) || passes c)))
 
   abbrev pub allDone : ℕ → State → Bool
   allDone o s = allBelow (rowCount d) (λ b. not (branchOf d o b) || eqb (s .activity b) 3)
@@ -52,7 +63,7 @@ module _ (d : Diagram) where
   abbrev pub startFunction : ℕ → State → Outcome State
   startFunction r s = cond (enough r s)
       (accepted (setRunning r (setCounts (λ k. s .count k - takes d r k) s)))
-      (refused 23 (least (countTotal d) (λ k. ltb (s .count k) (takes d r k))))
+      (refused 23 (lowestItem (isThere r s)))
 
   -- "Running, clock ≥ α: gives are added, clock 0, r + 1 is entered"; 24 "ticks lacking", 25
   abbrev pub endFunction : ℕ → State → Outcome State
@@ -60,7 +71,7 @@ module _ (d : Diagram) where
       (refused 24 (alpha d r - s .clock r))
       (cond (sumsFit r s)
       (accepted (enter d (suc r) (makeIdle (only r) (setCounts (λ k. s .count k + gives d r k) s))))
-      (refused 25 (least (countTotal d) (λ k. not (leb (s .count k + gives d r k) mostWord)))))
+      (refused 25 (lowestItem (sumFits r s))))
 
   -- "the row becomes idle unless said otherwise": each kind's step in document 01's order there; "Nothing else steps"
   abbrev pub stepAs : Kind → ℕ → State → Outcome State

@@ -7,7 +7,7 @@ use lib.Dec.{leb, ltb, eqb}
 use Rattle.effbd.specs.Ranges.{least, only, within}
 use Rattle.effbd.specs.Answers.{Outcome, accepted, refused, unless, andThen}
 use Rattle.effbd.specs.Records.{word, lengthAt, Got, readMany}
-use Rattle.effbd.specs.Diagrams.{Kind, function, and-open, branch, and-close, or-open, or-close, it-open, it-close, lp-open, lp-close, loop-exit, end, Row, Diagram, rowCount, kind, isKind, headFault, itemFault, itemAt, rowAt, rowFault}
+use Rattle.effbd.specs.Diagrams.{Kind, function, and-open, branch, and-close, or-open, or-close, it-open, it-close, lp-open, lp-close, loop-exit, end, Row, Item, Diagram, rowCount, kind, isKind, headFault, itemFault, itemAt, rowAt, rowFaultIn}
 
 -- a construct that is open: its open row, and its latest BRANCH (at first the row after the open, which must be one)
 pub record Frame : Type 0 where
@@ -149,12 +149,12 @@ module _ (d : Diagram) where
   nested = cond (ltb firstFaulty (rowCount d)) (refused (nestingFault firstFaulty) firstFaulty) (accepted d)
 
 -- a diagram file: the head, M items, N rows; "after the last, 6"; then the nesting
-unfoldable pub afterRows : List ℕ → List ℕ → Got (List Row) → Outcome Diagram
+unfoldable pub afterRows : List ℕ → List Item → Got (List Row) → Outcome Diagram
 afterRows file items got =
     unless (cond (eqb (length (got .rest)) 0) 0 6) (length file - length (got .rest)) (nested (record { rows = got .value; items = items }))
 
-unfoldable pub afterItems : List ℕ → Got (List ℕ) → Outcome Diagram
-afterItems file got = andThen (readMany (rowFault (word file 8)) rowAt (length file) (word file 6) (got .rest)) (afterRows file (got .value))
+unfoldable pub afterItems : List ℕ → Got (List Item) → Outcome Diagram
+afterItems file got = andThen (readMany (rowFaultIn (got .value)) rowAt (length file) (word file 6) (got .rest)) (afterRows file (got .value))
 
 unfoldable pub readDiagram : List ℕ → Outcome Diagram
 readDiagram file =

@@ -51,9 +51,9 @@ markBytes (m ∷ ms) = wordBytes 6 ++ (wordBytes 33 ++ (wordBytes m ++ markBytes
 unfoldable pub netBytes : Net → List ℕ
 netBytes n = wordBytes 8 ++ (wordBytes 32 ++ (wordBytes (length (n .marks)) ++ (wordBytes (length (n .transitions)) ++ (markBytes (n .marks) ++ transitionBytes (n .transitions)))))
 
--- the net's limits: "places (1 to 208), transitions (0 to 128)", "label below 64"
+-- the net's limits: "places (1 to 208), transitions (0 to 128)", "label below 64"; "a net may have up to 1,216 places"
 abbrev pub mostPlaces : ℕ
-mostPlaces = 208
+mostPlaces = 1216
 
 abbrev pub mostTransitions : ℕ
 mostTransitions = 128
@@ -88,7 +88,7 @@ transitionAt bytes = record { label = word bytes 4; earliest = word bytes 6; lat
 abbrev pub markAt : List ℕ → ℕ
 markAt bytes = word bytes 4
 
--- "32 head, length 8: places (1 to 208), transitions (0 to 128)"
+-- "32 head, length 8: places, transitions", within the limits
 unfoldable pub netHeadFault : List ℕ → ℕ
 netHeadFault bytes = faultAt bytes (eqb (kindAt bytes) 32) (eqb (lengthAt bytes) (lengthOf 32))
     (leb 1 (word bytes 4) && (leb (word bytes 4) mostPlaces && leb (word bytes 6) mostTransitions)) 4

@@ -6,7 +6,8 @@ use lib.ListN.{length, getD, drop}
 use lib.Dec.{ltb, eqb}
 use Rattle.effbd.specs.Ranges.{only, tabulate}
 use Rattle.effbd.specs.Answers.{Outcome, accepted, refused}
-use Rattle.effbd.specs.Diagrams.{Kind, function, and-open, branch, and-close, or-open, or-close, it-open, it-close, lp-open, lp-close, loop-exit, end, Diagram, rowCount, initialCount, kind, isKind, alpha, beta, turnLimit, takes, gives}
+use Rattle.effbd.specs.Diagrams.{Kind, function, and-open, branch, and-close, or-open, or-close, it-open, it-close, lp-open, lp-close, loop-exit, end, Diagram, rowCount, kind, isKind, alpha, beta, turnLimit}
+use Rattle.effbd.specs.Counts.{takes, gives, initialCount}
 use Rattle.effbd.specs.Nesting.{owner, close, branchOf, loop, inLoop, readDiagram}
 use Rattle.effbd.specs.Layout.{Place, byPlace, places, placeOf}
 use Rattle.effbd.specs.States.{enteredRow, branchEntries}

@@ -1,6 +1,6 @@
 -- Bounded tests, searches and tables of numbers, which the definitions share. Assumes nothing.
-use Prim.Native.Nat.{ℕ, zero, suc}
-use mathlib.Core.Bool.{Bool, true, false, _&&_}
+use Prim.Native.Nat.{ℕ, zero, suc, _+_}
+use mathlib.Core.Bool.{Bool, true, false, _&&_, cond}
 use mathlib.Core.List.{List, [], _∷_}
 use lib.Dec.{leb, eqb}
 
@@ -13,6 +13,11 @@ allBelow (suc n) f = f n && allBelow n f
 abbrev pub least : ℕ → (ℕ → Bool) → ℕ
 least zero f = zero
 least (suc n) f = elim (f zero) [ true ↦ zero | false ↦ suc (least n (λ i. f (suc i))) ]
+
+-- how many numbers below n pass
+abbrev pub howMany : ℕ → (ℕ → Bool) → ℕ
+howMany zero f = zero
+howMany (suc n) f = cond (f n) 1 0 + howMany n f
 
 -- sets of numbers, as tests: the set of r alone; of all from a to b
 abbrev pub only : ℕ → ℕ → Bool

@@ -1,4 +1,4 @@
--- Document 01, "Diagram state and moves": the state, entering a row, the fresh state, the check of a state (refusal 20). Assumes nothing.
+-- Document 01, "Diagram state and moves": the state, entering a row, the fresh state, the check of a state (refusal 20), with document 02's CR 2. Assumes nothing.
 use Prim.Native.Nat.{ℕ, suc, _+_, _*_}
 use mathlib.Core.Bool.{Bool, true, false, not, cond, _&&_, _||_}
 use mathlib.Core.List.{List}
@@ -6,11 +6,12 @@ use lib.ListN.{getD}
 use lib.Dec.{leb, ltb, eqb}
 use Rattle.effbd.specs.Ranges.{allBelow, only, tabulate}
 use Rattle.effbd.specs.Answers.{Outcome, accepted, andThen}
-use Rattle.effbd.specs.Diagrams.{Kind, function, and-open, branch, and-close, or-open, or-close, it-open, it-close, lp-open, lp-close, loop-exit, end, Diagram, rowCount, countTotal, initialCount, kind, isKind, beta, turnLimit}
+use Rattle.effbd.specs.Diagrams.{Kind, function, and-open, branch, and-close, or-open, or-close, it-open, it-close, lp-open, lp-close, loop-exit, end, Diagram, rowCount, kind, isTrigger, isKind, beta, turnLimit}
+use Rattle.effbd.specs.Counts.{Tally, shared, copy, countTotal, tally, initialCount}
 use Rattle.effbd.specs.Nesting.{owner, branchEnded, close, branchOf, readDiagram}
 use Rattle.effbd.specs.Layout.{byPlace, places, placeOf}
 
--- "Per row: activity (0 idle, 1 ready, 2 running, 3 done), turns, clock; then M counts"
+-- "Per row: activity (0 idle, 1 ready, 2 running, 3 done), turns, clock; then M counts"; "the copies follow the items"
 pub record State : Type 0 where
   pub activity : ℕ → ℕ
   pub turns : ℕ → ℕ
@@ -142,9 +143,14 @@ module _ (d : Diagram) where
       && (cond (isKind d it-open q) (leb (s .turns q) (turnLimit d q)) (eqb (s .turns q) 0)
       && cond (eqb (s .activity q) 2) (leb (s .clock q) (beta d q)) (eqb (s .clock q) 0))
 
-  abbrev pub statePasses : State → Bool
-  statePasses s = allBelow (rowCount d) (rowPasses s)
+  -- of a trigger: "Its shared count and place remain 0 (else 20 in a diagram state)"
+  abbrev pub countPasses : Tally → ℕ → Bool
+  countPasses (shared k) n = not (isTrigger d k) || eqb n 0
+  countPasses (copy k q) n = true
 
--- what reading a diagram file returns: the number of words of its state, 3N + M
+  abbrev pub statePasses : State → Bool
+  statePasses s = allBelow (rowCount d) (rowPasses s) && allBelow (countTotal d) (λ c. countPasses (tally d c) (s .count c))
+
+-- what reading a diagram file returns: the number of words of its state, 3N + M and a copy for each receiver of a trigger
 unfoldable pub stateLength : List ℕ → Outcome ℕ
 stateLength file = andThen (readDiagram file) (λ d. accepted (places d))

@@ -6,7 +6,10 @@ pub const MOST_ROWS: u16 = 64;
 pub const MOST_ITEMS: u16 = 16;
 
 // The places of a net; no state of a diagram has more words.
-pub const MOST_PLACES: u16 = 208;
+pub const MOST_PLACES: u16 = 1216;
+
+// The places of a diagram's net, and the words of its state, before the copies of triggers: three for each row, one for each item.
+pub const PLAIN_PLACES: u16 = 208;
 
 pub const MOST_TRANSITIONS: u16 = 128;
 

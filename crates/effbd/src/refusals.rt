@@ -48,3 +48,5 @@ pub const LOG_OFF: u16 = 40;
 pub const NOT_FUNCTION: u16 = 41;
 
 pub const MOVE_REFUSED: u16 = 42;
+
+pub const TRIGGER_OFF: u16 = 43;

@@ -12,7 +12,7 @@ use Rattle.effbd.specs.Records.{areBytes}
 use Rattle.effbd.specs.Diagrams.{Diagram}
 use Rattle.effbd.specs.States.{stateOf, freshWords, statePasses}
 use Rattle.effbd.specs.Logs.{Setpoint, setpointAt, setpoints, moveCount, withIndex, made, after, stateFrom, stateAfter, playedFrom, played}
-use Rattle.diagram_table.specs.Held.{HoldsFile}
+use Rattle.diagram_table.specs.Held.{HoldsPlant}
 use Rattle.diagram_moves.specs.Changes.{tableMove}
 use Rattle.diagram_moves.specs.FunctionMoves.{Small}
 use Rattle.diagram_moves.specs.FileMoves.{log-move-is}
@@ -35,9 +35,9 @@ told-off : (i n v : ℕ) (o : Outcome (List ℕ)) → refused n v ≡ returningZ
 told-off i n v (accepted a) e = never e
 told-off i n v (refused number value) e = record { number = number; value = value; is = refl; says = cc }
 
-module _ (file log : List ℕ) (rows items : ℕ) (table : List ℕ) (h : HoldsFile file rows items table) where
+module _ (file log : List ℕ) (rows items : ℕ) (table : List ℕ) (h : HoldsPlant file rows items table) where
   abbrev d : Diagram
-  d = h .diagram
+  d = h .held .diagram
 
   abbrev ms : List Setpoint
   ms = setpoints log
@@ -67,7 +67,7 @@ module _ (file log : List ℕ) (rows items : ℕ) (table : List ℕ) (h : HoldsF
         (ap length (w .is) ∙ state .long) (ap (λ (l : List ℕ). statePasses d (stateOf d l)) (w .is) ∙ state .passes)
       where
         state : LogState d (stateAfter d (take i ms))
-        state = log-states file d bytes (h .read) (take i ms)
+        state = log-states file d bytes (h .held .read) (take i ms)
 
     module _ (answer : Outcome ℕ) (next : List ℕ) (told : answer ≡ returningZero (withIndex i outcome)) (left : next ≡ afterwards words outcome) where
       -- THEOREM: a move that stands takes the walk on

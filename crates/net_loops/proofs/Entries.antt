@@ -9,7 +9,7 @@ use Rattle.effbd.specs.States.{enteredRow}
 use Rattle.agreement.specs.AcceptedFiles.{Held}
 use Rattle.agreement.specs.Reach.{next-in, entered-in}
 use Rattle.diagram_table.specs.Held.{Holds}
-use Rattle.diagram_file.proofs.HeldCells.{entered-cell}
+use Rattle.diagram_table.proofs.HeldCells.{entered-cell}
 use Rattle.net_loops.specs.LoopTransitions.{entry}
 
 module _ (d : Diagram) (rows items : ℕ) (table : List ℕ) (h : Holds d rows items table) where

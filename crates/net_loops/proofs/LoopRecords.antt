@@ -22,7 +22,7 @@ use Rattle.agreement.specs.Structure.{Laws, opens}
 use Rattle.agreement.specs.NestingLaws.{laws}
 use Rattle.agreement.specs.Reach.{close-in, entered-in}
 use Rattle.diagram_table.specs.Held.{Holds}
-use Rattle.diagram_file.proofs.HeldCells.{in-rows, kind-cell, close-cell}
+use Rattle.diagram_table.proofs.HeldCells.{in-rows, kind-cell, close-cell}
 use Rattle.net_records.specs.Writing.{Records, runs, span}
 use Rattle.net_records.specs.Records.{arc}
 use Rattle.net_records.proofs.Runs.{runs-same, runs-span}

@@ -8,7 +8,8 @@ use native.Mathlib.Omega.{arith}
 use lib.Dec.{leb, eqb}
 use borrow.Author.Tests.{leb-true, leb-false, ne-eqb}
 use Rattle.effbd.specs.Ranges.{only}
-use Rattle.effbd.specs.Diagrams.{Diagram, rowCount, countTotal}
+use Rattle.effbd.specs.Diagrams.{Diagram, rowCount}
+use Rattle.effbd.specs.Counts.{countTotal}
 use Rattle.effbd.specs.Layout.{Place, P, Q, R, Count, byPlace, places, placeOf}
 use Rattle.effbd.specs.Nets.{giveArc}
 use Rattle.effbd.specs.Patterns.{none, oneAt, marksP, arcsOf}

@@ -6,7 +6,7 @@ use mathlib.Core.List.{List, [], _∷_, _++_, map, map-append, append-assoc}
 use native.Mathlib.Omega.{arith}
 use lib.ListN.{length, getD, length-append}
 use Rattle.effbd.specs.Ranges.{only, tabulate}
-use Rattle.effbd.specs.Diagrams.{Kind, function, and-open, branch, and-close, or-open, or-close, it-open, it-close, lp-open, lp-close, loop-exit, end, Diagram, mostRows, numberOf, rowCount, countTotal, kind, isKind, turnLimit}
+use Rattle.effbd.specs.Diagrams.{Kind, function, and-open, branch, and-close, or-open, or-close, it-open, it-close, lp-open, lp-close, loop-exit, end, Diagram, mostRows, numberOf, rowCount, kind, isKind, turnLimit}
 use Rattle.effbd.specs.Layout.{places, placeOf}
 use Rattle.effbd.specs.Nesting.{owner}
 use Rattle.effbd.specs.States.{enteredRow}
@@ -15,19 +15,21 @@ use Rattle.effbd.specs.Patterns.{Pattern, noPattern, Name, names, patterns, pat
 use Rattle.ranges.specs.Tests.{decide}
 use Rattle.ranges.specs.RangeLaws.{length-tab}
 use Rattle.agreement.specs.AcceptedFiles.{Held}
+use Rattle.agreement.specs.Counts.{counts-few}
 use Rattle.agreement.specs.Numbering.{length-map}
 use Rattle.agreement.specs.NetSteps.{many-marks}
-use Rattle.diagram_table.specs.Cells.{enteredIn}
-use Rattle.diagram_table.specs.Held.{Holds, HoldsUses}
-use Rattle.diagram_file.proofs.HeldCells.{in-rows, kind-cell, owner-kind, entered-cell}
+use Rattle.diagram_table.specs.Cells.{enteredIn, countsIn}
+use Rattle.diagram_table.specs.Held.{Holds, HoldsUses, HoldsCopies, HoldsRanks}
+use Rattle.diagram_table.proofs.HeldCells.{in-rows, kind-cell, owner-kind, entered-cell}
 use Rattle.net_records.specs.Writing.{Records, runs}
 use Rattle.net_records.specs.Records.{pair, transition, mark}
 use Rattle.net_rows.specs.Rows.{rowRecords}
-use Rattle.net_rows.specs.Marks.{netHead, firstMark, remaining, rowMarks, itemMark, ownNumber, branchNumber, numberAs, tally}
+use Rattle.net_rows.specs.Marks.{netHead, firstMark, remaining, rowMarks, countMarks, ownNumber, branchNumber, numberAs, tally}
 use Rattle.net_records.proofs.Runs.{runs-same, runs-front}
 use Rattle.net_records.proofs.Nets.{arcRecord, markRecord, transitionRecord, transitionRecords, records-append}
 use Rattle.net_loops.proofs.Weights.{arcs-run, weights, by-rows}
 use Rattle.net_loops.proofs.PatternRecords.{clears, patternRecords, allPatterns}
+use Rattle.net_rows.proofs.CountMarks.{counts-are}
 use Rattle.net_rows.proofs.RowRecords.{row-is}
 
 marks-run : (n : ℕ) (f : ℕ → ℕ) → map markRecord (tabulate n f) ≡ runs (λ p. mark (f p)) n
@@ -83,9 +85,10 @@ module _ (d : Diagram) where
   numberBy loop-exit r = (refl, omega arith)
   numberBy end r = (refl, omega arith)
 
-module _ (d : Diagram) (rows items : ℕ) (table file : List ℕ) (h : Holds d rows items table) (u : HoldsUses file d table) (held : Held d) where
+module _ (d : Diagram) (rows items : ℕ) (table file : List ℕ) (h : Holds d rows items table) (u : HoldsUses file d table) (copied : HoldsCopies d table) (ranked : HoldsRanks d table)
+    (held : Held d) where
   few : places d ≤ mostPlaces
-  few = let a = held .rows in let b = held .items in omega arith
+  few = let a = held .rows in let b = held .items in let c = counts-few d 63 (held .works) in omega arith
 
   counted : (n : ℕ) → n ≤ rowCount d → (tally table n ≡ length (names d n)) × (length (names d n) ≤ 2 * n)
   unfolding tally names
@@ -97,24 +100,24 @@ module _ (d : Diagram) (rows items : ℕ) (table file : List ℕ) (h : Holds d r
       length-append (names d n) (tabulate (length (patterns d n)) (λ i. record { label = n; index = i })) ∙ ap (λ (x : ℕ). length (names d n) + x) (length-tab {A = Name d} (length (patterns d n)) (λ i. record { label = n; index = i })) in
       (rw (e, owner-kind d rows items table h n l, kind-cell d rows items table h n l) (ap₂ _+_ (i .0) (sym (b .0))), (let x = i .1 in let y = b .1 in omega arith))
 
-  pub head-is : (8 ∷ netHead ∷ length (netOf d .marks) ∷ length (netOf d .transitions) ∷ []) ∷ [] ≡ pair netHead (3 * rows + items) (tally table rows)
+  pub head-is : (8 ∷ netHead ∷ length (netOf d .marks) ∷ length (netOf d .transitions) ∷ []) ∷ [] ≡ pair netHead (3 * rows + countsIn table items) (tally table rows)
   unfolding pair
   head-is =
       let c = counted (rowCount d) (omega arith) in
       let t : length (netOf d .transitions) ≡ length (names d (rowCount d)) = unfold netOf in length-map (transitionOf d) (names d (rowCount d)) in
-      let a = h .records .rowsAre in let b = h .records .itemsAre in let f = few in let k = c .1 in let g = h .records .fewRows in
-      let p : 3 * rows + items ≡ places d = ap₂ (λ (x y : ℕ). 3 * x + y) a b in
-      let e₁ : (3 * rows + items) % 65536 ≡ places d = ap (λ (x : ℕ). x % 65536) p ∙ word-mod (places d) (omega arith) in
+      let a = h .records .rowsAre in let b = ap (countsIn table) (h .records .itemsAre) ∙ copied .total in let f = few in let k = c .1 in let g = h .records .fewRows in
+      let p : 3 * rows + countsIn table items ≡ places d = ap₂ (λ (x y : ℕ). 3 * x + y) a b in
+      let e₁ : (3 * rows + countsIn table items) % 65536 ≡ places d = ap (λ (x : ℕ). x % 65536) p ∙ word-mod (places d) (omega arith) in
       let w : tally table rows ≡ length (names d (rowCount d)) = ap (tally table) a ∙ c .0 in
       let small : length (names d (rowCount d)) ≤ mostTransitions = omega arith in
       let e₂ : tally table rows % 65536 ≡ length (names d (rowCount d)) = ap (λ (x : ℕ). x % 65536) w ∙ word-mod (length (names d (rowCount d))) (omega arith) in
       rw (many-marks d, t, e₁, e₂)
 
-  pub marks-are : map markRecord (netOf d .marks) ≡ runs (rowMarks table (enteredIn table 0)) rows ++ runs (itemMark table) items
-  unfolding netOf itemMark
+  pub marks-are : map markRecord (netOf d .marks) ≡ runs (rowMarks table (enteredIn table 0)) rows ++ countMarks table items
+  unfolding netOf
   marks-are = marks-run (places d) (λ p. freshMark d (placeOf d p)) ∙ (by-rows d (λ p w. mark w) (freshMark d) ∙ ap₂ _++_
       (runs-same _ _ (rowCount d) row ∙ ap (runs (rowMarks table (enteredIn table 0))) (sym (h .records .rowsAre)))
-      (runs-same _ _ (countTotal d) (λ k l. ap mark (sym (h .records .counts k (let e = h .records .itemsAre in omega arith)))) ∙ ap (runs (itemMark table)) (sym (h .records .itemsAre))))
+      (counts-are d rows items table h copied))
     where
       row : (q : ℕ) → q < rowCount d → mark (cond (only (enteredRow d 0) q) 1 0) ++ (mark 0 ++ mark (cond (isKind d it-open q) (turnLimit d q) 0)) ≡ rowMarks table (enteredIn table 0) q
       row q l = unfold rowMarks firstMark remaining in
@@ -124,4 +127,4 @@ module _ (d : Diagram) (rows items : ℕ) (table file : List ℕ) (h : Holds d r
   pub transitions-are : transitionRecords (netOf d .transitions) ≡ runs (rowRecords table file rows) rows
   unfolding netOf
   transitions-are = all-patterns d few (rowCount d) (held .rows)
-      ∙ (runs-same _ _ (rowCount d) (λ r l. sym (row-is d rows items table file h u held r l)) ∙ ap (runs (rowRecords table file rows)) (sym (h .records .rowsAre)))
+      ∙ (runs-same _ _ (rowCount d) (λ r l. sym (row-is d rows items table file h u copied ranked held r l)) ∙ ap (runs (rowRecords table file rows)) (sym (h .records .rowsAre)))

@@ -1,5 +1,8 @@
 mod Underway
 pub mod UseArcs
+pub mod CountTurns
+pub mod CountArcs
+pub mod CountMarks
 pub mod ConstructWalks
 pub mod ConstructRows
 pub mod BranchGives

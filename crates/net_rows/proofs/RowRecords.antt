@@ -5,10 +5,10 @@ use mathlib.Core.Logic.{_≢_, _⊎_, inl, inr}
 use mathlib.Core.Bool.{true, false, cond}
 use mathlib.Core.List.{List, [], _∷_, _++_, append-assoc, append-nil}
 use native.Mathlib.Omega.{arith}
-use lib.Dec.{leb, eqb}
 use borrow.Author.Tests.{eqb-true}
 use Rattle.effbd.specs.Ranges.{only}
-use Rattle.effbd.specs.Diagrams.{Kind, function, and-open, branch, and-close, or-open, or-close, it-open, it-close, lp-open, lp-close, loop-exit, end, Diagram, Use, numberOf, rowCount, countTotal, row, kind, isKind, takeOf, giveOf, takes, gives, usesFine, rowFine, rowFineAs}
+use Rattle.effbd.specs.Diagrams.{Kind, function, and-open, branch, and-close, or-open, or-close, it-open, it-close, lp-open, lp-close, loop-exit, end, Diagram, numberOf, rowCount, row, kind, isKind}
+use Rattle.effbd.specs.Counts.{takes, gives}
 use Rattle.effbd.specs.Layout.{byPlace}
 use Rattle.effbd.specs.Nesting.{owner, close, branchOf}
 use Rattle.effbd.specs.States.{enteredRow, branchEntries}
@@ -21,17 +21,17 @@ use Rattle.agreement.specs.Structure.{Laws, opens}
 use Rattle.agreement.specs.NestingLaws.{laws}
 use Rattle.agreement.specs.Reach.{close-in}
 use Rattle.diagram_table.specs.Cells.{usesIn, closeIn, isBranch}
-use Rattle.diagram_table.specs.Held.{Holds, HoldsUses}
-use Rattle.diagram_file.proofs.HeldCells.{in-rows, kind-cell, owner-cell, owner-kind, close-cell, branch-cell}
+use Rattle.diagram_table.specs.Held.{Holds, HoldsUses, HoldsCopies, HoldsRanks}
+use Rattle.diagram_table.proofs.HeldCells.{in-rows, kind-cell, owner-cell, owner-kind, close-cell, branch-cell}
 use Rattle.net_records.specs.Writing.{Records, runs, span}
 use Rattle.net_records.specs.Records.{arc}
-use Rattle.net_rows.specs.Rows.{token, useWeight, useArcs, functionStart, functionEnd, functionRecords, branchPlace, branchArc, branchArcs, andOpen, andClose, orToken, branchToken, onward, back, rowAs, rowRecords}
+use Rattle.net_rows.specs.Rows.{token, useArcs, functionStart, functionEnd, functionOf, functionRecords, branchPlace, branchArc, branchArcs, andOpen, andClose, orToken, branchToken, onward, back, rowAs, rowRecords}
 use Rattle.net_records.proofs.Runs.{runs-same, runs-span}
-use Rattle.net_rows.proofs.UseArcs.{by-count}
+use Rattle.net_rows.proofs.CountArcs.{takes-are, gives-are}
 use Rattle.net_rows.proofs.ConstructWalks.{walk-span}
 use Rattle.net_rows.proofs.ConstructRows.{behind-branch, branch-inside, owner-inside}
 use Rattle.net_rows.proofs.BranchGives.{images}
-use Rattle.net_loops.proofs.Weights.{arc-none, countArcs, at-P, mark-P, mark-Q, mark-each}
+use Rattle.net_loops.proofs.Weights.{arc-none, at-P, mark-P, mark-Q, mark-each}
 use Rattle.net_loops.proofs.PatternRecords.{patternRecords, allPatterns, unclearing}
 use Rattle.net_loops.proofs.Entries.{next-entry, next-entered}
 use Rattle.net_loops.proofs.LoopRecords.{it-open-is, loop-exit-is}
@@ -41,45 +41,29 @@ token-is : (d : Diagram) (r x y : ℕ) → x < rowCount d → y < rowCount d →
 unfolding token allPatterns
 token-is d r x y l m = sym (rw append-nil (unclearing d r 0 0 (marksP (only x)) (marksP (only y)) (arc takeArc (3 * x) 1) (arc giveArc (3 * y) 1) (mark-P d takeArc x l) (mark-P d giveArc y m)))
 
-module _ (d : Diagram) (rows items : ℕ) (table file : List ℕ) (h : Holds d rows items table) (u : HoldsUses file d table) (held : Held d) where
+module _ (d : Diagram) (rows items : ℕ) (table file : List ℕ) (h : Holds d rows items table) (u : HoldsUses file d table) (copied : HoldsCopies d table) (ranked : HoldsRanks d table)
+    (held : Held d) where
   law : Laws d
   law = laws d (held .acc)
 
-  pub uses-fine : (r : ℕ) → kind d r ≡ function → usesFine (countTotal d) 0 (row d r .uses) ≡ true
-  uses-fine r e = and-right (leb (row d r .first) (row d r .second)) _ (subst (λ k. rowFineAs k (countTotal d) (row d r) ≡ true) e (unfold rowFine in held .each r .fine))
-
-  -- the takes or gives of a FUNCTION's uses
-  uses-are : (r k : ℕ) (weight : List Use → ℕ → ℕ) → r < rowCount d → kind d r ≡ function
-      → ((i : ℕ) → weight [] i ≡ 0) → ((x : Use) (xs : List Use) (i : ℕ) → weight (x ∷ xs) i ≡ cond (eqb (x .item) i) (useWeight k x) (weight xs i))
-      → countArcs d k (weight (row d r .uses)) ≡ useArcs rows k (usesIn table file r)
-  unfolding countArcs
-  uses-are r k weight l e without with = by-count (rowCount d) k weight without with (countTotal d) (row d r .uses) 0 (uses-fine r e)
-      ∙ ap₂ (λ (n : ℕ) (us : List Use). useArcs n k us) (sym (h .records .rowsAre)) (sym (u .uses r l))
-
   function-is : (r : ℕ) → r < rowCount d → kind d r ≡ function → functionRecords table file rows r ≡ allPatterns d r (patternsAs d function r)
-  unfolding functionRecords allPatterns
+  unfolding functionRecords functionOf allPatterns
   function-is r l e = sym (ap₂ _++_ start (append-nil _ ∙ stop))
     where
-      takes-are : countArcs d takeArc (takes d r) ≡ useArcs rows takeArc (usesIn table file r)
-      takes-are = unfold useWeight in uses-are r takeArc takeOf l e (λ i. refl) (λ x xs i. refl)
-
-      gives-are : countArcs d giveArc (gives d r) ≡ useArcs rows giveArc (usesIn table file r)
-      gives-are = unfold useWeight in uses-are r giveArc giveOf l e (λ i. refl) (λ x xs i. refl)
-
       no-end : kind d r ≢ end
       no-end = not-kind d r e end refl
 
-      start : patternRecords d r (atOnce (byPlace (oneAt (only r)) none none (takes d r)) nowhere (byPlace none (oneAt (only r)) none none)) ≡ functionStart (usesIn table file r) rows r
-      start = unfold functionStart in (unclearing d r 0 0 _ _ (arc takeArc (3 * r) 1 ++ useArcs rows takeArc (usesIn table file r)) (arc giveArc (3 * r + 1) 1)
-          (at-P d takeArc r none none (takes d r) l (λ q n. (refl, refl)) ∙ rw (arc-none takeArc (3 * r + 1) refl, arc-none takeArc (3 * r + 2) refl, append-nil, takes-are))
+      start : patternRecords d r (atOnce (byPlace (oneAt (only r)) none none (takes d r)) nowhere (byPlace none (oneAt (only r)) none none)) ≡ functionStart r (useArcs table rows takeArc r (usesIn table file r))
+      start = unfold functionStart in (unclearing d r 0 0 _ _ (arc takeArc (3 * r) 1 ++ useArcs table rows takeArc r (usesIn table file r)) (arc giveArc (3 * r + 1) 1)
+          (at-P d takeArc r none none (takes d r) l (λ q n. (refl, refl)) ∙ rw (arc-none takeArc (3 * r + 1) refl, arc-none takeArc (3 * r + 2) refl, append-nil, takes-are d rows items table file h u copied ranked held r l e))
           (mark-Q d giveArc r l) ∙ simp append-assoc)
 
       stop : patternRecords d r (record { earliest = row d r .first; latest = row d r .second; take = byPlace none (oneAt (only r)) none none; clear = nowhere; give = byPlace (oneAt (only (enteredRow d (suc r)))) none none (gives d r) })
-          ≡ functionEnd table (usesIn table file r) rows r
-      stop = unfold functionEnd in (unclearing d r (row d r .first) (row d r .second) _ _ (arc takeArc (3 * r + 1) 1) (arc giveArc (3 * enteredRow d (suc r)) 1 ++ useArcs rows giveArc (usesIn table file r))
+          ≡ functionEnd table r (useArcs table rows giveArc r (usesIn table file r))
+      stop = unfold functionEnd in (unclearing d r (row d r .first) (row d r .second) _ _ (arc takeArc (3 * r + 1) 1) (arc giveArc (3 * enteredRow d (suc r)) 1 ++ useArcs table rows giveArc r (usesIn table file r))
           (mark-Q d takeArc r l)
           (at-P d giveArc (enteredRow d (suc r)) none none (gives d r) (next-entered d rows items table h held r no-end) (λ q n. (refl, refl))
-          ∙ rw (arc-none giveArc (3 * enteredRow d (suc r) + 1) refl, arc-none giveArc (3 * enteredRow d (suc r) + 2) refl, append-nil, gives-are))
+          ∙ rw (arc-none giveArc (3 * enteredRow d (suc r) + 1) refl, arc-none giveArc (3 * enteredRow d (suc r) + 2) refl, append-nil, gives-are d rows items table file h u copied ranked held r l e))
           ∙ rw (h .records .firsts r (in-rows d rows items table h r l), h .records .seconds r (in-rows d rows items table h r l), next-entry d rows items table h held r no-end) (simp append-assoc))
 
   -- the arcs of a construct's BRANCH rows

@@ -1,11 +1,11 @@
 -- The records of a net's places with their fresh marks, and how many transitions its head says. Assumes nothing.
 use Prim.Native.Nat.{ℕ, zero, suc, _+_}
 use mathlib.Core.Bool.{cond, _&&_}
-use mathlib.Core.List.{List, _++_}
+use mathlib.Core.List.{List, [], _++_}
 use lib.Dec.{eqb}
 use Rattle.effbd.specs.Diagrams.{function, branch, or-open, it-open, end, numberOf}
-use Rattle.diagram_table.specs.Cells.{kindIn, firstIn, ownerIn, countIn}
-use Rattle.net_records.specs.Writing.{Records}
+use Rattle.diagram_table.specs.Cells.{kindIn, firstIn, ownerIn, countIn, triggerIn, receiversIn, someTriggerIn, sharedIn}
+use Rattle.net_records.specs.Writing.{Records, runs}
 use Rattle.net_records.specs.Records.{mark}
 
 -- the kind of a net's head
@@ -22,8 +22,22 @@ remaining table row = cond (eqb (kindIn table row) (numberOf it-open)) (firstIn 
 unfoldable pub rowMarks : (table : List ℕ) (first row : ℕ) → Records
 rowMarks table first row = mark (firstMark first row) ++ mark 0 ++ mark (remaining table row)
 
+-- an item's place; that of a trigger remains empty
 unfoldable pub itemMark : (table : List ℕ) (k : ℕ) → Records
-itemMark table k = mark (countIn table k)
+itemMark table k = mark (sharedIn table k)
+
+-- the copies of a trigger, alike; of all items, where one is a trigger
+unfoldable pub equalMarks : (n weight : ℕ) → Records
+equalMarks n weight = runs (λ i. mark weight) n
+
+unfoldable pub copyMarks : (table : List ℕ) (k : ℕ) → Records
+copyMarks table k = cond (eqb (triggerIn table k) 0) [] (equalMarks (receiversIn table k) (countIn table k))
+
+unfoldable pub copiesMarks : (table : List ℕ) (items : ℕ) → Records
+copiesMarks table items = cond (eqb (someTriggerIn table) 0) [] (runs (copyMarks table) items)
+
+unfoldable pub countMarks : (table : List ℕ) (items : ℕ) → Records
+countMarks table items = runs (itemMark table) items ++ copiesMarks table items
 
 -- how many transitions a row of kind k has: by its kind, and, for a BRANCH, by the kind j of its construct's open row
 unfoldable pub ownNumber : ℕ → ℕ

@@ -1,5 +1,5 @@
 -- A net's moves as the code makes them, transition by transition in the file's order, on the words of a state. Assumes nothing.
-use Prim.Native.Nat.{ℕ, _+_, _-_, _*_}
+use Prim.Native.Nat.{ℕ, _+_, _-_, _*_, _≤_}
 use mathlib.Core.Path.{_≡_}
 use mathlib.Core.Bool.{Bool, false, cond, _&&_, _||_}
 use mathlib.Core.List.{List, [], _∷_, _++_}
@@ -64,6 +64,15 @@ module _ (ts : List Transition) where
 pub record Answered (answer : Answer) (before after : List ℕ) (outcome : Outcome (List ℕ)) : Type 0 where
   pub says : said answer ≡ returningZero outcome
   pub leaves : after ≡ afterwards before outcome
+
+-- the places that a net without copies has at most
+abbrev pub smallPlaces : ℕ
+smallPlaces = 208
+
+-- a state of marks for `places` places, `most` at most, and so many clocks
+pub record Sized (most places count : ℕ) (state : List ℕ) : Type 0 where
+  pub few : places ≤ most
+  pub words : length state ≡ places + count
 
 -- word i of a fresh state: the marks that a file of so many places gives, clocks 0
 unfoldable pub freshWord : List ℕ → ℕ → ℕ → ℕ

@@ -2,6 +2,7 @@
 // A move is decided first and written last: what is turned away has written nothing.
 use effbd::Answer;
 use effbd::limits::MOST_PLACES;
+use effbd::limits::PLAIN_PLACES;
 use effbd::refusals::CODE_OFF;
 use effbd::refusals::NOT_STANDING;
 use effbd::refusals::STATE_OFF;
@@ -19,11 +20,14 @@ ghost use Prim.Native.Nat.{_+_, _≤_};
 ghost use lib.ListN.{length, take, drop};
 ghost use Rattle.effbd.specs.Answers.{said, afterwards, returningZero};
 ghost use Rattle.effbd.specs.Ranges.{tabulate};
-ghost use Rattle.effbd.specs.Nets.{giveArc};
+ghost use Rattle.effbd.specs.Nets.{giveArc, mostPlaces};
 ghost use Rattle.effbd.specs.Firing.{stepNet, freshNet};
 ghost use Rattle.net_file.specs.Contents.{arcsIn, transitionIn, transitionsIn};
 ghost use Rattle.net_walk.specs.Walked.{applied};
-ghost use Rattle.net_step.specs.Stepping.{keptClock, grownClock, renewedClock, clocksBy, holdsWait, waitHeld, firedWords, steppedWords, waitedWords, movedWords, Answered, freshWord};
+ghost use Rattle.net_step.specs.Stepping.{keptClock, grownClock, renewedClock, clocksBy, holdsWait, waitHeld, firedWords, steppedWords, waitedWords, movedWords, Answered, smallPlaces, Sized, freshWord};
+
+// A net without copies has no more places, and its steps zero no more marks.
+const SMALL_PLACES: usize = PLAIN_PLACES as usize;
 
 // How clocks are renewed: transition number j fired, or so many ticks passed.
 pub enum Renewal {
@@ -237,8 +241,71 @@ fn move_by(
     }
 }
 
+// A move of a net of up to 208 places. "The firing is worked out on a copy of up to 208 marks": a zeroed array, filled from the state.
+fn move_small(
+    places: usize,
+    state: &mut [u16],
+    transitions: &[u8],
+    count: u16,
+    code: u16,
+    argument: u16,
+) -> Answer
+    requires { ⌜ Sized smallPlaces places count (now state) ⌝ }
+    ensures { λ r. ⌜ Answered r (now (state .entry)) (now (state .exit)) (movedWords (transitionsIn count (now (transitions .entry))) code argument (take places (now (state .entry))) (drop places (now (state .entry)))) ⌝ }
+{
+    let mut marks = [0u16; SMALL_PLACES];
+    move_by(
+        &mut marks[0..places],
+        state,
+        transitions,
+        count,
+        code,
+        argument,
+    )
+}
+
+// The same of any net, on as many marks as one may have places.
+fn move_large(
+    places: usize,
+    state: &mut [u16],
+    transitions: &[u8],
+    count: u16,
+    code: u16,
+    argument: u16,
+) -> Answer
+    requires { ⌜ Sized mostPlaces places count (now state) ⌝ }
+    ensures { λ r. ⌜ Answered r (now (state .entry)) (now (state .exit)) (movedWords (transitionsIn count (now (transitions .entry))) code argument (take places (now (state .entry))) (drop places (now (state .entry)))) ⌝ }
+{
+    let mut marks = [0u16; MOST_PLACES as usize];
+    move_by(
+        &mut marks[0..places],
+        state,
+        transitions,
+        count,
+        code,
+        argument,
+    )
+}
+
+// A move of any net; a small one does not pay for the marks of a large one.
+fn move_sized(
+    places: usize,
+    state: &mut [u16],
+    transitions: &[u8],
+    count: u16,
+    code: u16,
+    argument: u16,
+) -> Answer
+    requires { ⌜ Sized mostPlaces places count (now state) ⌝ }
+    ensures { λ r. ⌜ Answered r (now (state .entry)) (now (state .exit)) (movedWords (transitionsIn count (now (transitions .entry))) code argument (take places (now (state .entry))) (drop places (now (state .entry)))) ⌝ }
+{
+    if places <= SMALL_PLACES {
+        return move_small(places, state, transitions, count, code, argument);
+    }
+    move_large(places, state, transitions, count, code, argument)
+}
+
 // Steps a label (code 1) or waits ticks (code 2); refused by the file's own numbers, 20, 21, 22, 24, 25 or 26.
-// "The firing is worked out on a copy of up to 208 marks": as many as a net may have places.
 pub fn step(net: &[u8], state: &mut [u16], code: u16, argument: u16) -> Answer
     ensures { λ r. ⌜ said r ≡ returningZero (stepNet (now (net .entry)) code argument (now (state .entry))) ⌝ }
     ensures { λ _. ⌜ now (state .exit) ≡ afterwards (now (state .entry)) (stepNet (now (net .entry)) code argument (now (state .entry))) ⌝ }
@@ -253,15 +320,7 @@ pub fn step(net: &[u8], state: &mut [u16], code: u16, argument: u16) -> Answer
             let places = words::word(net, 4) as usize;
             let count = words::word(net, 6);
             let transitions = words::tail(net, HEAD_LENGTH + PLACE_LENGTH * places);
-            let mut marks = [0u16; MOST_PLACES as usize];
-            move_by(
-                &mut marks[0..places],
-                state,
-                transitions,
-                count,
-                code,
-                argument,
-            )
+            move_sized(places, state, transitions, count, code, argument)
         }
     }
 }

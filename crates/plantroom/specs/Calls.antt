@@ -13,7 +13,7 @@ use Rattle.plantroom.specs.Table.{fileA, sameWords}
 unfoldable pub diagramA : Diagram
 diagramA = record {
   rows = record { kind = function; first = 2; second = 5; uses = record { item = 0; take = 1; give = 0 } ∷ [] } ∷ plain end ∷ [];
-  items = 3 ∷ [];
+  items = record { initial = 3; trigger = false } ∷ [];
 }
 
 -- 15 bytes are lent for each telegram

@@ -1,4 +1,5 @@
 pub mod Table
+pub mod Requests
 pub mod Calls
 pub mod Starts
 pub mod Proved

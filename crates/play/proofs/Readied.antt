@@ -19,10 +19,11 @@ use Rattle.effbd.specs.Nets.{Net, readNet, mostPlaces, mostTransitions}
 use Rattle.effbd.specs.Firing.{netWordCount, wordsOf, freshNetWords, freshNet}
 use Rattle.effbd.specs.Patterns.{netOf}
 use Rattle.effbd.specs.History.{netFileOf}
-use Rattle.translate.specs.NetRecords.{longestNet}
+use Rattle.translate.specs.NetRecords.{netRoom}
 use Rattle.ranges.specs.RangeLaws.{length-tab}
 use Rattle.ranges.specs.Tests.{and-left, and-right}
 use Rattle.agreement.specs.AcceptedFiles.{held}
+use Rattle.agreement.specs.WellFormed.{few-places}
 use Rattle.agreement.specs.Formed.{wellFormed}
 use Rattle.agreement.specs.Theorems.{net-well-formed}
 use Rattle.play.specs.ReadyEnds.{netLength, NetLaidAs, NetOf, FreshEnds, FreshOf, ReadyAs, leaderRoom, followerRoom}
@@ -42,7 +43,7 @@ module _ (file net : List ℕ) (n : NetOf file net) (bytes : areBytes file ≡ t
   leader-words w e = e ∙ ap (λ (o : Outcome Diagram). afterwards 0 (andThen o (λ d. accepted (places d)))) (n .read)
 
   pub leader-few : (w : ℕ) → w ≡ afterwards 0 (stateLength file) → w ≤ leaderRoom
-  leader-few w e = let h = held file (n .diagram) bytes (n .read) in let a = h .rows in let b = h .items in let c = leader-words w e in omega arith
+  leader-few w e = let few = few-places (n .diagram) (held file (n .diagram) bytes (n .read)) in let c = leader-words w e in omega arith
 
   follower-words : (w : ℕ) → w ≡ afterwards 0 (wordsOf (readNet net)) → w ≡ netWordCount (netOf (n .diagram))
   unfolding wordsOf
@@ -106,7 +107,7 @@ both-ready file net leader follower net′ leader′ follower′ size words word
 
 -- whatever the file, each size is one that what is lent has room for
 pub sizes-fit : (o : Outcome Diagram) (net leader follower net′ leader′ follower′ : List ℕ) (size words words′ : ℕ)
-    → ReadyAs o net leader follower net′ leader′ follower′ size words words′ → (size ≤ longestNet) × ((words ≤ leaderRoom) × (words′ ≤ followerRoom))
+    → ReadyAs o net leader follower net′ leader′ follower′ size words words′ → (size ≤ netRoom) × ((words ≤ leaderRoom) × (words′ ≤ followerRoom))
 sizes-fit (accepted d) net leader follower net′ leader′ follower′ size words words′ r = (r .net-fits, (r .fresh .leader-fits, r .fresh .follower-fits))
 sizes-fit (refused n v) net leader follower net′ leader′ follower′ size words words′ r =
     let a = r .no-net in let b = r .no-leader in let c = r .no-follower in (omega arith, (omega arith, omega arith))
@@ -124,7 +125,7 @@ laid-over after front area n e f l = let a = ap length e ∙ length-append front
 
 -- and what is lent keeps its length
 pub lengths-kept : (o : Outcome Diagram) (net leader follower net′ leader′ follower′ : List ℕ) (size words words′ : ℕ)
-    → ReadyAs o net leader follower net′ leader′ follower′ size words words′ → longestNet ≤ length net → leaderRoom ≤ length leader → followerRoom ≤ length follower
+    → ReadyAs o net leader follower net′ leader′ follower′ size words words′ → netRoom ≤ length net → leaderRoom ≤ length leader → followerRoom ≤ length follower
     → (length net′ ≡ length net) × ((length leader′ ≡ length leader) × (length follower′ ≡ length follower))
 lengths-kept (accepted d) net leader follower net′ leader′ follower′ size words words′ r a b c =
     let f = r .fresh in

@@ -3,13 +3,13 @@ use Prim.Native.Nat.{ℕ, _≤_}
 use mathlib.Core.Path.{_≡_, refl, sym, _∙_, ap, ap₂, subst}
 use mathlib.Core.Logic.{_≢_}
 use mathlib.Core.Bool.{Bool, true, false, cond, _&&_}
-use mathlib.Core.List.{List, _++_}
+use mathlib.Core.List.{List, [], _++_}
 use native.Mathlib.Omega.{arith}
 use lib.ListN.{length, take, drop, length-append}
 use lib.Seq.{take-at}
 use lib.Dec.{eqb}
 use borrow.Author.Tests.{le-ltb}
-use Rattle.effbd.specs.Answers.{Outcome, accepted, refused, andThen, returningZero, afterwards}
+use Rattle.effbd.specs.Answers.{Outcome, accepted, refused, andThen, returningZero, afterwards, refusalNumber, refusalValue}
 use Rattle.effbd.specs.Records.{areBytes}
 use Rattle.effbd.specs.Diagrams.{Diagram}
 use Rattle.effbd.specs.Nesting.{readDiagram}
@@ -20,15 +20,19 @@ use Rattle.effbd.specs.Nets.{Net, readNet}
 use Rattle.effbd.specs.Firing.{netWordCount, wordsOf, freshNetWords, freshNet}
 use Rattle.effbd.specs.Patterns.{netOf, Translated, translated}
 use Rattle.effbd.specs.History.{Seen, freshEnds, netFileOf}
-use Rattle.translate.specs.NetRecords.{longestNet}
+use Rattle.translate.specs.NetRecords.{netRoom}
 use Rattle.ranges.specs.Tests.{decide}
 use Rattle.agreement.specs.AcceptedFiles.{held}
 use Rattle.agreement.specs.Theorems.{net-well-formed, net-read-back}
 use Rattle.bus.specs.Demand.{demand-3}
-use Rattle.diagram_file.specs.Tables.{refusalNumber, refusalValue, Parsed}
+use Rattle.diagram_file.specs.Tables.{Parsed}
 use Rattle.diagram_table.specs.Held.{HoldsFile}
 use Rattle.diagram_file.specs.declared.Diagram.{Diagram as Table}
-use Rattle.translate.proofs.Sizes.{net-small}
+use Rattle.translate.proofs.Sizes.{net-short}
+use Rattle.copies.specs.Counting.{copiesCounted}
+use Rattle.copies.specs.Promised.{zeros, Widened}
+use Rattle.copies.proofs.Plants.{widened-is}
+use Rattle.diagram_table.specs.Cells.{wideTotal}
 use Rattle.play.specs.CallList.{callsOf, listAfter}
 use Rattle.play.specs.ReadyEnds.{netLength, NetLaid, NetLaidAs, NetOf, asLong}
 use Rattle.play.specs.Played.{Live, AllCalled, playable, Played, PlayedAs}
@@ -63,15 +67,24 @@ no-net file area p h n = go (readDiagram file) (h .number) (h .value)
 
 -- an accepted file's net fits
 module _ (file : List ℕ) (rows items : ℕ) (table : List ℕ) (h : HoldsFile file rows items table) (bytes : areBytes file ≡ true) where
-  small : length (netFileOf (h .diagram)) ≤ longestNet
-  small = net-small (h .diagram) rows items table file (h .holds) (h .uses) (held file (h .diagram) bytes (h .read))
+  -- the table with its copies, as the translator has it
+  abbrev wide : List ℕ
+  wide = copiesCounted file rows items table (zeros wideTotal)
 
-  translation : (area : List ℕ) → longestNet ≤ length area
+  widened : Widened file rows items table (wide ++ [])
+  widened = widened-is file rows items table bytes (zeros wideTotal) wide refl refl
+
+  small : length (netFileOf (h .diagram)) ≤ netRoom
+  small = let p = widened .plant h in
+      subst (λ (d : Diagram). length (netFileOf d) ≤ netRoom) (widened .same h)
+      (net-short (p .held .diagram) rows items (wide ++ []) file (p .held .holds) (p .held .uses) (p .copies) (p .ranks) (held file (p .held .diagram) bytes (p .held .read)))
+
+  translation : (area : List ℕ) → netRoom ≤ length area
       → translated file area ≡ record { answer = accepted (length (netFileOf (h .diagram))); area = netFileOf (h .diagram) ++ drop (length (netFileOf (h .diagram))) area }
   unfolding translated
   translation area l = let s = small in rw (h .read, le-ltb (length area) (length (netFileOf (h .diagram))) (omega arith))
 
-  pub net-laid : (area after : List ℕ) (answer : Outcome ℕ) → longestNet ≤ length area → answer ≡ translated file area .answer → after ≡ translated file area .area
+  pub net-laid : (area after : List ℕ) (answer : Outcome ℕ) → netRoom ≤ length area → answer ≡ translated file area .answer → after ≡ translated file area .area
       → (answer ≡ netLength (readDiagram file)) × NetLaidAs (readDiagram file) area after
   unfolding netLength
   net-laid area after answer l a e = let t = translation area l in

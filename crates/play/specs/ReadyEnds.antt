@@ -14,7 +14,7 @@ use Rattle.effbd.specs.Nets.{Net, mostPlaces, mostTransitions}
 use Rattle.effbd.specs.Firing.{netWordCount, freshNetWords}
 use Rattle.effbd.specs.Patterns.{netOf}
 use Rattle.effbd.specs.History.{netFileOf}
-use Rattle.translate.specs.NetRecords.{longestNet}
+use Rattle.translate.specs.NetRecords.{netRoom}
 
 -- room for the state of every diagram, and of every net
 abbrev pub leaderRoom : ℕ
@@ -31,7 +31,7 @@ netLength (refused number value) = refused number value
 -- the net of an accepted file stands at the start of an area, which has room for it; of a refused one nothing
 pub record NetLaid (d : Diagram) (area after : List ℕ) : Type 0 where
   pub holds : after ≡ netFileOf d ++ drop (length (netFileOf d)) area
-  pub small : length (netFileOf d) ≤ longestNet
+  pub small : length (netFileOf d) ≤ netRoom
 
 abbrev pub NetLaidAs : Outcome Diagram → (area after : List ℕ) → Type 0
 NetLaidAs (accepted d) area after = NetLaid d area after
@@ -65,7 +65,7 @@ pub record FreshOf (file leader follower leader′ follower′ : List ℕ) (lead
 -- the net and both states stand ready
 pub record ReadyEnds (d : Diagram) (net leader follower net′ leader′ follower′ : List ℕ) (netBytes leaderWords followerWords : ℕ) : Type 0 where
   pub net-long : netBytes ≡ length (netFileOf d)
-  pub net-fits : netBytes ≤ longestNet
+  pub net-fits : netBytes ≤ netRoom
   pub net-holds : net′ ≡ netFileOf d ++ drop netBytes net
   pub fresh : FreshEnds d leader follower leader′ follower′ leaderWords followerWords
 

@@ -11,7 +11,7 @@ ghost use Rattle.effbd.specs.Nets.{readNet};
 ghost use Rattle.effbd.specs.Firing.{freshNet};
 ghost use Rattle.play.specs.CallList.{isCall};
 ghost use Rattle.play.specs.ReadyEnds.{leaderRoom, followerRoom, netLength, NetLaidAs, NetOf, asLong, FreshOf, ReadyAs};
-ghost use Rattle.translate.specs.NetRecords.{longestNet};
+ghost use Rattle.translate.specs.NetRecords.{netRoom};
 ghost use Rattle.play.specs.Played.{Called, AllCalled, playable, PlayedAs};
 use effbd::Answer;
 use effbd::limits;
@@ -23,7 +23,7 @@ pub const OFFER: u16 = 1;
 pub const HAND: u16 = 2;
 
 // Room for the net and the states of every file.
-pub const NET_BYTES: usize = 65536;
+pub const NET_BYTES: usize = 551304;
 
 pub const LEADER_WORDS: usize = limits::MOST_PLACES as usize;
 
@@ -227,7 +227,7 @@ fn as_long(net: &[u8], words: usize) -> bool
 
 // The net of a file, written into an area that has room for every net (of an accepted file's table it is known that its net fits).
 fn translate_into(file: &[u8], area: &mut [u8]) -> Answer
-    requires { ⌜ longestNet ≤ length (now area) ⌝ }
+    requires { ⌜ netRoom ≤ length (now area) ⌝ }
     ensures { λ r. ⌜ said r ≡ netLength (readDiagram (now (file .entry))) ⌝ }
     ensures { λ _. ⌜ NetLaidAs (readDiagram (now (file .entry))) (now (area .entry)) (now (area .exit)) ⌝ }
 {
@@ -322,7 +322,7 @@ fn fresh_ends(file: &[u8], net: &[u8], leader: &mut [u16], follower: &mut [u16])
 
 // As `ready`, on lent memory that has room for every file's ends.
 fn ready_in(file: &[u8], net: &mut [u8], leader: &mut [u16], follower: &mut [u16]) -> ReadyResult
-    requires { ⌜ longestNet ≤ length (now net) ⌝ }
+    requires { ⌜ netRoom ≤ length (now net) ⌝ }
     requires { ⌜ leaderRoom ≤ length (now leader) ⌝ }
     requires { ⌜ followerRoom ≤ length (now follower) ⌝ }
     ensures { λ r. ⌜ said (r .answer) ≡ returningZero (readDiagram (now (file .entry))) ⌝ }

@@ -85,6 +85,6 @@ module _ (table : List ℕ) (rows items : ℕ) (file words next : List ℕ) wher
   pub found-ready : (r : ℕ) → kindIn table r ≡ 16 → tableMove table rows items file words 1 r ≡ accepted next → activity next r ≡ 2 → activity words r ≡ 1
   unfolding tableMove moveVerdict rowVerdict functionVerdict moveChange rowChange functionChange
   found-ready r k e a = decide (eqb (activity words r) 1) (λ y. eqb-true (activity words r) 1 y)
-      (λ y. let change : moveChange table rows file 1 r words ≡ tokenPassed table r (r + 1) (countsChanged true rows (usesIn table file r) words) = rw (k, y) in
-      absurd (passed-rests r table (r + 1) (countsChanged true rows (usesIn table file r) words)
+      (λ y. let change : moveChange table rows file 1 r words ≡ tokenPassed table r (r + 1) (countsChanged table true rows r 0 (usesIn table file r) words) = rw (k, y) in
+      absurd (passed-rests r table (r + 1) (countsChanged table true rows r 0 (usesIn table file r) words)
       (ap (λ (l : List ℕ). activity l r) (sym change ∙ written (moveVerdict table rows items file words 1 r) (moveChange table rows file 1 r words) next e) ∙ a)))

@@ -19,7 +19,7 @@ use Rattle.effbd.specs.Starts.{activity, isStep, isStart, startsFrom, starts, t
 use Rattle.ranges.specs.Tests.{decide, and-left, and-right}
 use Rattle.agreement.specs.ByteLaws.{word-fits}
 use Rattle.diagram_table.specs.Cells.{kindIn}
-use Rattle.diagram_table.specs.Held.{HoldsFile}
+use Rattle.diagram_table.specs.Held.{HoldsPlant}
 use Rattle.diagram_moves.specs.Changes.{tableMove}
 use Rattle.diagram_moves.specs.FunctionMoves.{Small}
 use Rattle.log_laws.specs.LogMoves.{noSetpoint, setpoints-many, setpoint-is}
@@ -36,8 +36,8 @@ use Rattle.starts.proofs.AcceptedMoves.{code-one, wait-leaves, found-re
 
 module _ (file log : List ℕ) (rows items : ℕ) (table : List ℕ) (row : ℕ) where
   -- THEOREM: the walk begins at the fresh state, with an empty window
-  pub count-begins : (h : HoldsFile file rows items table) (words gaps : List ℕ) → startsFault table rows log row ≡ 0 → moveCount log ≤ mostMoves → kindIn table row ≡ 16
-      → words ≡ freshWords (h .diagram) → gaps ≡ noGaps → Counting file log rows items table row 0 words gaps noWindow
+  pub count-begins : (h : HoldsPlant file rows items table) (words gaps : List ℕ) → startsFault table rows log row ≡ 0 → moveCount log ≤ mostMoves → kindIn table row ≡ 16
+      → words ≡ freshWords (h .held .diagram) → gaps ≡ noGaps → Counting file log rows items table row 0 words gaps noWindow
   unfolding startsIn
   count-begins h words gaps clean few function e none = record {
     clean = clean;
@@ -47,7 +47,7 @@ module _ (file log : List ℕ) (rows items : ℕ) (table : List ℕ) (row : ℕ)
     holds = h;
     walk = walk-begins file log rows items table h words e;
     past = [];
-    rest = ap (λ (l : List ℕ). timesOf (startsFrom (h .diagram) row 0 0 (setpoints log) l)) (sym e);
+    rest = ap (λ (l : List ℕ). timesOf (startsFrom (h .held .diagram) row 0 0 (setpoints log) l)) (sym e);
     walked = walk-start;
     held = λ n. absurd (n refl);
     later = omega arith;
@@ -62,11 +62,11 @@ module _ (file log : List ℕ) (rows items : ℕ) (table : List ℕ) (row : ℕ)
       (code argument : ℕ) (code-is : code ≡ setpointAt log i .code) (argument-is : argument ≡ setpointAt log i .argument) (logBytes : areBytes log ≡ true) (answer : Outcome ℕ) (next : List ℕ)
       (told : answer ≡ returningZero (withIndex i (tableMove table rows items file words code argument)))
       (left : next ≡ afterwards words (tableMove table rows items file words code argument)) where
-    abbrev h : HoldsFile file rows items table
+    abbrev h : HoldsPlant file rows items table
     h = m .holds
 
     abbrev d : Diagram
-    d = h .diagram
+    d = h .held .diagram
 
     fits : argument < 65536
     fits = let z = word-fits log logBytes (4 * i + 2) in let e = argument-is in omega arith

@@ -8,7 +8,7 @@ use native.Mathlib.Omega.{arith}
 use lib.ListN.{length, take, drop, drop-of-length-le, List·getD-eq-default}
 use lib.Dec.{leb, ltb, eqb}
 use borrow.Author.Tests.{eqb-true, ne-eqb, leb-true, ltb-true, ltb-false}
-use Rattle.effbd.specs.Answers.{Outcome, accepted, refused, isAccepted, unless, andThen}
+use Rattle.effbd.specs.Answers.{Outcome, accepted, refused, isAccepted, unless, andThen, refusalNumber, refusalValue}
 use Rattle.effbd.specs.Diagrams.{Diagram, Row, function, sameKind, plain, end, row, kind, isKind}
 use Rattle.effbd.specs.Nesting.{readDiagram}
 use Rattle.effbd.specs.Layout.{places}
@@ -17,8 +17,7 @@ use Rattle.effbd.specs.Logs.{Setpoint, setpoints, moveCount, mostMoves, logFaul
 use Rattle.effbd.specs.Starts.{Start, startsFrom, starts, timesOf, Busiest, busiest, startsOf, startsToldAs, logStarts}
 use Rattle.ranges.specs.Tests.{decide, clash, and-right}
 use Rattle.diagram_table.specs.Cells.{kindIn}
-use Rattle.diagram_table.specs.Held.{HoldsFile}
-use Rattle.diagram_file.specs.Tables.{refusalNumber, refusalValue, FreshOf}
+use Rattle.diagram_table.specs.Held.{HoldsPlant, FreshOf}
 use Rattle.log_laws.specs.LogMoves.{setpoints-many}
 use Rattle.log_laws.specs.Spans.{Most, most-one, log-busiest}
 use Rattle.logs.specs.Walk.{Walk}
@@ -50,23 +49,23 @@ module _ (file log : List ℕ) (r before : ℕ) where
       go (accepted d) f m = absurd (m refl)
       go (refused number value) f m = refl
 
-  module _ (rows items : ℕ) (table : List ℕ) (h : HoldsFile file rows items table) where
+  module _ (rows items : ℕ) (table : List ℕ) (h : HoldsPlant file rows items table) where
     abbrev d : Diagram
-    d = h .diagram
+    d = h .held .diagram
 
     -- the table's kind is the diagram's; a number that no row has stands for an END
     function-is : notFunction table rows r ≡ cond (isKind d function r) 0 41
     unfolding notFunction
     function-is = decide (ltb r rows)
-        (λ y. rw (y, h .holds .records .kinds r (ltb-true r rows y)))
-        (λ y. rw y (sym (ap (λ (w : Row). cond (sameKind (w .kind) function) 0 41) (List·getD-eq-default (d .rows) (plain end) (let z = ltb-false r rows y in let e = h .holds .records .rowsAre in omega arith)))))
+        (λ y. rw (y, h .held .holds .records .kinds r (ltb-true r rows y)))
+        (λ y. rw y (sym (ap (λ (w : Row). cond (sameKind (w .kind) function) 0 41) (List·getD-eq-default (d .rows) (plain end) (let z = ltb-false r rows y in let e = h .held .holds .records .rowsAre in omega arith)))))
 
     rest : Outcome (List Start)
     rest = andThen (played d log) (λ last. accepted (starts d r log))
 
     opened : startsOf file log r ≡ unless (logFault log) 0 (unless (notFunction table rows r) 0 rest)
     unfolding startsOf rest
-    opened = rw (h .read, function-is)
+    opened = rw (h .held .read, function-is)
 
     both : (f n : ℕ) → unless f 0 (unless n 0 rest) ≡ unless (cond (eqb f 0) n f) 0 rest
     both zero n = refl
@@ -98,10 +97,6 @@ module _ (file log : List ℕ) (r before : ℕ) where
         go zero z y = short _ refl (unfold logFault in sym z)
         go (suc f) z y = absurd (let w : cond (eqb (suc f) 0) (notFunction table rows r) (suc f) ≡ suc f = rw (ne-eqb (suc f) 0 (λ q. absurd (omega arith))) in omega arith)
 
-    -- the words of the fresh state, as a part of what holds them
-    pub fresh-part : (source : List ℕ) (size : ℕ) → FreshOf d source → size ≡ 3 * rows + items → take (size - 0) source ≡ freshWords d
-    fresh-part source size f e = ap (λ (n : ℕ). take n source) (let a = h .holds .records .rowsAre in let c = h .holds .records .itemsAre in let z : size - 0 ≡ places d = omega arith in z) ∙ f .words
-
     -- a row with no fault is a FUNCTION
     clean-function : startsFault table rows log r ≡ 0 → kindIn table r ≡ 16
     unfolding startsFault notFunction
@@ -130,8 +125,8 @@ module _ (file log : List ℕ) (r before : ℕ) where
 
   -- of the walk at its end, or where a move is refused
   module _ (rows items : ℕ) (table : List ℕ) where
-    pub told-stopped : (h : HoldsFile file rows items table) → startsFault table rows log r ≡ 0 → (answer : Outcome ℕ) (flag : Bool) → flag ≡ not (isAccepted answer) → flag ≡ true
-        → ((n v : ℕ) → answer ≡ refused n v → played (h .diagram) log ≡ refused n v) → Tells file log r before answer before
+    pub told-stopped : (h : HoldsPlant file rows items table) → startsFault table rows log r ≡ 0 → (answer : Outcome ℕ) (flag : Bool) → flag ≡ not (isAccepted answer) → flag ≡ true
+        → ((n v : ℕ) → answer ≡ refused n v → played (h .held .diagram) log ≡ refused n v) → Tells file log r before answer before
     told-stopped h c answer flag f y off = go answer refl (sym f ∙ y)
       where
         go : (o : Outcome ℕ) → answer ≡ o → not (isAccepted o) ≡ true → Tells file log r before o before
@@ -142,7 +137,7 @@ module _ (file log : List ℕ) (r before : ℕ) where
     unfolding startsFrom
     told-stood i words gaps w m e = stood rows items table (m .holds) (m .clean) words
         (walk-ends file log rows items table (m .holds) words (subst (λ (n : ℕ). Walk file log rows items table (m .holds) n words) e (m .walk)))
-        (bestOf w) (subst (λ (l : List ℕ). Most l (bestOf w)) (sym (m .rest ∙ (ap (λ (l : List Setpoint). m .past ++ timesOf (startsFrom (m .holds .diagram) r i (w .time) l words)) none-left ∙ append-nil (m .past)))) (m .walked .most))
+        (bestOf w) (subst (λ (l : List ℕ). Most l (bestOf w)) (sym (m .rest ∙ (ap (λ (l : List Setpoint). m .past ++ timesOf (startsFrom (m .holds .held .diagram) r i (w .time) l words)) none-left ∙ append-nil (m .past)))) (m .walked .most))
       where
         none-left : drop i (setpoints log) ≡ []
         none-left = drop-of-length-le (setpoints log) {i = i} (let z = many in omega arith)

@@ -7,10 +7,11 @@ use mathlib.Core.Bool.{Bool, true, false, not, cond, _&&_}
 use mathlib.Core.List.{List, _++_}
 use lib.ListN.{length, drop, replicate}
 use lib.Dec.{eqb}
+use Rattle.effbd.specs.States.{freshWords}
 use Rattle.effbd.specs.Logs.{setpoints, moveCount, mostMoves}
 use Rattle.effbd.specs.Starts.{activity, startsFrom, starts, timesOf}
 use Rattle.diagram_table.specs.Cells.{kindIn}
-use Rattle.diagram_table.specs.Held.{HoldsFile}
+use Rattle.diagram_table.specs.Held.{HoldsPlant}
 use Rattle.log_laws.specs.SpanWalk.{Walked}
 use Rattle.logs.specs.Walk.{Walk}
 use Rattle.starts.specs.Faults.{startsFault}
@@ -36,6 +37,11 @@ waited n w = record { time = w .time + n; latest = w .latest; since = w .since; 
 abbrev pub runs : (row code argument : ℕ) → List ℕ → Bool
 runs row code argument words = not (eqb code 2) && (eqb argument row && eqb (activity words row) 2)
 
+-- a table that says all of an accepted file, and the fresh state of its diagram
+pub record FreshPlant (file : List ℕ) (rows items : ℕ) (table words : List ℕ) : Type 0 where
+  pub plant : HoldsPlant file rows items table
+  pub fresh : words ≡ freshWords (plant .held .diagram)
+
 -- a move turns the window
 pub record Turning (row code argument : ℕ) (words gaps : List ℕ) (w : Window) : Type 0 where
   pub fits : w .time + argument < 4294967296
@@ -59,10 +65,10 @@ module _ (file log : List ℕ) (rows items : ℕ) (table : List ℕ) (row : ℕ)
     pub few : moveCount log ≤ mostMoves
     pub function : kindIn table row ≡ 16
     pub room : length gaps ≡ gapBytes
-    pub holds : HoldsFile file rows items table
+    pub holds : HoldsPlant file rows items table
     pub walk : Walk file log rows items table holds i words
     pub past : List ℕ
-    pub rest : timesOf (starts (holds .diagram) row log) ≡ past ++ timesOf (startsFrom (holds .diagram) row i (w .time) (drop i (setpoints log)) words)
+    pub rest : timesOf (starts (holds .held .diagram) row log) ≡ past ++ timesOf (startsFrom (holds .held .diagram) row i (w .time) (drop i (setpoints log)) words)
     pub walked : Walked past (w .latest) (record { between = inWindow gaps w; best = bestOf w })
     pub held : w .starts ≢ 0 → Held gaps (w .to) (w .latest) (w .starts) (w .from) (w .since)
     pub later : w .latest ≤ w .time

@@ -5,8 +5,11 @@ ghost use Prim.Native.Nat.{_+_, _<_};
 ghost use Rattle.effbd.specs.Answers.{said, isAccepted};
 ghost use Rattle.effbd.specs.Starts.{logStarts};
 ghost use Rattle.starts.specs.Faults.{startsFault};
-ghost use Rattle.starts.specs.Counting.{noWindow, waited, Turning, Turned, Counting};
+ghost use Rattle.starts.specs.Counting.{noWindow, waited, Turning, Turned, Counting, FreshPlant};
+ghost use Rattle.diagram_table.specs.Held.{HoldsFile};
 use diagram_decide::cells;
+use diagram_file::Diagram;
+use diagram_table::SOME_TRIGGER;
 use effbd::Answer;
 use effbd::moves;
 use effbd::refusals;
@@ -125,6 +128,63 @@ fn count_starts(
     Answer::Accepted(window.most)
 }
 
+// As `log_starts`, on the table and the fresh state of an accepted file.
+fn starts_on(
+    table: &[u16],
+    rows: u32,
+    items: u32,
+    file: &[u8],
+    log: &[u8],
+    row: u16,
+    state: &mut [u16],
+    at: &mut u32,
+) -> Answer
+    requires { ⌜ FreshPlant (now file) rows items (now table) (now state) ⌝ }
+    ensures { λ r. ⌜ said r ≡ logStarts (now (file .entry)) (now (log .entry)) row (now (at .entry)) .answer ⌝ }
+    ensures { λ _. ⌜ now (at .exit) ≡ logStarts (now (file .entry)) (now (log .entry)) row (now (at .entry)) .at ⌝ }
+{
+    let fault = fault(table, rows, log, row);
+    if fault != 0 {
+        return Answer::Refused(fault, 0);
+    }
+    let mut gaps = [0u8; GAP_BYTES];
+    count_starts(
+        table,
+        rows,
+        items,
+        file,
+        log,
+        row,
+        state,
+        &mut gaps[0..GAP_BYTES],
+        at,
+    )
+}
+
+// The same with the copies of triggers: a wider table, a longer state.
+fn starts_with_copies(diagram: Diagram, file: &[u8], log: &[u8], row: u16, at: &mut u32) -> Answer
+    requires { ⌜ HoldsFile (now file) (diagram .rows) (diagram .items) (diagram .table) ⌝ }
+    ensures { λ r. ⌜ said r ≡ logStarts (now (file .entry)) (now (log .entry)) row (now (at .entry)) .answer ⌝ }
+    ensures { λ _. ⌜ now (at .exit) ≡ logStarts (now (file .entry)) (now (log .entry)) row (now (at .entry)) .at ⌝ }
+{
+    let table = copies::widened(&diagram.table, diagram.rows, diagram.items, file);
+    let rows = diagram.rows;
+    let items = diagram.items;
+    let plain = diagram.fresh();
+    let mut state = copies::fresh_state(&plain, &table, rows, items);
+    let size = 3 * rows as usize + diagram_table::count_total(&table, items) as usize;
+    starts_on(
+        &table,
+        rows as u32,
+        items as u32,
+        file,
+        log,
+        row,
+        &mut state[0..size],
+        at,
+    )
+}
+
 // The most starts of a FUNCTION row in any hour of a log, and in `at` the earliest start that such an hour begins with; 0 and 0 where there is none.
 pub fn log_starts(file: &[u8], log: &[u8], row: u16, at: &mut u32) -> Answer
     ensures { λ r. ⌜ said r ≡ logStarts (now (file .entry)) (now (log .entry)) row (now (at .entry)) .answer ⌝ }
@@ -134,14 +194,12 @@ pub fn log_starts(file: &[u8], log: &[u8], row: u16, at: &mut u32) -> Answer
     if diagram.number != 0 {
         return Answer::Refused(diagram.number, diagram.value);
     }
-    let fault = fault(&diagram.table, diagram.rows as u32, log, row);
-    if fault != 0 {
-        return Answer::Refused(fault, 0);
+    if diagram_table::cell(&diagram.table, SOME_TRIGGER, 0) != 0 {
+        return starts_with_copies(diagram, file, log, row, at);
     }
     let mut state = diagram.fresh();
     let size = 3 * diagram.rows as usize + diagram.items as usize;
-    let mut gaps = [0u8; GAP_BYTES];
-    count_starts(
+    starts_on(
         &diagram.table,
         diagram.rows as u32,
         diagram.items as u32,
@@ -149,7 +207,6 @@ pub fn log_starts(file: &[u8], log: &[u8], row: u16, at: &mut u32) -> Answer
         log,
         row,
         &mut state[0..size],
-        &mut gaps[0..GAP_BYTES],
         at,
     )
 }

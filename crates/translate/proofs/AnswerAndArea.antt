@@ -1,6 +1,6 @@
 -- Where a net fits, the area holds its bytes and the next offset is their number; the answer and the area that a translation leaves.
 use Prim.Native.Nat.{ℕ, _+_, _≤_, _<_}
-use mathlib.Core.Path.{_≡_, refl, ap, ap₂, _∙_}
+use mathlib.Core.Path.{_≡_, refl, ap, ap₂, sym, subst, _∙_}
 use mathlib.Core.Logic.{_≢_}
 use mathlib.Core.Bool.{true}
 use mathlib.Core.List.{List, [], _∷_, _++_}
@@ -8,23 +8,25 @@ use native.Mathlib.Omega.{arith}
 use native.Mathlib.Nat.{zero-add}
 use lib.ListN.{length, drop}
 use lib.Seq.{sets, sets-eq}
-use borrow.Author.Tests.{lt-ltb, le-ltb}
-use Rattle.effbd.specs.Answers.{Outcome, accepted, refused}
+use borrow.Author.Tests.{eq-eqb, lt-ltb, le-ltb}
+use Rattle.effbd.specs.Answers.{Outcome, accepted, refused, refusalNumber, refusalValue}
 use Rattle.effbd.specs.Records.{areBytes}
+use Rattle.effbd.specs.Counts.{countTotal}
 use Rattle.effbd.specs.Nets.{netBytes}
 use Rattle.effbd.specs.Patterns.{netOf, translatedAs, translated}
 use Rattle.agreement.specs.AcceptedFiles.{Held, held}
 use Rattle.effbd.specs.Diagrams.{Diagram as Read}
 use Rattle.effbd.specs.Nesting.{readDiagram}
 use Rattle.diagram_file.specs.declared.Diagram.{Diagram}
-use Rattle.diagram_table.specs.Held.{HoldsFile}
-use Rattle.diagram_file.specs.Tables.{Parsed, refusalNumber, refusalValue}
+use Rattle.diagram_table.specs.Cells.{someTriggerIn, countsIn}
+use Rattle.diagram_table.specs.Held.{HoldsFile, HoldsPlant}
+use Rattle.diagram_file.specs.Tables.{Parsed}
 use Rattle.net_records.specs.Writing.{Records, flat, offsetLimit, Wrote}
 use Rattle.net_records.proofs.Writing.{wrote-length}
 use Rattle.net_records.proofs.Bytes.{reach-fits, laid-fits}
-use Rattle.translate.specs.NetRecords.{netRecords, longestNet}
+use Rattle.translate.specs.NetRecords.{netRecords, longestNet, netRoom}
 use Rattle.translate.proofs.NetBytes.{net-is}
-use Rattle.translate.proofs.Sizes.{net-small}
+use Rattle.translate.proofs.Sizes.{longest-plain, net-small, net-short}
 
 -- the refusal of a short area
 abbrev areaShort : ℕ
@@ -39,7 +41,10 @@ nothing-written area {after} w = go after (wrote-length w)
     go (x ∷ l) e = absurd (omega arith)
 
 -- an accepted file, its diagram's table
-module _ (file : List ℕ) (rows items : ℕ) (table : List ℕ) (h : HoldsFile file rows items table) (bytes : areBytes file ≡ true) where
+module _ (file : List ℕ) (rows items : ℕ) (table : List ℕ) (plant : HoldsPlant file rows items table) (bytes : areBytes file ≡ true) where
+  abbrev h : HoldsFile file rows items table
+  h = plant .held
+
   net : List ℕ
   net = netBytes (netOf (h .diagram))
 
@@ -48,26 +53,37 @@ module _ (file : List ℕ) (rows items : ℕ) (table : List ℕ) (h : HoldsFile 
 
   is-net : flat (netRecords table file rows items) ≡ net
   unfolding net
-  is-net = net-is (h .diagram) rows items table file (h .holds) (h .uses) sound
+  is-net = net-is (h .diagram) rows items table file (h .holds) (h .uses) (plant .copies) (plant .ranks) sound
 
-  small : length net ≤ longestNet
+  small : length net ≤ netRoom
   unfolding net
-  small = net-small (h .diagram) rows items table file (h .holds) (h .uses) sound
+  small = net-short (h .diagram) rows items table file (h .holds) (h .uses) (plant .copies) (plant .ranks) sound
 
   fits : 0 + length (flat (netRecords table file rows items)) ≤ offsetLimit
   fits = rw is-net (let s = small in omega arith)
 
-  -- no net is longer
-  pub never-longer : length (flat (netRecords table file rows items)) ≤ longestNet
-  never-longer = rw is-net small
+  -- no net of these rows, items and counts is longer
+  pub never-longer : length (flat (netRecords table file rows items)) ≤ longestNet rows items (countsIn table items)
+  unfolding net
+  never-longer = let total : countTotal (h .diagram) ≡ countsIn table items = sym (ap (countsIn table) (h .holds .records .itemsAre) ∙ plant .copies .total) in
+      rw is-net (subst (λ n. length (netBytes (netOf (h .diagram))) ≤ longestNet rows items n) total
+      (net-small (h .diagram) rows items table file (h .holds) (h .uses) (plant .copies) (plant .ranks) sound))
+
+  pub plain-shorter : someTriggerIn table ≡ 0 → length (flat (netRecords table file rows items)) ≤ 40424
+  unfolding countsIn
+  plain-shorter z =
+      let plain : countsIn table items ≡ items = rw (eq-eqb (someTriggerIn table) 0 z) in
+      let a = subst (λ n. length (flat (netRecords table file rows items)) ≤ longestNet rows items n) plain never-longer in
+      let b = longest-plain rows items (h .holds .records .fewRows) (h .holds .records .fewItems) in
+      omega arith
 
   -- the writer's result is the net's length, and fits an answer
   pub measure : {before after : List ℕ} {next : ℕ} → Wrote before 0 after next (netRecords table file rows items)
       → next ≡ length (flat (netRecords table file rows items))
   measure w = w .reached ∙ (reach-fits (netRecords table file rows items) 0 fits ∙ zero-add _)
 
-  pub measured : {before after : List ℕ} {next : ℕ} → Wrote before 0 after next (netRecords table file rows items) → next ≤ longestNet
-  measured w = let e = measure w in let s = never-longer in omega arith
+  pub measured : {before after : List ℕ} {next : ℕ} → Wrote before 0 after next (netRecords table file rows items) → next ≤ netRoom
+  measured w = let e = measure w ∙ ap length is-net in let s = small in omega arith
 
   -- a short area, an empty part of which was written
   pub too-short : (area : List ℕ) {after : List ℕ} {next : ℕ} → Wrote [] 0 after next (netRecords table file rows items) → length area < next

@@ -4,9 +4,11 @@ ghost use Prim.Native.Nat.{_≤_};
 ghost use lib.ListN.{length};
 ghost use Rattle.effbd.specs.Answers.{said};
 ghost use Rattle.effbd.specs.Patterns.{translated};
-ghost use Rattle.diagram_table.specs.Held.{HoldsFile};
+ghost use Rattle.diagram_table.specs.Cells.{someTriggerIn};
+ghost use Rattle.diagram_table.specs.Held.{HoldsPlant};
 ghost use Rattle.net_records.specs.Writing.{flat, Wrote};
-ghost use Rattle.translate.specs.NetRecords.{netRecords};
+ghost use Rattle.translate.specs.NetRecords.{netRecords, longestNet};
+use diagram_table::SOME_TRIGGER;
 use effbd::Answer;
 use effbd::refusals::AREA_SHORT;
 use net_rows::marks;
@@ -18,16 +20,21 @@ fn put_net(table: &[u16], file: &[u8], rows: u16, items: u16, area: &mut [u8], a
 {
     let places = marks::head(table, rows, items, area, at);
     let counts = marks::of_rows(table, rows, area, places);
-    let transitions = marks::of_items(table, items, area, counts);
+    let transitions = marks::of_counts(table, items, area, counts);
     rows::transitions(table, file, rows, area, transitions)
 }
 
-// No net is longer (`never-longer`).
-const LONGEST_NET: usize = 65535;
+// No net of so many rows, items and counts is longer (`never-longer`).
+fn longest(rows: u16, items: u16, counts: u32) -> usize
+    ensures { λ r. ⌜ r ≡ longestNet rows items counts ⌝ }
+{
+    let row = rows::most_bytes(rows, items, counts);
+    8 + 6 * (3 * rows as usize + counts as usize) + rows as usize * row
+}
 
 // The net of an accepted file, in an area that has room for it.
 fn write_whole(table: &[u16], file: &[u8], rows: u16, items: u16, area: &mut [u8]) -> Answer
-    requires { ⌜ HoldsFile (now file) rows items (now table) ⌝ }
+    requires { ⌜ HoldsPlant (now file) rows items (now table) ⌝ }
     requires { ⌜ length (flat (netRecords (now table) (now file) rows items)) ≤ length (now area) ⌝ }
     ensures { λ r. ⌜ said r ≡ translated (now (file .entry)) (now (area .entry)) .answer ⌝ }
     ensures { λ _. ⌜ now (area .exit) ≡ translated (now (file .entry)) (now (area .entry)) .area ⌝ }
@@ -39,7 +46,7 @@ fn write_whole(table: &[u16], file: &[u8], rows: u16, items: u16, area: &mut [u8
 
 // The same in an area of any length: the net is measured first, by writing it into an empty part of the area.
 fn write_measured(table: &[u16], file: &[u8], rows: u16, items: u16, area: &mut [u8]) -> Answer
-    requires { ⌜ HoldsFile (now file) rows items (now table) ⌝ }
+    requires { ⌜ HoldsPlant (now file) rows items (now table) ⌝ }
     ensures { λ r. ⌜ said r ≡ translated (now (file .entry)) (now (area .entry)) .answer ⌝ }
     ensures { λ _. ⌜ now (area .exit) ≡ translated (now (file .entry)) (now (area .entry)) .area ⌝ }
 {
@@ -52,14 +59,31 @@ fn write_measured(table: &[u16], file: &[u8], rows: u16, items: u16, area: &mut 
     write_whole(table, file, rows, items, area)
 }
 
-// The net of an accepted file; an area with room for every net needs no measuring.
+// The net of an accepted file; an area with room for every net of its rows, items and counts needs no measuring.
 fn write(table: &[u16], file: &[u8], rows: u16, items: u16, area: &mut [u8]) -> Answer
-    requires { ⌜ HoldsFile (now file) rows items (now table) ⌝ }
+    requires { ⌜ HoldsPlant (now file) rows items (now table) ⌝ }
     ensures { λ r. ⌜ said r ≡ translated (now (file .entry)) (now (area .entry)) .answer ⌝ }
     ensures { λ _. ⌜ now (area .exit) ≡ translated (now (file .entry)) (now (area .entry)) .area ⌝ }
 {
-    if area.len() < LONGEST_NET {
+    let counts = diagram_table::count_total(table, items);
+    if area.len() < longest(rows, items, counts) {
         return write_measured(table, file, rows, items, area);
+    }
+    write_whole(table, file, rows, items, area)
+}
+
+// No net of a plant without triggers is longer (`plain-shorter`).
+const LONGEST_PLAIN: usize = 40424;
+
+// The same of a plant without triggers, whose bound needs no computing.
+fn write_plain(table: &[u16], file: &[u8], rows: u16, items: u16, area: &mut [u8]) -> Answer
+    requires { ⌜ HoldsPlant (now file) rows items (now table) ⌝ }
+    requires { ⌜ someTriggerIn (now table) ≡ 0 ⌝ }
+    ensures { λ r. ⌜ said r ≡ translated (now (file .entry)) (now (area .entry)) .answer ⌝ }
+    ensures { λ _. ⌜ now (area .exit) ≡ translated (now (file .entry)) (now (area .entry)) .area ⌝ }
+{
+    if area.len() < LONGEST_PLAIN {
+        return write(table, file, rows, items, area);
     }
     write_whole(table, file, rows, items, area)
 }
@@ -74,5 +98,9 @@ pub fn translate(file: &[u8], area: &mut [u8]) -> Answer
     if diagram.number != 0 {
         return Answer::Refused(diagram.number, diagram.value);
     }
-    write(&diagram.table, file, diagram.rows, diagram.items, area)
+    if diagram_table::cell(&diagram.table, SOME_TRIGGER, 0) == 0 {
+        return write_plain(&diagram.table, file, diagram.rows, diagram.items, area);
+    }
+    let table = copies::widened(&diagram.table, diagram.rows, diagram.items, file);
+    write(&table, file, diagram.rows, diagram.items, area)
 }

@@ -9,6 +9,8 @@ pub const HEAD: u16 = 1;
 
 pub const ITEM: u16 = 2;
 
+pub const TRIGGER: u16 = 3;
+
 pub const FUNCTION: u16 = 16;
 
 pub const AND_OPEN: u16 = 17;
@@ -57,8 +59,8 @@ const TABLE: [u8; 76] = [
     3, // fields of HEAD
     6, // length of ITEM
     1, // fields of ITEM
-    0,
-    0,
+    6, // length of TRIGGER
+    1, // fields of TRIGGER
     0,
     0,
     0,

@@ -2,7 +2,7 @@
 //! `corpus SEED COUNT DIRECTORY`.
 
 use model::annex::annex;
-use model::generate::{damaged_diagram, diagram, Random};
+use model::generate::{crowded_diagram, damaged_diagram, diagram, Random};
 use std::path::Path;
 use std::process::ExitCode;
 use std::{env, fs, io};
@@ -29,15 +29,15 @@ fn usage() -> ExitCode {
     ExitCode::FAILURE
 }
 
-/// One half accepted, one half damaged.
+/// One half accepted, one half damaged; of a hundred one with a long net.
 fn write_corpus(seed: u64, count: u32, directory: &Path) -> io::Result<()> {
     fs::create_dir_all(directory)?;
     let mut random = Random::new(seed);
     for number in 0..count {
-        let file = if random.chance(50) {
-            diagram(&mut random)
-        } else {
-            damaged_diagram(&mut random)
+        let file = match random.below(100) {
+            0 => crowded_diagram(&mut random),
+            1..50 => diagram(&mut random),
+            _ => damaged_diagram(&mut random),
         };
         fs::write(directory.join(format!("{number:05}.dia")), &file)?;
         fs::write(directory.join(format!("{number:05}.txt")), annex(&file))?;

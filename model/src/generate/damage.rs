@@ -9,10 +9,10 @@ use std::ops::RangeInclusive;
 pub(super) fn random_record(
     random: &mut Random,
     kinds: RangeInclusive<u16>,
-    item_count: usize,
+    item_kinds: &[u16],
 ) -> Vec<u8> {
     match random.between(*kinds.start(), *kinds.end()) {
-        FUNCTION => random_function(random, item_count),
+        FUNCTION => random_function(random, item_kinds),
         IT_OPEN => record(IT_OPEN, &[random.between(2, 5)]),
         kind => {
             let (_, field_count) = shape(kind).unwrap_or_default();
@@ -27,7 +27,7 @@ pub(super) fn damage_records(
     random: &mut Random,
     records: &mut Vec<Vec<u8>>,
     kinds: RangeInclusive<u16>,
-    item_count: usize,
+    item_kinds: &[u16],
 ) {
     for _ in 0..random.below(3) + 1 {
         if records.is_empty() {
@@ -40,8 +40,8 @@ pub(super) fn damage_records(
                 records.remove(at);
             }
             2 => records.insert(other, records[at].clone()),
-            3 => records[at] = random_record(random, kinds.clone(), item_count),
-            _ => records.insert(at, random_record(random, kinds.clone(), item_count)),
+            3 => records[at] = random_record(random, kinds.clone(), item_kinds),
+            _ => records.insert(at, random_record(random, kinds.clone(), item_kinds)),
         }
     }
 }
@@ -68,7 +68,7 @@ pub(super) fn damage_bytes(random: &mut Random, bytes: &mut Vec<u8>) {
                 let more = random.below(9);
                 bytes.extend(random.bytes(more));
             }
-            _ => bytes.extend(random_record(random, FUNCTION..=END, 0)),
+            _ => bytes.extend(random_record(random, FUNCTION..=END, &[])),
         }
     }
 }

@@ -2,22 +2,29 @@
 
 use super::damage::{damage_bytes, damage_field, damage_records, random_record, split_records};
 use super::Random;
-use crate::diagram::{file, function_record, MOST_ITEMS, MOST_OPEN, MOST_ROWS};
+use crate::diagram::{file_of, function_record, MOST_ITEMS, MOST_OPEN, MOST_ROWS};
+use crate::examples::receiver_rows;
 use crate::records::{
-    record, AND_CLOSE, AND_OPEN, BRANCH, END, FUNCTION, HEAD, IT_CLOSE, IT_OPEN, LOOP_EXIT,
-    LP_CLOSE, LP_OPEN, OR_CLOSE, OR_OPEN,
+    record, AND_CLOSE, AND_OPEN, BRANCH, END, FUNCTION, HEAD, ITEM, IT_CLOSE, IT_OPEN, LOOP_EXIT,
+    LP_CLOSE, LP_OPEN, OR_CLOSE, OR_OPEN, TRIGGER,
 };
 use std::ops::RangeInclusive;
 
 /// The parts of a diagram file.
 struct Draft {
-    items: Vec<u16>,
+    item_kinds: Vec<u16>,
+    /// Initial count of each item.
+    counts: Vec<u16>,
     rows: Vec<Vec<u8>>,
 }
 
 impl Draft {
     fn file(&self) -> Vec<u8> {
-        file(&self.items, &self.rows)
+        let items = self.item_kinds.iter().zip(&self.counts);
+        let items: Vec<Vec<u8>> = items
+            .map(|(kind, count)| record(*kind, &[*count]))
+            .collect();
+        file_of(&items, &self.rows)
     }
 }
 
@@ -28,21 +35,89 @@ pub fn diagram(random: &mut Random) -> Vec<u8> {
 
 /// An accepted diagram of at most this many rows.
 pub fn diagram_up_to(random: &mut Random, most_rows: usize) -> Vec<u8> {
-    draft_up_to(random, most_rows).file()
+    let percent = trigger_percent(random);
+    draft_up_to(random, most_rows, percent).file()
+}
+
+/// The same without triggers.
+pub fn plain_diagram_up_to(random: &mut Random, most_rows: usize) -> Vec<u8> {
+    draft_up_to(random, most_rows, 0).file()
+}
+
+/// An accepted diagram with many triggers that most FUNCTIONs use: most of their
+/// nets are longer than 65,536 bytes, some as long as may be.
+pub fn crowded_diagram(random: &mut Random) -> Vec<u8> {
+    crowded_draft(random).file()
+}
+
+fn crowded_draft(random: &mut Random) -> Draft {
+    let item_count = 10 + random.below(MOST_ITEMS - 9);
+    let row_count = 48 + random.below(MOST_ROWS - 47);
+    match random.below(20) {
+        0 => return everyone_draft(MOST_ITEMS, MOST_ROWS - 1),
+        1..=3 => return everyone_draft(item_count, row_count - 1),
+        _ => {}
+    }
+    let counts: Vec<u16> = (0..item_count).map(|_| item_count_word(random)).collect();
+    let percent = random.pick(&[70, 100], 100);
+    let item_kinds = random_kinds(random, item_count, percent);
+    let mut builder = RowsBuilder {
+        go_on_percent: 90,
+        function_percent: 85 + random.below(16),
+        lasting: None,
+        crowded: true,
+        random,
+        item_kinds: &item_kinds,
+        rows: Vec::new(),
+        left: row_count - 1,
+    };
+    while builder.left > 0 {
+        builder.construct(0, false);
+    }
+    builder.plain(END);
+    let rows = builder.rows;
+    Draft {
+        item_kinds,
+        counts,
+        rows,
+    }
+}
+
+/// Every FUNCTION takes and gives every trigger.
+fn everyone_draft(triggers: usize, receivers: usize) -> Draft {
+    let mut rows = receiver_rows(triggers, receivers);
+    rows.push(record(END, &[]));
+    Draft {
+        item_kinds: vec![TRIGGER; triggers],
+        counts: vec![1; triggers],
+        rows,
+    }
 }
 
 /// An accepted diagram of just this many rows, 4 or more, that goes on for ever:
 /// an LP around all of it that no LE leaves. FUNCTIONs give back what they take;
 /// only an LE may lose it.
 pub fn lasting_diagram(random: &mut Random, row_count: usize) -> Vec<u8> {
+    lasting_with(random, row_count, 0)
+}
+
+/// The same with triggers, whose copies may become more and more.
+pub fn lasting_trigger_diagram(random: &mut Random, row_count: usize) -> Vec<u8> {
+    let percent = random.pick(&[50, 100], 50);
+    lasting_with(random, row_count, percent)
+}
+
+fn lasting_with(random: &mut Random, row_count: usize, trigger_percent: usize) -> Vec<u8> {
     let item_count = random.below(4);
-    let items = (0..item_count).map(|_| random.between(1, 3)).collect();
+    let counts = (0..item_count).map(|_| random.between(1, 3)).collect();
+    let item_kinds = random_kinds(random, item_count, trigger_percent);
     let mut builder = RowsBuilder {
         go_on_percent: 30 + random.below(60),
         function_percent: 20 + random.below(60),
         lasting: Some(random.pick(&[9, 600, 4_000, 12_000, 36_001, u16::MAX], 9)),
+        crowded: false,
         random,
-        item_count,
+        item_kinds: &item_kinds,
         rows: Vec::new(),
         left: row_count.clamp(4, MOST_ROWS) - 4,
     };
@@ -54,7 +129,36 @@ pub fn lasting_diagram(random: &mut Random, row_count: usize) -> Vec<u8> {
     builder.plain(LP_CLOSE);
     builder.plain(END);
     let rows = builder.rows;
-    Draft { items, rows }.file()
+    Draft {
+        item_kinds,
+        counts,
+        rows,
+    }
+    .file()
+}
+
+/// Chance that an item is a trigger: most diagrams have none.
+fn trigger_percent(random: &mut Random) -> usize {
+    if random.chance(30) {
+        random.pick(&[25, 50, 100], 50)
+    } else {
+        0
+    }
+}
+
+/// Kinds of items, so many in a hundred triggers.
+fn random_kinds(random: &mut Random, item_count: usize, trigger_percent: usize) -> Vec<u16> {
+    let mut kinds = vec![ITEM; item_count];
+    if trigger_percent > 0 {
+        for kind in &mut kinds {
+            *kind = if random.chance(trigger_percent) {
+                TRIGGER
+            } else {
+                ITEM
+            };
+        }
+    }
+    kinds
 }
 
 fn draft(random: &mut Random) -> Draft {
@@ -63,25 +167,25 @@ fn draft(random: &mut Random) -> Draft {
         5..=7 => random.below(MOST_ROWS) + 1,
         _ => MOST_ROWS,
     };
-    draft_up_to(random, most_rows)
+    let percent = trigger_percent(random);
+    draft_up_to(random, most_rows, percent)
 }
 
-fn draft_up_to(random: &mut Random, most_rows: usize) -> Draft {
+fn draft_up_to(random: &mut Random, most_rows: usize, trigger_percent: usize) -> Draft {
     let item_count = match random.below(4) {
         0 => 0,
         1 => random.below(MOST_ITEMS + 1),
         _ => random.below(4),
     };
-    let mut items = Vec::new();
-    for _ in 0..item_count {
-        items.push(item_count_word(random));
-    }
+    let counts = (0..item_count).map(|_| item_count_word(random)).collect();
+    let item_kinds = random_kinds(random, item_count, trigger_percent);
     let mut builder = RowsBuilder {
         go_on_percent: 50 + random.below(48),
         function_percent: 20 + random.below(60),
         lasting: None,
+        crowded: false,
         random,
-        item_count,
+        item_kinds: &item_kinds,
         rows: Vec::new(),
         left: most_rows.clamp(1, MOST_ROWS) - 1,
     };
@@ -91,7 +195,11 @@ fn draft_up_to(random: &mut Random, most_rows: usize) -> Draft {
     builder.run(0, false);
     let mut rows = builder.rows;
     rows.push(record(END, &[]));
-    Draft { items, rows }
+    Draft {
+        item_kinds,
+        counts,
+        rows,
+    }
 }
 
 /// Initial count of an item: mostly few, sometimes near the limit.
@@ -110,7 +218,9 @@ struct RowsBuilder<'r> {
     go_on_percent: usize,
     /// Chance that a construct is a FUNCTION.
     function_percent: usize,
-    item_count: usize,
+    item_kinds: &'r [u16],
+    /// FUNCTIONs use nearly every item.
+    crowded: bool,
     /// Every LP may spend time, and FUNCTIONs give back what they take and last
     /// for so many ticks at most.
     lasting: Option<u16>,
@@ -159,8 +269,9 @@ impl RowsBuilder<'_> {
     /// A FUNCTION; a lasting one of so many ticks or more.
     fn function(&mut self, least: u16) {
         let function = match self.lasting {
-            Some(most) => lasting_function(self.random, self.item_count, least..=most),
-            None => random_function(self.random, self.item_count),
+            Some(most) => lasting_function(self.random, self.item_kinds, least..=most),
+            None if self.crowded => function_of_uses(self.random, self.item_kinds, 95),
+            None => random_function(self.random, self.item_kinds),
         };
         self.rows.push(function);
     }
@@ -241,7 +352,13 @@ impl RowsBuilder<'_> {
 }
 
 /// A FUNCTION record whose fields hold.
-pub(super) fn random_function(random: &mut Random, item_count: usize) -> Vec<u8> {
+pub(super) fn random_function(random: &mut Random, item_kinds: &[u16]) -> Vec<u8> {
+    let use_percent = random.pick(&[10, 25, 50, 95], 50);
+    function_of_uses(random, item_kinds, use_percent)
+}
+
+/// The same with each item used so many times in a hundred.
+fn function_of_uses(random: &mut Random, item_kinds: &[u16], use_percent: usize) -> Vec<u8> {
     let (alpha, beta) = match random.below(8) {
         0 => (0, 0),
         1 => (random.between(0, 9), u16::MAX),
@@ -255,19 +372,23 @@ pub(super) fn random_function(random: &mut Random, item_count: usize) -> Vec<u8>
             (random.between(0, beta), beta)
         }
     };
-    let use_percent = random.pick(&[10, 25, 50, 95], 50);
     let mut uses = Vec::new();
-    for item in 0..item_count {
+    for (item, kind) in (0..).zip(item_kinds) {
         if random.chance(use_percent) {
-            uses.push(random_use(random, item as u16));
+            uses.push(random_use(random, item, *kind));
         }
     }
     function_record(alpha, beta, &uses)
 }
 
 /// A FUNCTION that gives back what it takes, its ticks in this range: just a part
-/// of an hour, as few as may be, few, or any.
-fn lasting_function(random: &mut Random, item_count: usize, ticks: RangeInclusive<u16>) -> Vec<u8> {
+/// of an hour, as few as may be, few, or any. Some give a trigger that they do
+/// not take.
+fn lasting_function(
+    random: &mut Random,
+    item_kinds: &[u16],
+    ticks: RangeInclusive<u16>,
+) -> Vec<u8> {
     let (least, most) = (*ticks.start(), *ticks.end());
     let (alpha, beta) = match random.below(6) {
         0 | 1 => {
@@ -286,9 +407,10 @@ fn lasting_function(random: &mut Random, item_count: usize, ticks: RangeInclusiv
         }
     };
     let mut uses = Vec::new();
-    for item in 0..item_count {
+    for (item, kind) in (0..).zip(item_kinds) {
         if random.chance(25) {
-            uses.push([item as u16, 1, 1]);
+            let only_gives = *kind == TRIGGER && random.chance(40);
+            uses.push([item, u16::from(!only_gives), 1]);
         }
     }
     function_record(alpha, beta, &uses)
@@ -302,7 +424,11 @@ pub(super) fn part_of_hour(random: &mut Random) -> u16 {
     random.pick(&parts, 1)
 }
 
-fn random_use(random: &mut Random, item: u16) -> [u16; 3] {
+fn random_use(random: &mut Random, item: u16, kind: u16) -> [u16; 3] {
+    if kind == TRIGGER {
+        let (take, give) = random.pick(&[(1, 0), (0, 1), (1, 1)], (1, 1));
+        return [item, take, give];
+    }
     let (take, give) = if random.chance(5) {
         (random.word(), random.word())
     } else {
@@ -313,15 +439,20 @@ fn random_use(random: &mut Random, item: u16) -> [u16; 3] {
 
 /// A diagram file that something was done to; a few are still accepted.
 pub fn damaged_diagram(random: &mut Random) -> Vec<u8> {
-    let mut damaged = draft(random);
-    match random.below(8) {
+    let mut damaged = match random.below(100) {
+        0 => crowded_draft(random),
+        _ => draft(random),
+    };
+    match random.below(10) {
         0 => random_rows(random, &mut damaged),
         1 => too_deep(random, &mut damaged),
         2 => loop_exit_somewhere(random, &mut damaged),
         3 | 4 => {
-            let item_count = damaged.items.len();
-            damage_records(random, &mut damaged.rows, FUNCTION..=END, item_count);
+            let item_kinds = &damaged.item_kinds;
+            damage_records(random, &mut damaged.rows, FUNCTION..=END, item_kinds);
         }
+        5 => trigger_off_somewhere(random, &mut damaged),
+        6 => other_item_kind(random, &mut damaged),
         _ => {}
     }
     let mut bytes = damaged.file();
@@ -330,7 +461,7 @@ pub fn damaged_diagram(random: &mut Random) -> Vec<u8> {
         3 => damage_field(random, &mut bytes),
         4 => {
             let mut records = split_records(&bytes);
-            damage_records(random, &mut records, HEAD..=END, 0);
+            damage_records(random, &mut records, HEAD..=END, &[]);
             bytes = records.concat();
         }
         _ => {}
@@ -341,8 +472,7 @@ pub fn damaged_diagram(random: &mut Random) -> Vec<u8> {
 /// Rows of any kinds, END last.
 fn random_rows(random: &mut Random, draft: &mut Draft) {
     let count = random.below(12);
-    let item_count = draft.items.len();
-    let any_row = |_| random_record(random, FUNCTION..=END, item_count);
+    let any_row = |_| random_record(random, FUNCTION..=END, &draft.item_kinds);
     draft.rows = (0..count).map(any_row).collect();
     draft.rows.push(record(END, &[]));
 }
@@ -377,6 +507,50 @@ fn too_deep(random: &mut Random, draft: &mut Draft) {
     }
     draft.rows.extend(closes.into_iter().rev());
     draft.rows.push(record(END, &[]));
+}
+
+/// A plain item becomes a trigger, so that a take or give of 2 is too much, or a
+/// trigger becomes plain.
+fn other_item_kind(random: &mut Random, draft: &mut Draft) {
+    let at = random.below(draft.item_kinds.len());
+    if let Some(kind) = draft.item_kinds.get_mut(at) {
+        *kind = if *kind == ITEM { TRIGGER } else { ITEM };
+    }
+}
+
+/// A FUNCTION that uses every item, one trigger's take or give above 1; in half
+/// of them another field is off too, before it or behind it.
+fn trigger_off_somewhere(random: &mut Random, draft: &mut Draft) {
+    if draft.item_kinds.is_empty() {
+        draft.item_kinds = vec![ITEM; random.below(3) + 1];
+        draft.counts = vec![1; draft.item_kinds.len()];
+    }
+    let trigger = random.below(draft.item_kinds.len());
+    draft.item_kinds[trigger] = TRIGGER;
+    let mut uses = Vec::new();
+    for (item, kind) in (0..).zip(&draft.item_kinds) {
+        uses.push(random_use(random, item, *kind));
+    }
+    let above_one = random.pick(&[2, 2, 2, 3, 256, u16::MAX], 2);
+    uses[trigger][1 + random.below(2)] = above_one;
+    let mut alpha = 1;
+    if random.chance(50) {
+        let at = random.below(uses.len());
+        match random.below(5) {
+            0 => alpha = 3,
+            1 => uses[at][0] = uses.len() as u16,
+            2 => uses[at][0] = random.word(),
+            3 => uses.swap(at, trigger),
+            _ => uses[at][1..].fill(0),
+        }
+    }
+    let function = function_record(alpha, 2, &uses);
+    let at = random.below(draft.rows.len());
+    if draft.rows.len() < MOST_ROWS {
+        draft.rows.insert(at, function);
+    } else {
+        draft.rows[at] = function;
+    }
 }
 
 /// An LE at any place.

@@ -1,19 +1,27 @@
 //! Net files that no diagram has, accepted and damaged.
 
 use super::damage::{damage_bytes, damage_field, damage_records, split_records};
-use super::diagrams::item_count_word;
+use super::diagrams::{crowded_diagram, item_count_word};
 use super::Random;
-use crate::net::{Arc, Net};
+use crate::net::{Arc, Net, MOST_PLACES, MOST_TRANSITIONS};
 use crate::records::{GIVE, NET_HEAD};
+use crate::translate::net_of;
 
 /// An accepted net file, foreign.
 pub fn foreign_net(random: &mut Random) -> Vec<u8> {
-    let place_count = match random.below(10) {
-        0 => 208,
+    let most_places = MOST_PLACES as u16;
+    let place_count = match random.below(20) {
+        0 => random.pick(&[208, 209], 208),
+        1 => random.pick(&[most_places - 1, most_places], most_places),
         _ => random.between(1, 12),
     };
+    net_of_places(random, place_count)
+}
+
+/// The same of so many places, be they too many.
+fn net_of_places(random: &mut Random, place_count: u16) -> Vec<u8> {
     let transition_count = match random.below(10) {
-        0 => 128,
+        0 => MOST_TRANSITIONS,
         _ => random.below(12),
     };
     let marks = (0..place_count).map(|_| item_count_word(random));
@@ -42,9 +50,12 @@ pub fn foreign_net(random: &mut Random) -> Vec<u8> {
 }
 
 fn add_foreign_arcs(random: &mut Random, net: &mut Net, place_count: u16) {
-    let percent = random
-        .pick(&[5, 15, 30, 60], 15)
-        .min(600 / usize::from(place_count));
+    // Of many places few have an arc, mostly.
+    let most_percent = match random.below(20) {
+        0 => 60,
+        _ => (600 / usize::from(place_count)).max(1),
+    };
+    let percent = random.pick(&[5, 15, 30, 60], 15).min(most_percent);
     for place in 0..place_count {
         if random.chance(percent) {
             let weight = foreign_weight(random);
@@ -75,13 +86,18 @@ fn foreign_weight(random: &mut Random) -> u16 {
 
 /// A net file that something was done to; a few are still accepted.
 pub fn damaged_net(random: &mut Random) -> Vec<u8> {
-    let mut bytes = foreign_net(random);
+    let mut bytes = match random.below(100) {
+        // A long one of a diagram.
+        0 => net_of(&crowded_diagram(random)).unwrap_or_default(),
+        1..=4 => return net_of_places(random, MOST_PLACES as u16 + 1),
+        _ => foreign_net(random),
+    };
     match random.below(3) {
         0 => damage_bytes(random, &mut bytes),
         1 => damage_field(random, &mut bytes),
         _ => {
             let mut records = split_records(&bytes);
-            damage_records(random, &mut records, NET_HEAD..=GIVE, 0);
+            damage_records(random, &mut records, NET_HEAD..=GIVE, &[]);
             bytes = records.concat();
         }
     }

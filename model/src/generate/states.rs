@@ -2,7 +2,7 @@
 
 use super::diagrams::item_count_word;
 use super::Random;
-use crate::diagram::{parse, Diagram, Row};
+use crate::diagram::{parse, Diagram, Item, Row};
 use crate::diagram_step::{self, activity, clock, turns, RUNNING, STEP, WAIT};
 
 /// States reached from the fresh one by accepted moves, the fresh one first;
@@ -62,12 +62,16 @@ pub fn passing_state(random: &mut Random, file: &[u8]) -> Vec<u16> {
             _ => {}
         }
     }
-    for item in 0..diagram.items.len() {
-        state[diagram.item_word(item)] = if nearly_full {
-            random.between(65_530, 65_535)
-        } else {
-            item_count_word(random)
-        };
+    // Of many copies, seldom none would be full.
+    let full_percent = random.pick(&[0, 3, 50], 0);
+    for (number, item) in diagram.items.iter().enumerate() {
+        for word in diagram.given_words(number) {
+            state[word] = match item {
+                _ if !nearly_full => item_count_word(random),
+                Item::Plain(_) => random.between(65_530, 65_535),
+                Item::Trigger { .. } => 65_534 + u16::from(random.chance(full_percent)),
+            };
+        }
     }
     state
 }
@@ -85,6 +89,10 @@ fn busy_activity(random: &mut Random, row: &Row) -> u16 {
 /// A state with a word off, of another length, or of any words.
 pub fn odd_state(random: &mut Random, file: &[u8]) -> Vec<u16> {
     let mut state = passing_state(random, file);
+    if let (Some(word), true) = (shared_count(random, file), random.chance(30)) {
+        state[word] = random.word().max(1);
+        return state;
+    }
     match random.below(5) {
         0 => {
             state.pop();
@@ -99,6 +107,15 @@ pub fn odd_state(random: &mut Random, file: &[u8]) -> Vec<u16> {
         }
     }
     state
+}
+
+/// The word of a trigger's shared count, which remains 0.
+fn shared_count(random: &mut Random, file: &[u8]) -> Option<usize> {
+    let diagram = parse(file).ok()?;
+    let items = diagram.items.iter().enumerate();
+    let triggers = items.filter(|(_, item)| matches!(item, Item::Trigger { .. }));
+    let words: Vec<usize> = triggers.map(|(item, _)| diagram.item_word(item)).collect();
+    words.get(random.below(words.len())).copied()
 }
 
 /// Any words of this number: net states reached or not.

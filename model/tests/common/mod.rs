@@ -2,7 +2,7 @@
 #![allow(dead_code)]
 
 use model::diagram_step::{STEP, WAIT};
-use model::{diagram, diagram_step, history, net, net_step, Answer, Refusal};
+use model::{diagram, diagram_step, net, net_step, translate, Answer, Refusal};
 
 /// The fresh state of an accepted diagram.
 pub fn fresh(file: &[u8]) -> Vec<u16> {
@@ -14,7 +14,7 @@ pub fn fresh(file: &[u8]) -> Vec<u16> {
 
 /// The net of an accepted diagram.
 pub fn net_of(file: &[u8]) -> Vec<u8> {
-    history::net_of(file).expect("accepted diagram")
+    translate::net_of(file).expect("accepted diagram")
 }
 
 /// The fresh state of an accepted net.

@@ -5,7 +5,7 @@ use super::page::Page;
 use super::sheet::{Frame, Group, Line, Node, Outline, Point, Sheet, Style};
 use super::text::{name_lines, Words};
 use super::tree;
-use crate::plant::{Function, Part, Plant, Use};
+use crate::plant::{Function, Item, Part, Plant, Use};
 use crate::structure;
 use crate::times;
 
@@ -30,10 +30,15 @@ pub fn sheet(plant: &Plant) -> Sheet {
     let trees = tree::run(plant, &cells, &structure::of(plant));
     let mut drawing = tree::sheet(Some(start()), &trees);
     drawing.lines = merged(drawing.lines);
-    let items = plant.items.iter();
-    let legend = items.map(|item| {
-        let words = Words::plain(format!("{}: {}", item.name, item.count), 11);
-        Group::loose(vec![Frame::around(Outline::Pill, vec![words], 10, 3)])
+    let legend = (0..plant.items.len()).map(|item| {
+        let words = Words::plain(legend_words(plant, item), 11);
+        let outline = outline(&plant.items[item]);
+        Group::loose(vec![Frame::around(
+            outline,
+            vec![words],
+            beside(outline) + 2,
+            3,
+        )])
     });
     let some = !plant.items.is_empty();
     Page {
@@ -46,6 +51,38 @@ pub fn sheet(plant: &Plant) -> Sheet {
     .sheet()
 }
 
+/// An item's count at the beginning; of a trigger that of each block which takes it.
+fn legend_words(plant: &Plant, item: usize) -> String {
+    let Item {
+        name,
+        count,
+        trigger,
+    } = &plant.items[item];
+    match plant.takers(item).count() {
+        _ if !trigger => format!("{name}: {count}"),
+        0 => format!("{name}: no block takes it"),
+        1 => format!("{name}: {count} for the block that takes it"),
+        takers => format!("{name}: {count} for each of {takers} blocks"),
+    }
+}
+
+/// Items are round, triggers pointed.
+fn outline(item: &Item) -> Outline {
+    if item.trigger {
+        Outline::Flag
+    } else {
+        Outline::Pill
+    }
+}
+
+/// Room that an item's outline leaves its text at each side.
+fn beside(outline: Outline) -> i32 {
+    match outline {
+        Outline::Flag => 12,
+        _ => 8,
+    }
+}
+
 /// What the signs that the diagram has mean.
 fn notes(plant: &Plant) -> Vec<String> {
     let has = |sign: fn(&Part) -> bool| plant.rows.iter().any(|row| sign(&row.part));
@@ -54,6 +91,10 @@ fn notes(plant: &Plant) -> Vec<String> {
         (
             has(uses),
             "−n: the block takes n of the item as it starts. +n: it gives n as it ends.",
+        ),
+        (
+            plant.triggers().next().is_some(),
+            "A pointed item is a trigger: each block that takes it has a count of its own, and a give adds to all of them.",
         ),
         (
             has(|part| *part == Part::And),
@@ -240,12 +281,14 @@ impl Blocks<'_> {
 
     /// An item as a block uses it.
     fn item(&self, used: &Use) -> Frame {
-        let name = &self.plant.items[usize::from(used.item)].name;
+        let item = &self.plant.items[usize::from(used.item)];
         let take = (used.take > 0).then(|| format!("−{}", used.take));
         let give = (used.give > 0).then(|| format!("+{}", used.give));
-        let parts = [take, Some(name.clone()), give];
+        let parts = [take, Some(item.name.clone()), give];
         let text: Vec<String> = parts.into_iter().flatten().collect();
-        let frame = Frame::around(Outline::Pill, vec![Words::plain(text.join("  "), 11)], 8, 0);
+        let words = vec![Words::plain(text.join("  "), 11)];
+        let outline = outline(item);
+        let frame = Frame::around(outline, words, beside(outline), 0);
         Frame {
             height: ITEM,
             ..frame

@@ -19,10 +19,11 @@ pub enum Node {
     },
     Place(usize),
     Transition(usize),
-    /// A place drawn once more, at this transition.
+    /// Places drawn once more, as one sign at this transition: one place, or all copies of a trigger.
     Copy {
         transition: usize,
-        place: usize,
+        first: usize,
+        last: usize,
     },
 }
 
@@ -39,6 +40,8 @@ pub enum Outline {
     Tag,
     /// Rounded all the way, as items are.
     Pill,
+    /// Pointed at the right, as triggers are.
+    Flag,
     /// As a pill, dashed.
     Copy,
     /// A place with this mark.

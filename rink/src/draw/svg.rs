@@ -2,12 +2,15 @@
 
 use super::sheet::{Frame, Group, Line, Node, Outline, Point, Sheet, Style};
 use super::text::{self, escaped, Words};
+use crate::net::place_range;
 use std::fmt::Write;
 
 const FONTS: &str = "DejaVu Sans, Helvetica, Arial, sans-serif";
 const INK: &str = "#111";
 /// Of lines that leave a loop.
 const EXIT_INK: &str = "#b00020";
+/// Length of a flag's point.
+const FLAG_POINT: i32 = 9;
 /// How far a corner is rounded.
 const ROUND: i32 = 5;
 /// Length of an arrow head, and half its width.
@@ -38,16 +41,15 @@ impl Sheet {
 
 /// What a line of a net says about its arc.
 fn arc_attributes(line: &Line) -> String {
-    let (transition, place) = match (line.from, line.to) {
-        (Node::Transition(transition), Node::Place(place) | Node::Copy { place, .. })
-        | (Node::Place(place) | Node::Copy { place, .. }, Node::Transition(transition)) => {
-            (transition, place)
-        }
+    let (kind, transition, place) = match (line.from, line.to) {
+        (Node::Transition(transition), place) => ("give", transition, place),
+        (place, Node::Transition(transition)) => ("take", transition, place),
         _ => return String::new(),
     };
-    let kind = match line.from {
-        Node::Transition(_) => "give",
-        _ => "take",
+    let place = match place {
+        Node::Copy { first, last, .. } => place_range(first, last),
+        Node::Place(place) => place.to_string(),
+        _ => return String::new(),
     };
     let weight = line.weight;
     format!(
@@ -162,6 +164,7 @@ fn frame_svg(frame: &Frame) -> String {
         Outline::Circle => circle(&line),
         Outline::Tag => rounded(3, "stroke-width=\"1\" fill=\"#f2f2f2\""),
         Outline::Pill => rounded(height / 2, "stroke-width=\"1\" fill=\"#f2f2f2\""),
+        Outline::Flag => flag_svg(frame),
         Outline::Copy => rounded(
             height / 2,
             "stroke-width=\"1\" stroke-dasharray=\"3 2\" fill=\"#fff\"",
@@ -171,6 +174,15 @@ fn frame_svg(frame: &Frame) -> String {
         Outline::Dot => circle(&format!("fill=\"{INK}\"")),
         Outline::Place { mark } => circle(&line) + &mark_svg(frame, mark),
     }
+}
+
+/// A box whose right side is a point, at its level.
+fn flag_svg(frame: &Frame) -> String {
+    let (left, top, bottom, level) = (frame.x, frame.y, frame.bottom(), frame.level());
+    let (right, point) = (frame.right() - FLAG_POINT, frame.right());
+    format!(
+        "<path d=\"M{left} {top}L{right} {top}L{point} {level}L{right} {bottom}L{left} {bottom}z\" stroke=\"{INK}\" stroke-width=\"1\" fill=\"#f2f2f2\"/>"
+    )
 }
 
 /// A few tokens as dots, more as a number.

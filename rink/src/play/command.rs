@@ -2,7 +2,7 @@
 
 use super::states::Activity;
 use super::words::{list_words, row_words};
-use crate::plant::Plant;
+use crate::plant::{Count, Plant};
 use crate::times::{self, digits, NoTime};
 use effbd::Move;
 
@@ -52,7 +52,7 @@ pub enum Expectation {
     Agree,
     Behind(u32),
     Row(usize, Activity),
-    Count(usize, u16),
+    Count(Count, u16),
 }
 
 /// What is wrong with a line, and where, by characters from 1 on.
@@ -85,7 +85,8 @@ looking
 lessons
   say TEXT         prints the text; a line that begins with # prints nothing
   expect WHAT      accepted, taken, taken 3, refused, refused 33, agree, behind 2,
-                   idle NAME, ready NAME, running NAME, done NAME, count ITEM 4
+                   idle NAME, ready NAME, running NAME, done NAME, count ITEM 4,
+                   count TRIGGER@NAME 1: what the trigger has for the row of that name
 the game
   restart          both ends fresh, nothing on the bus
   quit             ends the game";
@@ -263,17 +264,22 @@ fn positions(names: &[&str], name: &str) -> Vec<usize> {
 
 /// The row with this name, or, where rows have none, this keyword.
 fn row_named(plant: &Plant, word: Word) -> Result<usize, Fault> {
-    let names = plant.rows.iter();
+    row_among(plant, (0..plant.rows.len()).collect(), "row", word)
+}
+
+/// The same among these rows; `what` says which they are.
+fn row_among(plant: &Plant, rows: Vec<usize>, what: &str, word: Word) -> Result<usize, Fault> {
+    let names = rows.iter().map(|row| &plant.rows[*row]);
     let names = names.map(|row| row.name.as_deref().unwrap_or(row.part.keyword()));
-    let rows = positions(&names.collect::<Vec<&str>>(), unquoted(word.text));
-    match rows.as_slice() {
-        [row] => Ok(*row),
+    let found = positions(&names.collect::<Vec<&str>>(), unquoted(word.text));
+    match found.as_slice() {
+        [at] => Ok(rows[*at]),
         [] => {
-            let words = format!("no row is called `{}`", word.text);
+            let words = format!("no {what} is called `{}`", word.text);
             Err(fault(word.column, &words))
         }
         several => {
-            let rows = several.iter().map(|row| row.to_string()).collect();
+            let rows = several.iter().map(|at| rows[*at].to_string()).collect();
             let rows = list_words(rows);
             let words = format!("rows {rows} are called `{}`: say the number", word.text);
             Err(fault(word.column, &words))
@@ -384,19 +390,60 @@ fn expectation(plant: &Plant, reader: &mut Reader) -> Result<Expectation, Fault>
     })
 }
 
-/// An item's name and its count; the name may have spaces.
+/// A count's name and its value; the name may have spaces.
 fn counted(plant: &Plant, reader: &mut Reader) -> Result<Expectation, Fault> {
     let both = reader.rest("count of which item? its name, then the count")?;
     let Some((name, _)) = both.text.rsplit_once(char::is_whitespace) else {
         return Err(fault(reader.end_column(), "which count?"));
     };
     let last = reader.words[reader.words.len() - 1];
-    let name = unquoted(name.trim_end());
-    let names = plant.items.iter().map(|item| item.name.as_str());
-    let items = positions(&names.collect::<Vec<&str>>(), name);
-    let [item] = items[..] else {
-        let words = format!("no item, or more than one, is called `{name}`");
-        return Err(fault(both.column, &words));
+    let name = Word {
+        text: unquoted(name.trim_end()),
+        ..both
     };
-    Ok(Expectation::Count(item, number(last, "count")?))
+    let count = count_named(plant, name)?;
+    Ok(Expectation::Count(count, number(last, "count")?))
+}
+
+/// An item's count by its name; a trigger's copy by `TRIGGER@ROW`.
+fn count_named(plant: &Plant, name: Word) -> Result<Count, Fault> {
+    let refused = |words: &str| Err(fault(name.column, words));
+    let (item_name, row) = match name.text.split_once('@') {
+        Some((item, row)) => (item, Some(row)),
+        None => (name.text, None),
+    };
+    let names = plant.items.iter().map(|item| item.name.as_str());
+    let items = positions(&names.collect::<Vec<&str>>(), item_name);
+    let [item] = items[..] else {
+        let words = format!("no item, or more than one, is called `{item_name}`");
+        return refused(&words);
+    };
+    let copy = plant.copies(item).next();
+    match (plant.items[item].trigger, row, copy) {
+        (false, None, _) => Ok(Count::Item(item)),
+        (false, Some(_), _) => refused(&format!("`{item_name}` is no trigger: it has one count")),
+        (true, Some(row), _) => copy_named(plant, item, Word { text: row, ..name }),
+        (true, None, None) => refused(&format!(
+            "no row takes trigger `{item_name}`: it has no count"
+        )),
+        (true, None, Some(copy)) => refused(&format!(
+            "trigger `{item_name}` has a count for each row that takes it: say which, such as {}",
+            plant.count_name(copy)
+        )),
+    }
+}
+
+/// The copy of a trigger for a row that takes it, by the row's name or number.
+fn copy_named(plant: &Plant, item: usize, row: Word) -> Result<Count, Fault> {
+    let takers: Vec<usize> = plant.takers(item).collect();
+    let number = Some(row.text).filter(|text| digits(text));
+    let number = number.and_then(|text| text.parse().ok());
+    let row = match number.filter(|number| takers.contains(number)) {
+        Some(number) => number,
+        None => {
+            let what = format!("row that takes {}", plant.items[item].name);
+            row_among(plant, takers, &what, row)?
+        }
+    };
+    Ok(Count::Copy { item, row })
 }

@@ -37,10 +37,10 @@ impl Game {
                 let words = format!("{row} is {}, not {}", activity.word(), wanted.word());
                 (activity == wanted, words)
             }
-            Expectation::Count(item, wanted) => {
-                let count = self.diagram_state().count(item);
-                let name = &self.plant.items[item].name;
-                (count == wanted, format!("{name} has {count}, not {wanted}"))
+            Expectation::Count(count, wanted) => {
+                let value = self.diagram_state().count(count);
+                let name = self.plant.count_name(count);
+                (value == wanted, format!("{name} has {value}, not {wanted}"))
             }
         };
         met.then_some(()).ok_or(words)

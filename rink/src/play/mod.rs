@@ -108,9 +108,8 @@ impl Game {
         let net_file = translated(&file)?;
         let (panel, controller) = fresh(&file, &net_file)?;
         let net = Net::taken_apart(&net_file);
-        let transitions = 0..net.transitions.len();
         Ok(Game {
-            alone: transitions.map(|number| alone(&net_file, number)).collect(),
+            alone: alone(&net_file),
             net,
             plant,
             file,
@@ -176,19 +175,14 @@ impl Game {
     }
 
     /// What other words of a state of this diagram say.
-    fn reading<'a>(&self, words: &'a [u16]) -> DiagramState<'a> {
-        let rows = self.plant.rows.len();
-        DiagramState { words, rows }
+    fn reading<'a>(&'a self, words: &'a [u16]) -> DiagramState<'a> {
+        let plant = &self.plant;
+        DiagramState { words, plant }
     }
 
     /// Whether the controller's marks and clocks are what the panel's state says.
     pub fn agree(&self) -> bool {
-        states::agree(
-            &self.plant,
-            &self.net,
-            self.diagram_state(),
-            self.net_state(),
-        )
+        states::agree(&self.net, self.diagram_state(), self.net_state())
     }
 
     /// The panel's time, in ticks.

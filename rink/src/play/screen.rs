@@ -3,11 +3,12 @@
 use super::lines::{capitalised, shortened, table, Entry, COLUMNS};
 use super::states::Activity;
 use super::words::{
-    activity_words, clock_words, is_branch, move_words, number_of, seconds, title_words,
+    activity_words, clock_words, few_copies, is_branch, move_words, number_of, seconds,
+    title_words, MOST_COPIES,
 };
 use super::{step, Game, UnderWay};
-use crate::net::{place_words, transition_words};
-use crate::plant::{Part, Plant};
+use crate::net::{home, place_words, transition_words, Home};
+use crate::plant::{Count, Part, Plant};
 use effbd::refusal;
 
 const LEFT: usize = 52;
@@ -21,7 +22,7 @@ const MOST_MOVES: usize = 12;
 /// Columns by which a deep row is indented, at most.
 const MOST_INDENT: usize = 10;
 
-/// The whole screen; `everything` with idle rows and empty places.
+/// The whole screen; `everything` with idle rows, all copies and empty places.
 pub fn screen(game: &Game, everything: bool) -> Vec<String> {
     let mut lines = ends_lines(game, everything);
     lines.extend(bus_lines(game));
@@ -81,21 +82,34 @@ fn panel_lines(game: &Game, everything: bool) -> Vec<String> {
         let idle = number_of(idle as u64, "idle row");
         lines.push(format!("     and {idle}, all shows every row"));
     }
-    lines.extend(item_lines(game));
+    lines.extend(count_lines(game, everything));
     lines
 }
 
-/// The items with their counts.
-fn item_lines(game: &Game) -> Vec<String> {
-    let (items, state) = (&game.plant.items, game.diagram_state());
-    let entries = items.iter().enumerate().map(|(item, found)| Entry {
+/// The counts of the items and of the triggers' copies; of many copies the first that have something.
+fn count_lines(game: &Game, everything: bool) -> Vec<String> {
+    let counts: Vec<(Count, u16)> = game.diagram_state().counts().collect();
+    let copies = counts.iter().filter(|(count, _)| count.is_copy()).count();
+    let whole = everything || copies <= MOST_COPIES;
+    let shown = counts.iter().copied();
+    let shown = shown.filter(|(count, value)| whole || !count.is_copy() || *value > 0);
+    let (shown, _) = few_copies(shown.collect(), |(count, _)| !whole && count.is_copy());
+    let left_out = counts.len() - shown.len();
+    let entries = shown.into_iter().map(|(count, value)| Entry {
         number: String::new(),
-        name: found.name.clone(),
-        words: state.count(item).to_string(),
+        name: game.plant.count_name(count),
+        words: value.to_string(),
     });
-    let head = (!items.is_empty()).then(|| "items".to_string());
+    let head = (!counts.is_empty()).then(|| "items".to_string());
     let lines = table(entries.collect(), LEFT);
-    head.into_iter().chain(lines).collect()
+    let lines = head.into_iter().chain(lines);
+    lines.chain(copies_left_out(left_out)).collect()
+}
+
+/// Says that copies of triggers are left out, if any are.
+fn copies_left_out(copies: usize) -> Option<String> {
+    let counts = number_of(copies as u64, "count");
+    (copies > 0).then(|| format!("     and {counts} of triggers, all shows them"))
 }
 
 /// What a row does; of a ready function also the item that it waits for.
@@ -163,8 +177,8 @@ fn around(plant: &Plant) -> Vec<Vec<usize>> {
 /// The marked places and the enabled transitions of the net.
 fn controller_lines(game: &Game, everything: bool) -> Vec<String> {
     let (plant, net, state) = (&game.plant, &game.net, game.net_state());
-    let places = shown_places(game, everything).into_iter();
-    let places = places.map(|place| Entry {
+    let (places, left_out) = shown_places(game, everything);
+    let places = places.into_iter().map(|place| Entry {
         number: place.to_string(),
         name: place_words(plant, place),
         words: match state.mark(place) {
@@ -185,6 +199,7 @@ fn controller_lines(game: &Game, everything: bool) -> Vec<String> {
     };
     let mut lines = vec![head.to_string()];
     lines.extend(table(places.collect(), RIGHT));
+    lines.extend(copies_left_out(left_out));
     let transitions = table(transitions.collect(), RIGHT);
     let none = if transitions.is_empty() { "no " } else { "" };
     lines.push(format!("{none}enabled transitions"));
@@ -201,14 +216,18 @@ pub fn transition_clock(game: &Game, number: usize) -> String {
     }
 }
 
-/// The places to show: the marked ones, without the turns left of a repeat at rest.
-pub fn shown_places(game: &Game, everything: bool) -> Vec<usize> {
+/// The places to show: the marked ones, without the turns left of a repeat at rest; and how many copies are left out.
+pub fn shown_places(game: &Game, everything: bool) -> (Vec<usize>, usize) {
     let (plant, state) = (&game.plant, game.net_state());
     let places = (0..game.net.marks.len()).filter(|&place| {
         let marked = state.mark(place) > 0 && !state.at_rest(plant, place);
         marked || (everything && game.net.used(place))
     });
-    places.collect()
+    let is_copy = |place: &usize| match home(plant, *place) {
+        Home::Count(count) => count.is_copy(),
+        Home::Row { .. } => false,
+    };
+    few_copies(places.collect(), |place| !everything && is_copy(place))
 }
 
 /// The telegrams under way, the next one first.

@@ -1,9 +1,10 @@
 //! Both ends in a line each, as lessons print them.
 
 use super::screen::{shown_places, transition_clock};
-use super::words::{activity_words, number_of, row_words, seconds};
+use super::words::{activity_words, few_copies, number_of, row_words, seconds};
 use super::Game;
 use crate::net::{home, place_words, Home};
+use crate::plant::Count;
 
 /// Telegrams that a lesson's line shows, at most.
 const FEW_TELEGRAMS: usize = 5;
@@ -45,27 +46,31 @@ fn panel_short(game: &Game) -> String {
         let words = activity_words(plant, state, row);
         format!("{} {words}", row_words(plant, row))
     });
-    let items = (0..plant.items.len()).map(|item| (item, state.count(item)));
-    short_line(game, rows.collect(), items.collect())
+    let counts = state.counts().filter(|(_, value)| *value > 0);
+    let (counts, more) = few_copies(counts.collect(), |(count, _)| count.is_copy());
+    short_line(game, rows.collect(), counts, more)
 }
 
 /// What is said of the controller in one line.
 fn controller_short(game: &Game) -> String {
     let state = game.net_state();
-    let (mut places, mut items) = (Vec::new(), Vec::new());
-    for place in shown_places(game, false) {
+    let (mut places, mut counts) = (Vec::new(), Vec::new());
+    let (shown, more) = shown_places(game, false);
+    for place in shown {
         match home(&game.plant, place) {
-            Home::Item(item) => items.push((item, state.mark(place))),
+            Home::Count(count) => counts.push((count, state.mark(place))),
             Home::Row { .. } => places.push(place_short(game, place)),
         }
     }
-    short_line(game, places, items)
+    short_line(game, places, counts, more)
 }
 
-fn short_line(game: &Game, busy: Vec<String>, counts: Vec<(usize, u16)>) -> String {
-    let counts = counts.iter().filter(|(_, count)| *count > 0);
-    let counts = counts.map(|(item, count)| format!("{} {count}", game.plant.items[*item].name));
-    let counts: Vec<String> = counts.collect();
+/// What is busy, then the counts, of which so many more are left out.
+fn short_line(game: &Game, busy: Vec<String>, counts: Vec<(Count, u16)>, more: usize) -> String {
+    let counts = counts.iter();
+    let counts = counts.map(|(count, value)| format!("{} {value}", game.plant.count_name(*count)));
+    let more = (more > 0).then(|| number_of(more as u64, "more count"));
+    let counts: Vec<String> = counts.chain(more).collect();
     let parts = [busy.join("; "), counts.join(", ")];
     let parts = parts.iter().filter(|part| !part.is_empty());
     parts.cloned().collect::<Vec<String>>().join(" | ")

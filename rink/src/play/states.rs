@@ -1,7 +1,7 @@
 //! What the words of both ends' states say, and whether the ends agree. The layout of states stands here alone.
 
 use crate::net::{home, Home, Net};
-use crate::plant::{Part, Plant};
+use crate::plant::{Count, Part, Plant};
 
 /// What a row of the panel's diagram does.
 #[derive(Clone, Copy, PartialEq, Eq, Debug)]
@@ -32,14 +32,14 @@ impl Activity {
     }
 }
 
-/// The words of a diagram's state: three for each row, then the counts.
+/// The words of a diagram's state: three for each row, then the counts, in the order of [`Plant::counts`].
 #[derive(Clone, Copy)]
 pub struct DiagramState<'a> {
     pub words: &'a [u16],
-    pub rows: usize,
+    pub plant: &'a Plant,
 }
 
-impl DiagramState<'_> {
+impl<'a> DiagramState<'a> {
     pub fn activity(&self, row: usize) -> Activity {
         Activity::of(self.words[3 * row])
     }
@@ -52,8 +52,25 @@ impl DiagramState<'_> {
         self.words[3 * row + 2]
     }
 
-    pub fn count(&self, item: usize) -> u16 {
-        self.words[3 * self.rows + item]
+    /// Every count with its value.
+    fn all_counts(&self) -> impl Iterator<Item = (Count, u16)> + 'a {
+        let values = &self.words[3 * self.plant.rows.len()..];
+        self.plant.counts().zip(values.iter().copied())
+    }
+
+    /// The counts that can change, each with its value: a trigger has copies in place of its own.
+    pub fn counts(&self) -> impl Iterator<Item = (Count, u16)> + 'a {
+        let items = &self.plant.items;
+        self.all_counts().filter(|(count, _)| match count {
+            Count::Item(item) => !items[*item].trigger,
+            Count::Copy { .. } => true,
+        })
+    }
+
+    /// The value of one of the plant's counts.
+    pub fn count(&self, count: Count) -> u16 {
+        let found = self.all_counts().find(|(other, _)| *other == count);
+        found.map_or(0, |(_, value)| value)
     }
 
     /// Whether there is something to say of the row: it is not idle, or has made turns.
@@ -88,35 +105,32 @@ impl NetState<'_> {
 }
 
 /// Whether every mark and clock of the net is what the diagram's state says.
-pub fn agree(plant: &Plant, net: &Net, panel: DiagramState, controller: NetState) -> bool {
-    let marks = (0..net.marks.len())
-        .all(|place| controller.mark(place) == mark_said(plant, panel, home(plant, place)));
-    let clocks = (0..net.transitions.len()).all(|transition| {
-        controller.clock(transition) == clock_said(plant, net, panel, transition)
-    });
-    marks && clocks
+pub fn agree(net: &Net, panel: DiagramState, controller: NetState) -> bool {
+    let rows = (0..panel.plant.rows.len()).flat_map(|row| marks_said(panel, row));
+    let said = rows.chain(panel.all_counts().map(|(_, value)| value));
+    let marks = (0..net.marks.len()).map(|place| controller.mark(place));
+    let clocks = (0..net.transitions.len())
+        .all(|transition| controller.clock(transition) == clock_said(net, panel, transition));
+    marks.eq(said) && clocks
 }
 
-/// The mark that a diagram's state says.
-fn mark_said(plant: &Plant, panel: DiagramState, home: Home) -> u16 {
-    let (row, which) = match home {
-        Home::Item(item) => return panel.count(item),
-        Home::Row { row, which } => (row, which),
-    };
+/// The marks of a row's places P, Q and R that a diagram's state says.
+fn marks_said(panel: DiagramState, row: usize) -> [u16; 3] {
     let activity = panel.activity(row);
-    match (&plant.rows[row].part, which) {
-        (_, 0) => u16::from(matches!(activity, Activity::Ready | Activity::Done)),
-        (Part::Repeat { .. }, 1) => panel.turns(row),
-        (Part::Repeat { count }, 2) => count.saturating_sub(panel.turns(row)),
-        (_, 1) => u16::from(activity == Activity::Running),
-        _ => 0,
+    let entered = u16::from(matches!(activity, Activity::Ready | Activity::Done));
+    match panel.plant.rows[row].part {
+        Part::Repeat { count } => {
+            let turns = panel.turns(row);
+            [entered, turns, count.saturating_sub(turns)]
+        }
+        _ => [entered, u16::from(activity == Activity::Running), 0],
     }
 }
 
 /// The clock that a diagram's state says: of a FUNCTION's second transition its row's.
-fn clock_said(plant: &Plant, net: &Net, panel: DiagramState, transition: usize) -> u16 {
+fn clock_said(net: &Net, panel: DiagramState, transition: usize) -> u16 {
     let row = usize::from(net.transitions[transition].label);
-    match plant.rows[row].part {
+    match panel.plant.rows[row].part {
         Part::Function(_) if net.turn(transition) > 0 => panel.clock(row),
         _ => 0,
     }

@@ -2,7 +2,7 @@
 
 use super::states::{Activity, DiagramState};
 use super::Game;
-use crate::plant::{Function, Part, Plant};
+use crate::plant::{Count, Part, Plant};
 use crate::structure::owners;
 use crate::times;
 use effbd::{refusal, Move, Refusal};
@@ -61,7 +61,7 @@ pub fn row_words(plant: &Plant, row: usize) -> String {
 }
 
 /// These rows, at most four of them by name.
-fn rows_words(plant: &Plant, rows: &[usize]) -> String {
+pub fn rows_words(plant: &Plant, rows: &[usize]) -> String {
     let shown = rows.iter().take(4).map(|&row| row_words(plant, row));
     let mut words: Vec<String> = shown.collect();
     if rows.len() > words.len() {
@@ -137,7 +137,7 @@ pub fn effect_words(game: &Game, made: Move, before: &[u16], after: &[u16]) -> O
 
 /// The rows that have an activity and had another before.
 fn became(before: DiagramState, after: DiagramState, activity: Activity) -> Vec<usize> {
-    let rows = 0..after.rows;
+    let rows = 0..after.plant.rows.len();
     rows.filter(|&row| after.activity(row) == activity && before.activity(row) != activity)
         .collect()
 }
@@ -162,13 +162,33 @@ fn step_words(plant: &Plant, row: usize, before: DiagramState, after: DiagramSta
     }
 }
 
-/// The items whose counts differ: `oil 4 -> 2`.
-fn changed_counts(plant: &Plant, before: DiagramState, after: DiagramState) -> Vec<String> {
-    let changed = plant.items.iter().enumerate().filter_map(|(item, found)| {
-        let (had, has) = (before.count(item), after.count(item));
-        (had != has).then(|| format!("{} {had} -> {has}", found.name))
+/// Copies of triggers that are listed of many, at most.
+pub const MOST_COPIES: usize = 8;
+
+/// All of these but the copies behind the first few, and how many are left out.
+pub fn few_copies<T>(listed: Vec<T>, is_copy: impl Fn(&T) -> bool) -> (Vec<T>, usize) {
+    let (whole, mut copies) = (listed.len(), 0);
+    let few = listed.into_iter().filter(|one| {
+        copies += usize::from(is_copy(one));
+        !is_copy(one) || copies <= MOST_COPIES
     });
-    changed.collect()
+    let few: Vec<T> = few.collect();
+    let left_out = whole - few.len();
+    (few, left_out)
+}
+
+/// The counts that differ: `oil 4 -> 2`, `door@fan 0 -> 1`.
+fn changed_counts(plant: &Plant, before: DiagramState, after: DiagramState) -> Vec<String> {
+    let both = before.counts().zip(after.counts());
+    let changed = both.filter(|((_, had), (_, has))| had != has);
+    let changed = changed.map(|((count, had), (_, has))| (count, had, has));
+    let (told, more) = few_copies(changed.collect(), |(count, ..)| count.is_copy());
+    let told = told.into_iter().map(|(count, had, has)| {
+        let name = plant.count_name(count);
+        format!("{name} {had} -> {has}")
+    });
+    let more = (more > 0).then(|| number_of(more as u64, "more count"));
+    told.chain(more).collect()
 }
 
 /// A refusal in words, with its number. The game is as it was when the call was made: a refusal alters nothing.
@@ -261,45 +281,36 @@ fn undone(game: &Game, close: usize) -> String {
     format!("{} {verb} not done", rows_words(plant, &rows))
 }
 
-/// A FUNCTION's fields.
-fn function(plant: &Plant, row: usize) -> Option<&Function> {
-    match &plant.rows.get(row)?.part {
-        Part::Function(function) => Some(function),
-        _ => None,
-    }
-}
-
-/// An item that a start needs more of.
+/// An item that a start needs more of: of a trigger the row's own copy.
 fn item_short(game: &Game, row: usize, item: usize) -> String {
     let plant = &game.plant;
-    let (take, _) = take_and_give(plant, row, item);
-    let has = game.diagram_state().count(item);
-    let name = &plant.items[item].name;
+    let (take, _) = plant.take_and_give(row, item);
+    let count = match plant.items[item].trigger {
+        true => Count::Copy { item, row },
+        false => Count::Item(item),
+    };
+    let (name, has) = (plant.count_name(count), game.diagram_state().count(count));
     format!(
         "{} cannot start: it takes {take} of {name}, which has {has}",
         row_words(plant, row)
     )
 }
 
-/// An item that an end would give too much to.
+/// An item that an end would give too much to: of a trigger the first copy that is full.
 fn sum_too_large(game: &Game, row: usize, item: usize) -> String {
-    let plant = &game.plant;
-    let (_, give) = take_and_give(plant, row, item);
-    let has = game.diagram_state().count(item);
-    let name = &plant.items[item].name;
+    let (plant, state) = (&game.plant, game.diagram_state());
+    let (_, give) = plant.take_and_give(row, item);
+    let full = |count: &Count| state.count(*count).checked_add(give).is_none();
+    let copy = plant.items[item]
+        .trigger
+        .then(|| plant.copies(item).find(full));
+    let count = copy.flatten().unwrap_or(Count::Item(item));
+    let (name, has) = (plant.count_name(count), state.count(count));
     format!(
         "{} cannot end: it gives {give} to {name}, which has {has} and holds at most {}",
         row_words(plant, row),
         u16::MAX
     )
-}
-
-fn take_and_give(plant: &Plant, row: usize, item: usize) -> (u16, u16) {
-    let mut uses = function(plant, row)
-        .into_iter()
-        .flat_map(|found| &found.uses);
-    let used = uses.find(|used| usize::from(used.item) == item);
-    used.map_or((0, 0), |used| (used.take, used.give))
 }
 
 /// What holds a wait: rows that can step now, or functions that must end sooner.

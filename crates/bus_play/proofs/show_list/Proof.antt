@@ -1,3 +1,7 @@
+use Prim.Native.Nat.{ℕ, _≤_}
+use lib.ListN.{length, replicate, length-replicate}
+use Rattle.translate.specs.NetRecords.{netRoom}
+use Rattle.play.specs.ReadyEnds.{leaderRoom, followerRoom}
 use Rattle.play.proofs.Readied.{sizes-fit, lengths-kept}
 use Rattle.bus_play.proofs.ListReading.{part-few}
 use Rattle.effbd.specs.Nesting.{readDiagram}
@@ -7,6 +11,10 @@ use mathlib.Core.Path.{sym}
 use borrow.Author.Needs.{needs}
 use Rattle.bus_play.proofs.show_list.Statement.{statement}
 use Rattle.bus_play.proofs.show_list.Tie as tie
+
+-- the zeros of the net, counted by a law and not one by one
+net-room : netRoom ≤ length (replicate {A = ℕ} netRoom 0)
+net-room = rw (length-replicate {A = ℕ} netRoom 0) (omega arith)
 
 ready-requires : tie.Need-ready-requires
 ready-requires c κs = search needs
@@ -29,13 +37,13 @@ cast-net c = search needs
 array-share-prefix-net : tie.Need-array-share-prefix-net
 array-share-prefix-net c =
     let f = sizes-fit (readDiagram (c .before .before .before .before .before .before .before .before .before .before .args .file .now)) _ _ _ _ _ _ _ _ _ (c .before .before .before .before .before .ready .ensures .1) in
-    let k = lengths-kept (readDiagram (c .before .before .before .before .before .before .before .before .before .before .args .file .now)) _ _ _ _ _ _ _ _ _ (c .before .before .before .before .before .ready .ensures .1) (omega arith) (omega arith) (omega arith) in
+    let k = lengths-kept (readDiagram (c .before .before .before .before .before .before .before .before .before .before .args .file .now)) _ _ _ _ _ _ _ _ _ (c .before .before .before .before .before .ready .ensures .1) net-room (omega arith) (omega arith) in
     omega arith
 
 slice-aggregate-show-calls : tie.Need-slice-aggregate-show-calls
 slice-aggregate-show-calls c =
     let f = sizes-fit (readDiagram (c .before .before .before .before .before .before .before .before .before .before .before .args .file .now)) _ _ _ _ _ _ _ _ _ (c .before .before .before .before .before .before .ready .ensures .1) in
-    let k = lengths-kept (readDiagram (c .before .before .before .before .before .before .before .before .before .before .before .args .file .now)) _ _ _ _ _ _ _ _ _ (c .before .before .before .before .before .before .ready .ensures .1) (omega arith) (omega arith) (omega arith) in
+    let k = lengths-kept (readDiagram (c .before .before .before .before .before .before .before .before .before .before .before .args .file .now)) _ _ _ _ _ _ _ _ _ (c .before .before .before .before .before .before .ready .ensures .1) net-room (omega arith) (omega arith) in
     sym (length-take-le (c .before .before .before .before .before .before .ready .result .net) (c .before .before .before .before .before .before .ready .last .1 .0) (omega arith))
 
 cast-leader : tie.Need-cast-leader
@@ -44,13 +52,13 @@ cast-leader c = search needs
 array-borrow-prefix-leader : tie.Need-array-borrow-prefix-leader
 array-borrow-prefix-leader c =
     let f = sizes-fit (readDiagram (c .before .before .before .before .before .before .before .before .before .before .before .before .args .file .now)) _ _ _ _ _ _ _ _ _ (c .before .before .before .before .before .before .before .ready .ensures .1) in
-    let k = lengths-kept (readDiagram (c .before .before .before .before .before .before .before .before .before .before .before .before .args .file .now)) _ _ _ _ _ _ _ _ _ (c .before .before .before .before .before .before .before .ready .ensures .1) (omega arith) (omega arith) (omega arith) in
+    let k = lengths-kept (readDiagram (c .before .before .before .before .before .before .before .before .before .before .before .before .args .file .now)) _ _ _ _ _ _ _ _ _ (c .before .before .before .before .before .before .before .ready .ensures .1) net-room (omega arith) (omega arith) in
     omega arith
 
 slice-aggregate-show-calls-2 : tie.Need-slice-aggregate-show-calls-2
 slice-aggregate-show-calls-2 c =
     let f = sizes-fit (readDiagram (c .before .before .before .before .before .before .before .before .before .before .before .before .before .args .file .now)) _ _ _ _ _ _ _ _ _ (c .before .before .before .before .before .before .before .before .ready .ensures .1) in
-    let k = lengths-kept (readDiagram (c .before .before .before .before .before .before .before .before .before .before .before .before .before .args .file .now)) _ _ _ _ _ _ _ _ _ (c .before .before .before .before .before .before .before .before .ready .ensures .1) (omega arith) (omega arith) (omega arith) in
+    let k = lengths-kept (readDiagram (c .before .before .before .before .before .before .before .before .before .before .before .before .before .args .file .now)) _ _ _ _ _ _ _ _ _ (c .before .before .before .before .before .before .before .before .ready .ensures .1) net-room (omega arith) (omega arith) in
     sym (length-take-le (c .before .before .before .before .before .before .before .before .ready .result .states .leader) (c .before .before .before .before .before .before .before .before .ready .last .1 .1 .0) (omega arith))
 
 cast-follower : tie.Need-cast-follower
@@ -59,13 +67,13 @@ cast-follower c = search needs
 array-borrow-prefix-follower : tie.Need-array-borrow-prefix-follower
 array-borrow-prefix-follower c =
     let f = sizes-fit (readDiagram (c .before .before .before .before .before .before .before .before .before .before .before .before .before .before .args .file .now)) _ _ _ _ _ _ _ _ _ (c .before .before .before .before .before .before .before .before .before .ready .ensures .1) in
-    let k = lengths-kept (readDiagram (c .before .before .before .before .before .before .before .before .before .before .before .before .before .before .args .file .now)) _ _ _ _ _ _ _ _ _ (c .before .before .before .before .before .before .before .before .before .ready .ensures .1) (omega arith) (omega arith) (omega arith) in
+    let k = lengths-kept (readDiagram (c .before .before .before .before .before .before .before .before .before .before .before .before .before .before .args .file .now)) _ _ _ _ _ _ _ _ _ (c .before .before .before .before .before .before .before .before .before .ready .ensures .1) net-room (omega arith) (omega arith) in
     omega arith
 
 slice-aggregate-show-calls-3 : tie.Need-slice-aggregate-show-calls-3
 slice-aggregate-show-calls-3 c =
     let f = sizes-fit (readDiagram (c .before .before .before .before .before .before .before .before .before .before .before .before .before .before .before .args .file .now)) _ _ _ _ _ _ _ _ _ (c .before .before .before .before .before .before .before .before .before .before .ready .ensures .1) in
-    let k = lengths-kept (readDiagram (c .before .before .before .before .before .before .before .before .before .before .before .before .before .before .before .args .file .now)) _ _ _ _ _ _ _ _ _ (c .before .before .before .before .before .before .before .before .before .before .ready .ensures .1) (omega arith) (omega arith) (omega arith) in
+    let k = lengths-kept (readDiagram (c .before .before .before .before .before .before .before .before .before .before .before .before .before .before .before .args .file .now)) _ _ _ _ _ _ _ _ _ (c .before .before .before .before .before .before .before .before .before .before .ready .ensures .1) net-room (omega arith) (omega arith) in
     sym (length-take-le (c .before .before .before .before .before .before .before .before .before .before .ready .result .states .follower) (c .before .before .before .before .before .before .before .before .before .before .ready .last .1 .1 .1 .0) (omega arith))
 
 slice-aggregate-show-calls-4 : tie.Need-slice-aggregate-show-calls-4
@@ -74,7 +82,7 @@ slice-aggregate-show-calls-4 c = search needs
 show-calls-requires : tie.Need-show-calls-requires
 show-calls-requires c κs =
     let f = sizes-fit (readDiagram (c .before .before .before .before .before .before .before .before .before .before .before .before .before .before .before .before .args .file .now)) _ _ _ _ _ _ _ _ _ (c .before .before .before .before .before .before .before .before .before .before .before .ready .ensures .1) in
-    (part-few (c .before .before .before .before .before .before .before .before .before .before .before .ready .last .1 .1 .0) (c .before .before .before .before .before .before .before .before .before .before .before .ready .result .states .leader) 208 (omega arith), (part-few (c .before .before .before .before .before .before .before .before .before .before .before .ready .last .1 .1 .1 .0) (c .before .before .before .before .before .before .before .before .before .before .before .ready .result .states .follower) 336 (omega arith), omega arith))
+    (part-few (c .before .before .before .before .before .before .before .before .before .before .before .ready .last .1 .1 .0) (c .before .before .before .before .before .before .before .before .before .before .before .ready .result .states .leader) leaderRoom (omega arith), (part-few (c .before .before .before .before .before .before .before .before .before .before .before .ready .last .1 .1 .1 .0) (c .before .before .before .before .before .before .before .before .before .before .before .ready .result .states .follower) followerRoom (omega arith), omega arith))
 
 show-end-requires : tie.Need-show-end-requires
 show-end-requires c κs = search needs

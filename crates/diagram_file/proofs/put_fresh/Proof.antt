@@ -3,7 +3,7 @@ use borrow.Author.Needs.{needs}
 use native.Mathlib.Numerals.{add-one}
 use native.Mathlib.Omega.{arith}
 use lib.ListN.{length, set}
-use Rattle.diagram_table.specs.Cells.{countIn}
+use Rattle.diagram_table.specs.Cells.{sharedIn}
 use mathlib.Core.List.{List}
 use mathlib.Core.Path.{_≡_, refl, sym, _∙_, ap}
 use Prim.Native.Nat.{ℕ, _+_, _-_, _*_, _≤_}
@@ -14,7 +14,7 @@ none : (rows : ℕ) (table state : List ℕ) → state ≡ countsPut rows 0 tabl
 unfolding countsPut
 none rows table state = refl
 
-turn : (rows item value : ℕ) (table start state next : List ℕ) → state ≡ countsPut rows item table start → value ≡ countIn table item
+turn : (rows item value : ℕ) (table start state next : List ℕ) → state ≡ countsPut rows item table start → value ≡ sharedIn table item
     → next ≡ set state (3 * rows + item) value → next ≡ countsPut rows (item + 1) table start
 unfolding countsPut
 turn rows item value table start state next e v f =
@@ -42,14 +42,11 @@ loop-holds c = (omega arith, none (c .before .before .before .before .before .be
 add-put : tie.Need-add-put Inv-loop μ-loop
 add-put c = search needs
 
-cast-get : tie.Need-cast-get Inv-loop μ-loop
-cast-get c = search needs
+cast-shared-count : tie.Need-cast-shared-count Inv-loop μ-loop
+cast-shared-count c = omega (arith, c .before .loop-test .taken)
 
-add-get : tie.Need-add-get Inv-loop μ-loop
-add-get c = search needs
-
-get-requires : tie.Need-get-requires Inv-loop μ-loop
-get-requires c κs = search needs
+shared-count-requires : tie.Need-shared-count-requires Inv-loop μ-loop
+shared-count-requires c κs = search needs
 
 put-requires-2 : tie.Need-put-requires-2 Inv-loop μ-loop
 put-requires-2 c κs = search needs
@@ -61,7 +58,7 @@ loop-less : tie.Need-loop-less Inv-loop μ-loop
 loop-less c = omega (arith, c .before .before .before .before .before .loop-test .taken)
 
 loop-again : tie.Need-loop-again Inv-loop μ-loop
-loop-again c = (omega (arith, c .before .before .before .before .before .loop-test .taken), turn (c .before .before .before .before .before .before .before .before .before .before .before .before .before .args .rows) (c .before .before .before .before .before .before .loop .item) (c .before .before .before .get .result) (c .before .before .before .before .before .before .before .before .before .before .before .before .before .args .table .now) (c .before .before .before .before .before .before .before .before .before .put .last .0) (c .before .before .before .before .before .before .loop .state) (c .before .before .put2 .last .0) (c .before .before .before .before .before .before .loop .inv .1) (c .before .before .before .get .ensures) (c .before .before .put2 .ensures), omega (arith, c .before .before .put2 .kept, c .before .before .before .before .before .before .loop .inv .2))
+loop-again c = (omega (arith, c .before .before .before .before .before .loop-test .taken), turn (c .before .before .before .before .before .before .before .before .before .before .before .before .before .args .rows) (c .before .before .before .before .before .before .loop .item) (c .before .before .before .shared-count .result) (c .before .before .before .before .before .before .before .before .before .before .before .before .before .args .table .now) (c .before .before .before .before .before .before .before .before .before .put .last .0) (c .before .before .before .before .before .before .loop .state) (c .before .before .put2 .last .0) (c .before .before .before .before .before .before .loop .inv .1) (c .before .before .before .shared-count .ensures) (c .before .before .put2 .ensures), omega (arith, c .before .before .put2 .kept, c .before .before .before .before .before .before .loop .inv .2))
 
 same-length : tie.Need-same-length Inv-loop μ-loop
 same-length c = search needs
@@ -79,9 +76,8 @@ put-fresh-spec =
     mul-first
     loop-holds
     add-put
-    cast-get
-    add-get
-    get-requires
+    cast-shared-count
+    shared-count-requires
     put-requires-2
     add-item
     loop-less

@@ -1,6 +1,5 @@
-use Rattle.diagram_step.proofs.Answered.{told-accepted, told-refused, fresh-turned}
-use Rattle.diagram_moves.specs.FileMoves.{fresh-short, fresh-copied}
-use Rattle.effbd.specs.Moves.{freshDiagram}
+use Rattle.diagram_step.proofs.Plants.{plain-room, plain-placed}
+use Rattle.diagram_step.proofs.Answered.{fresh-turned, answered-as}
 use borrow.Author.Needs.{needs}
 use Rattle.diagram_step.proofs.fresh.Statement.{statement}
 use Rattle.diagram_step.proofs.fresh.Tie as tie
@@ -9,47 +8,50 @@ parse-requires : tie.Need-parse-requires
 parse-requires c κs = search needs
 
 returns : tie.Need-returns
-returns c = fresh-turned (c .before .before .before .before .before .args .file .now) (c .before .before .before .before .before .args .state .now) (c .before .before .parse .result) (c .before .before .parse .ensures) (c .if1 .taken)
+returns c = let a = c .before .before .before .before .args in fresh-turned (a .file .now) (a .state .now) (c .before .parse .result) (c .before .parse .ensures) (c .if1 .taken)
 
-cast-if2 : tie.Need-cast-if2
-cast-if2 c = search needs
+cell-requires : tie.Need-cell-requires
+cell-requires c κs = search needs
 
-mul-if2 : tie.Need-mul-if2
-mul-if2 c = search needs
-
-cast-if2-2 : tie.Need-cast-if2-2
-cast-if2-2 c = search needs
-
-add-if2 : tie.Need-add-if2
-add-if2 c = search needs
-
-returns-2 : tie.Need-returns-2
-returns-2 c = told-refused (c .before .before .before .before .before .before .before .before .args .state .now) 20 0 (freshDiagram (c .before .before .before .before .before .before .before .before .args .file .now) (c .before .before .before .before .before .before .before .before .args .state .now)) (fresh-short (c .before .before .before .before .before .before .before .before .args .file .now) (c .before .before .before .before .before .before .before .before .args .state .now) (c .before .before .before .before .before .parse .result .rows) (c .before .before .before .before .before .parse .result .items) (c .before .before .before .before .before .parse .result .table) (c .before .before .before .before .before .parse .ensures .holds (c .before .before .before .if1 .left)) (c .if2 .taken))
-
-fresh-requires : tie.Need-fresh-requires
-fresh-requires c κs = search needs
-
-sub-copy : tie.Need-sub-copy
-sub-copy c = search needs
-
-part-copy-start : tie.Need-part-copy-start
-part-copy-start c = search needs
-
-part-copy-end : tie.Need-part-copy-end
-part-copy-end c = let held = c .before .before .before .before .before .before .before .before .parse .ensures .holds (c .before .before .before .before .before .before .if1 .left) .holds in let a = held .records .fewRows in let b = held .records .fewItems in let e = c .before .before .before .if2 .left in search needs
-
-copy-requires : tie.Need-copy-requires
-copy-requires c κs = search needs
+fresh-with-copies-requires : tie.Need-fresh-with-copies-requires
+fresh-with-copies-requires c κs = c .before .before .before .before .before .before .before .parse .ensures .holds (c .before .before .before .before .before .before .if1 .left)
 
 same-length : tie.Need-same-length
 same-length c = search needs
 
+returns-2 : tie.Need-returns-2
+returns-2 c = search needs
+
+fresh-requires : tie.Need-fresh-requires
+fresh-requires c κs = search needs
+
+cast-put-fresh : tie.Need-cast-put-fresh
+cast-put-fresh c = search needs
+
+mul-put-fresh : tie.Need-mul-put-fresh
+mul-put-fresh c = search needs
+
+cast-put-fresh-2 : tie.Need-cast-put-fresh-2
+cast-put-fresh-2 c = search needs
+
+add-put-fresh : tie.Need-add-put-fresh
+add-put-fresh c = search needs
+
+slice-aggregate-put-fresh : tie.Need-slice-aggregate-put-fresh
+slice-aggregate-put-fresh c = search needs
+
+put-fresh-requires : tie.Need-put-fresh-requires
+put-fresh-requires c κs =
+    let a = c .before .before .before .before .before .before .before .before .before .before .before .before .args in let p = c .before .before .before .before .before .before .before .before .before .parse in
+    plain-room (a .file .now) (p .result .rows) (p .result .items) (p .result .table) (p .ensures .holds (c .before .before .before .before .before .before .before .before .if1 .left)) (c .before .before .before .before .cell .ensures) (c .before .before .before .if2 .left) (c .before .before .fresh .result) (c .before .before .fresh .ensures)
+
+same-length-2 : tie.Need-same-length-2
+same-length-2 c = search needs
+
 returns-3 : tie.Need-returns-3
 returns-3 c =
-    let held = c .before .before .before .before .before .before .before .before .before .before .before .before .parse .ensures .holds (c .before .before .before .before .before .before .before .before .before .before .if1 .left) in
-    told-accepted (c .before .before .before .before .before .before .before .before .before .before .before .before .before .before .before .args .state .now) _ (freshDiagram (c .before .before .before .before .before .before .before .before .before .before .before .before .before .before .before .args .file .now) (c .before .before .before .before .before .before .before .before .before .before .before .before .before .before .before .args .state .now))
-    (fresh-copied (c .before .before .before .before .before .before .before .before .before .before .before .before .before .before .before .args .file .now) (c .before .before .before .before .before .before .before .before .before .before .before .before .before .before .before .args .state .now) (c .before .before .before .before .before .before .before .before .before .before .before .before .parse .result .rows) (c .before .before .before .before .before .before .before .before .before .before .before .before .parse .result .items) (c .before .before .before .before .before .before .before .before .before .before .before .before .parse .result .table) (c .before .before .before .before .before .before .fresh .result) (c .before .before .copy .last .0) held
-    (c .before .before .before .before .before .before .fresh .ensures .of (held .diagram) (held .holds)) (c .before .before .before .before .before .before .before .if2 .left) (c .before .before .copy .ensures))
+    let a = c .before .before .before .before .before .before .before .before .before .before .before .before .before .before .before .args in let p = c .before .before .before .before .before .before .before .before .before .before .before .before .parse in
+    answered-as _ _ _ _ _ (c .before .before .put-fresh .ensures) (plain-placed (a .file .now) (p .result .rows) (p .result .items) (p .result .table) (p .ensures .holds (c .before .before .before .before .before .before .before .before .before .before .before .if1 .left)) (c .before .before .before .before .before .before .before .cell .ensures) (c .before .before .before .before .before .before .if2 .left) (c .before .before .before .before .before .fresh .result) (a .state .now) (c .before .before .before .before .before .fresh .ensures))
 
 pub fresh-spec : {M : Type 1} → statement M
 fresh-spec =
@@ -57,15 +59,16 @@ fresh-spec =
     (tie.spec
     parse-requires
     returns
-    cast-if2
-    mul-if2
-    cast-if2-2
-    add-if2
+    cell-requires
+    fresh-with-copies-requires
+    same-length
     returns-2
     fresh-requires
-    sub-copy
-    part-copy-start
-    part-copy-end
-    copy-requires
-    same-length
+    cast-put-fresh
+    mul-put-fresh
+    cast-put-fresh-2
+    add-put-fresh
+    slice-aggregate-put-fresh
+    put-fresh-requires
+    same-length-2
     returns-3)

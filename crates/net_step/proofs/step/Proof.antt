@@ -1,14 +1,9 @@
-use Rattle.agreement.specs.ByteLaws.{bytes-are}
-use Rattle.effbd.specs.Nets.{mostPlaces}
-use Prim.Native.Nat.{_-_}
-use native.Mathlib.Omega.{arith}
-use mathlib.Core.Path.{_≡_, ap, sym, _∙_}
-use Prim.Native.Nat.{min}
-use lib.ListN.{length-take}
-use Rattle.effbd.specs.Answers.{returningZero, afterwards}
-use Rattle.effbd.specs.Answers.{said}
-use Rattle.net_walk.proofs.Effects.{Words}
 use Rattle.net_step.proofs.Calls.{read-of, step-refused, step-length, step-moves}
+use Rattle.net_walk.proofs.Effects.{Words}
+use Rattle.effbd.specs.Answers.{said, returningZero, afterwards}
+use mathlib.Core.Path.{ap, sym, _∙_}
+use native.Mathlib.Omega.{arith}
+use Rattle.agreement.specs.ByteLaws.{bytes-are}
 use borrow.Author.Needs.{needs}
 use Rattle.net_step.proofs.step.Statement.{statement}
 use Rattle.net_step.proofs.step.Tie as tie
@@ -50,23 +45,11 @@ add-tail c = search needs
 tail-requires : tie.Need-tail-requires
 tail-requires c κs = search needs
 
-sub-move-by : tie.Need-sub-move-by
-sub-move-by c = search needs
-
-part-marks-start : tie.Need-part-marks-start
-part-marks-start c = search needs
-
-part-marks-end : tie.Need-part-marks-end
-part-marks-end c =
-    let a = c .before .before .before .before .before .before .before .before .before .before .args in
-    let r = read-of (a .net .now) (c .before .before .before .before .before .read3 .given .0 .0) (ap said (sym (c .before .before .before .before .before .read3 .given .1)) ∙ c .before .before .before .before .before .before .before .read .ensures) in
-    omega (arith, r .holds .head .places, c .before .before .word .ensures)
-
-move-by-requires : tie.Need-move-by-requires
-move-by-requires c κs =
-    let a = c .before .before .before .before .before .before .before .before .before .before .before .before .args in
-    let r = read-of (a .net .now) (c .before .before .before .before .before .before .before .read3 .given .0 .0) (ap said (sym (c .before .before .before .before .before .before .before .read3 .given .1)) ∙ c .before .before .before .before .before .before .before .before .before .read .ensures) in
-    rw length-take (omega (arith, r .holds .head .places, r .adds, c .before .before .before .before .before .if1 .left, c .before .before .before .before .word .ensures, c .before .before .before .word2 .ensures))
+move-sized-requires : tie.Need-move-sized-requires
+move-sized-requires c κs =
+    let a = c .before .before .before .before .before .before .before .before .before .before .before .args in
+    let r = read-of (a .net .now) (c .before .before .before .before .before .before .read3 .given .0 .0) (ap said (sym (c .before .before .before .before .before .before .read3 .given .1)) ∙ c .before .before .before .before .before .before .before .before .read .ensures) in
+    record { few = omega (arith, r .holds .head .places, c .before .before .before .word .ensures); words = omega (arith, r .adds, c .before .before .before .before .if1 .left, c .before .before .before .word .ensures, c .before .before .word2 .ensures) }
 
 returns-2 : tie.Need-returns-2
 returns-2 c =
@@ -79,13 +62,11 @@ same-length c = search needs
 
 returns-3 : tie.Need-returns-3
 returns-3 c =
-    let a = c .before .before .before .before .before .before .before .before .before .before .before .before .before .before .before .before .args in
-    let r = read-of (a .net .now) (c .before .before .before .before .before .before .before .before .before .before .before .read3 .given .0 .0) (ap said (sym (c .before .before .before .before .before .before .before .before .before .before .before .read3 .given .1)) ∙ c .before .before .before .before .before .before .before .before .before .before .before .before .before .read .ensures) in
-    let p = c .before .before .before .before .before .before .before .before .word .result in
-    let w : Words (a .state .now) = record { each = λ i. omega (arith, c .before .before .before .before .before .before .before .before .before .before .before .before .before .before .slice-known .given i) } in
-    let e = sym (step-moves (a .net .now) (a .state .now) (c .before .before .before .before .before .before .before .before .before .before .before .read3 .given .0 .0) r (bytes-are (a .net .now) (λ i. omega (arith, c .before .before .before .before .before .before .before .before .before .before .before .before .before .before .before .shared-slice-known .given i))) (a .code) (a .argument) p (c .before .before .before .before .before .before .before .word2 .result) (c .before .before .before .before .before .before .tail .result .now) (c .before .before .before .before .before .before .before .before .before .if1 .left) w (c .before .before .before .before .before .before .before .before .word .ensures) (c .before .before .before .before .before .before .before .word2 .ensures) (c .before .before .before .before .before .before .tail .ensures)) in
-    let k : min (p - 0) mostPlaces ≡ p = omega (arith, r .holds .head .places, c .before .before .before .before .before .before .before .before .word .ensures) in
-    ((rw (length-take, k) at (c .before .before .before .move-by .ensures .says)) ∙ ap returningZero e, (rw (length-take, k) at (c .before .before .before .move-by .ensures .leaves)) ∙ ap (afterwards (a .state .now)) e)
+    let a = c .before .before .before .before .before .before .before .before .before .before .before .before .before .before .args in
+    let r = read-of (a .net .now) (c .before .before .before .before .before .before .before .before .before .read3 .given .0 .0) (ap said (sym (c .before .before .before .before .before .before .before .before .before .read3 .given .1)) ∙ c .before .before .before .before .before .before .before .before .before .before .before .read .ensures) in
+    let w : Words (a .state .now) = record { each = λ i. omega (arith, c .before .before .before .before .before .before .before .before .before .before .before .before .slice-known .given i) } in
+    let e = sym (step-moves (a .net .now) (a .state .now) (c .before .before .before .before .before .before .before .before .before .read3 .given .0 .0) r (bytes-are (a .net .now) (λ i. omega (arith, c .before .before .before .before .before .before .before .before .before .before .before .before .before .shared-slice-known .given i))) (a .code) (a .argument) (c .before .before .before .before .before .before .word .result) (c .before .before .before .before .before .word2 .result) (c .before .before .before .before .tail .result .now) (c .before .before .before .before .before .before .before .if1 .left) w (c .before .before .before .before .before .before .word .ensures) (c .before .before .before .before .before .word2 .ensures) (c .before .before .before .before .tail .ensures)) in
+    (c .before .before .move-sized .ensures .says ∙ ap returningZero e, c .before .before .move-sized .ensures .leaves ∙ ap (afterwards (a .state .now)) e)
 
 pub step-spec : {M : Type 1} → statement M
 step-spec =
@@ -102,10 +83,7 @@ step-spec =
     mul-tail
     add-tail
     tail-requires
-    sub-move-by
-    part-marks-start
-    part-marks-end
-    move-by-requires
+    move-sized-requires
     returns-2
     same-length
     returns-3)

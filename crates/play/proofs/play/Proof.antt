@@ -1,3 +1,7 @@
+use Prim.Native.Nat.{ℕ, _≤_}
+use native.Mathlib.Omega.{arith}
+use lib.ListN.{length, replicate, length-replicate}
+use Rattle.translate.specs.NetRecords.{netRoom}
 use Rattle.play.proofs.Starts.{unplayed, file-refused, found-net}
 use Rattle.play.specs.Played.{playable}
 use Rattle.effbd.specs.Answers.{said}
@@ -7,11 +11,15 @@ use borrow.Author.Needs.{needs}
 use Rattle.play.proofs.play.Statement.{statement}
 use Rattle.play.proofs.play.Tie as tie
 
+-- the zeros of the area, counted by a law and not one by one
+net-room : netRoom ≤ length (replicate {A = ℕ} netRoom 0)
+net-room = rw (length-replicate {A = ℕ} netRoom 0) (omega arith)
+
 slice-aggregate-translate-into : tie.Need-slice-aggregate-translate-into
 slice-aggregate-translate-into c = search needs
 
 translate-into-requires : tie.Need-translate-into-requires
-translate-into-requires c κs = search needs
+translate-into-requires c κs = net-room
 
 enum-known-answer : tie.Need-enum-known-answer
 enum-known-answer c = search needs

@@ -1,7 +1,8 @@
-use Rattle.starts.proofs.Told.{file-off, fault-off, begins, fresh-part}
-use Prim.Native.Nat.{_+_, _*_}
-use mathlib.Core.Path.{refl, sym, _∙_}
+use Rattle.diagram_step.proofs.Plants.{plain-table, plain-room, plain-words}
+use Rattle.starts.proofs.Told.{file-off}
+use borrow.Author.Tests.{eqb-true, eqb-false}
 use native.Mathlib.Omega.{arith}
+use mathlib.Core.Path.{refl, sym, _∙_}
 use borrow.Author.Needs.{needs}
 use Rattle.starts.proofs.log_starts.Statement.{statement}
 use Rattle.starts.proofs.log_starts.Tie as tie
@@ -10,16 +11,16 @@ parse-requires : tie.Need-parse-requires
 parse-requires c κs = search needs
 
 returns : tie.Need-returns
-returns c = file-off (c .before .before .before .before .args .file .now) (c .before .before .before .before .args .log .now) (c .before .before .before .before .args .row) (c .before .before .before .before .args .at .now) (c .before .parse .result .number) (c .before .parse .result .value) (c .before .parse .ensures .number) (c .before .parse .ensures .value) (c .if1 .taken)
+returns c = let a = c .before .before .before .before .args in file-off (a .file .now) (a .log .now) (a .row) (a .at .now) (c .before .parse .result .number) (c .before .parse .result .value) (c .before .parse .ensures .number) (c .before .parse .ensures .value) (c .if1 .taken)
 
-cast-fault : tie.Need-cast-fault
-cast-fault c = search needs
+cell-requires : tie.Need-cell-requires
+cell-requires c κs = search needs
 
-fault-requires : tie.Need-fault-requires
-fault-requires c κs = search needs
+starts-with-copies-requires : tie.Need-starts-with-copies-requires
+starts-with-copies-requires c κs = c .before .before .before .before .before .before .before .parse .ensures .holds (c .before .before .before .before .before .before .if1 .left)
 
 returns-2 : tie.Need-returns-2
-returns-2 c = fault-off (c .before .before .before .before .before .before .before .before .before .args .file .now) (c .before .before .before .before .before .before .before .before .before .args .log .now) (c .before .before .before .before .before .before .before .before .before .args .row) (c .before .before .before .before .before .before .before .before .before .args .at .now) (c .before .before .before .before .before .before .parse .result .rows) (c .before .before .before .before .before .before .parse .result .items) (c .before .before .before .before .before .before .parse .result .table) (c .before .before .before .before .before .before .parse .ensures .holds (c .before .before .before .before .before .if1 .left)) (c .before .fault .result) (c .before .fault .ensures) (c .if2 .taken)
+returns-2 c = search needs
 
 fresh-requires : tie.Need-fresh-requires
 fresh-requires c κs = search needs
@@ -36,32 +37,25 @@ cast-size-2 c = search needs
 add-size : tie.Need-add-size
 add-size c = search needs
 
-cast-count-starts : tie.Need-cast-count-starts
-cast-count-starts c = search needs
+cast-starts-on : tie.Need-cast-starts-on
+cast-starts-on c = search needs
 
-cast-count-starts-2 : tie.Need-cast-count-starts-2
-cast-count-starts-2 c = search needs
+cast-starts-on-2 : tie.Need-cast-starts-on-2
+cast-starts-on-2 c = search needs
 
-sub-count-starts : tie.Need-sub-count-starts
-sub-count-starts c = search needs
+sub-starts-on : tie.Need-sub-starts-on
+sub-starts-on c = search needs
 
 part-state-start : tie.Need-part-state-start
 part-state-start c = search needs
 
 part-state-end : tie.Need-part-state-end
-part-state-end c = let held = c .before .before .before .before .before .before .before .before .before .before .parse .ensures .holds (c .before .before .before .before .before .before .before .before .before .if1 .left) .holds in let a = held .records .fewRows in let b = held .records .fewItems in search needs
+part-state-end c = let a = c .before .before .before .before .before .before .before .before .before .before .before .before .before .args in let p = c .before .before .before .before .before .before .before .before .before .before .parse in plain-room (a .file .now) (p .result .rows) (p .result .items) (p .result .table) (p .ensures .holds (c .before .before .before .before .before .before .before .before .before .if1 .left)) (c .before .before .before .before .before .cell .ensures) (c .before .before .before .before .if2 .left) (c .before .before .before .fresh .result) (c .before .before .before .fresh .ensures)
 
-sub-count-starts-2 : tie.Need-sub-count-starts-2
-sub-count-starts-2 c = search needs
-
-part-gaps-start : tie.Need-part-gaps-start
-part-gaps-start c = search needs
-
-part-gaps-end : tie.Need-part-gaps-end
-part-gaps-end c = search needs
-
-count-starts-requires : tie.Need-count-starts-requires
-count-starts-requires c κs = let h = c .before .before .before .before .before .before .before .before .before .before .before .before .before .parse .ensures .holds (c .before .before .before .before .before .before .before .before .before .before .before .before .if1 .left) in begins (c .before .before .before .before .before .before .before .before .before .before .before .before .before .before .before .before .args .file .now) (c .before .before .before .before .before .before .before .before .before .before .before .before .before .before .before .before .args .log .now) (c .before .before .before .before .before .before .before .before .before .before .before .before .before .before .before .before .args .row) 0 (c .before .before .before .before .before .before .before .before .before .before .before .before .before .parse .result .rows) (c .before .before .before .before .before .before .before .before .before .before .before .before .before .parse .result .items) (c .before .before .before .before .before .before .before .before .before .before .before .before .before .parse .result .table) h _ _ (sym (c .before .before .before .before .before .before .before .before .fault .ensures) ∙ c .before .before .before .before .before .before .before .if2 .left) (fresh-part (c .before .before .before .before .before .before .before .before .before .before .before .before .before .before .before .before .args .file .now) (c .before .before .before .before .before .before .before .before .before .before .before .before .before .before .before .before .args .log .now) (c .before .before .before .before .before .before .before .before .before .before .before .before .before .before .before .before .args .row) 0 (c .before .before .before .before .before .before .before .before .before .before .before .before .before .parse .result .rows) (c .before .before .before .before .before .before .before .before .before .before .before .before .before .parse .result .items) (c .before .before .before .before .before .before .before .before .before .before .before .before .before .parse .result .table) h (c .before .before .before .before .before .before .fresh .result) _ (c .before .before .before .before .before .before .fresh .ensures .of (h .diagram) (h .holds)) refl) refl
+starts-on-requires : tie.Need-starts-on-requires
+starts-on-requires c κs =
+    let a = c .before .before .before .before .before .before .before .before .before .before .before .before .before .before .before .args in let p = c .before .before .before .before .before .before .before .before .before .before .before .before .parse in
+    record { plant = plain-table (a .file .now) (p .result .rows) (p .result .items) (p .result .table) (p .ensures .holds (c .before .before .before .before .before .before .before .before .before .before .before .if1 .left)) (c .before .before .before .before .before .before .before .cell .ensures) (c .before .before .before .before .before .before .if2 .left); fresh = plain-words (a .file .now) (p .result .rows) (p .result .items) (p .result .table) (p .ensures .holds (c .before .before .before .before .before .before .before .before .before .before .before .if1 .left)) (c .before .before .before .before .before .before .before .cell .ensures) (c .before .before .before .before .before .before .if2 .left) (c .before .before .before .before .before .fresh .result) (c .before .before .before .before .before .fresh .ensures) }
 
 returns-3 : tie.Need-returns-3
 returns-3 c = search needs
@@ -72,21 +66,18 @@ log-starts-spec =
     (tie.spec
     parse-requires
     returns
-    cast-fault
-    fault-requires
+    cell-requires
+    starts-with-copies-requires
     returns-2
     fresh-requires
     cast-size
     mul-size
     cast-size-2
     add-size
-    cast-count-starts
-    cast-count-starts-2
-    sub-count-starts
+    cast-starts-on
+    cast-starts-on-2
+    sub-starts-on
     part-state-start
     part-state-end
-    sub-count-starts-2
-    part-gaps-start
-    part-gaps-end
-    count-starts-requires
+    starts-on-requires
     returns-3)

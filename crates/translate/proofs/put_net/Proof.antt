@@ -10,8 +10,8 @@ head-requires c κs = search needs
 of-rows-requires : tie.Need-of-rows-requires
 of-rows-requires c κs = search needs
 
-of-items-requires : tie.Need-of-items-requires
-of-items-requires c κs = search needs
+of-counts-requires : tie.Need-of-counts-requires
+of-counts-requires c κs = search needs
 
 transitions-requires : tie.Need-transitions-requires
 transitions-requires c κs = search needs
@@ -21,7 +21,7 @@ same-length c = search needs
 
 returns : tie.Need-returns
 unfolding netRecords
-returns c = and-then (and-then (and-then (c .before .before .before .before .before .before .before .before .before .before .before .before .before .before .head .ensures) (c .before .before .before .before .before .before .before .before .before .before .of-rows .ensures)) (c .before .before .before .before .before .before .of-items .ensures)) (c .before .before .transitions .ensures)
+returns c = and-then (and-then (and-then (c .before .before .before .before .before .before .before .before .before .before .before .before .before .before .head .ensures) (c .before .before .before .before .before .before .before .before .before .before .of-rows .ensures)) (c .before .before .before .before .before .before .of-counts .ensures)) (c .before .before .transitions .ensures)
 
 pub put-net-spec : {M : Type 1} → statement M
 put-net-spec =
@@ -29,7 +29,7 @@ put-net-spec =
     (tie.spec
     head-requires
     of-rows-requires
-    of-items-requires
+    of-counts-requires
     transitions-requires
     same-length
     returns)

@@ -1,7 +1,8 @@
 //! The net of a plant, drawn: each row's places and transitions where the diagram has the row.
 //!
 //! The layout offers a way to every arc that goes with the flow; which arcs there are is asked of the net alone. An arc without
-//! a way, such as one to an item, ends at a copy of its place under the transition.
+//! a way, such as one to an item, ends at a copy of its place under the transition: the sign once more, dashed. What is given to all
+//! copies of a trigger, places of their own, ends at one such sign.
 
 mod signs;
 mod turns;
@@ -11,8 +12,8 @@ use super::page::Page;
 use super::sheet::{Frame, Group, Line, Node, Outline, Sheet};
 use super::text::Words;
 use super::tree;
-use crate::net::{home, place_words, Arc, Home, Net};
-use crate::plant::{Part, Plant};
+use crate::net::{homes, place_words, Arc, Home, Net};
+use crate::plant::{Count, Part, Plant};
 use crate::structure;
 use signs::{side_by_side, Column, BAR, PLACE};
 
@@ -22,12 +23,13 @@ pub fn sheet(plant: &Plant, net: &Net) -> Sheet {
     let mut cells = Marked {
         plant,
         net,
+        homes: homes(plant).collect(),
         arcs: arcs(net),
         copies: Vec::new(),
     };
     let ways = tree::sheet(None, &tree::run(plant, &cells, &rows)).lines;
     let wayless = |arc: &NetArc| !ways.iter().any(|line| arc.goes(line));
-    cells.copies = cells.arcs.iter().copied().filter(wayless).collect();
+    cells.copies = cells.bundled(cells.arcs.iter().copied().filter(wayless));
     let mut drawing = tree::sheet(None, &tree::run(plant, &cells, &rows));
     drawing.lines.retain(|line| cells.has(line));
     let legend = cells.legend(&drawing);
@@ -36,21 +38,28 @@ pub fn sheet(plant: &Plant, net: &Net) -> Sheet {
         drawing,
         heading: (!legend.is_empty()).then(|| "Places of the items".to_string()),
         legend,
-        notes: notes(net),
+        notes: notes(plant, net),
     }
     .sheet()
 }
 
-fn notes(net: &Net) -> Vec<String> {
+fn notes(plant: &Plant, net: &Net) -> Vec<String> {
     let places = 0..net.marks.len();
     let drawn = places.filter(|place| net.used(*place)).count();
     let left_out = net.marks.len() - drawn;
-    vec![
+    let mut notes = vec![
         "P, Q, R and a number: a place. t and a number: a transition, with its interval in ticks of 0.1 s."
             .to_string(),
         "A dashed place stands for the one of its number. ×n: an arc of weight n.".to_string(),
         format!("Drawn are {drawn} places. Left out are {left_out} that no arc names and that are never marked."),
-    ]
+    ];
+    if let Some(trigger) = plant.triggers().next() {
+        let name = &plant.items[trigger].name;
+        notes.push(format!(
+            "{name}@ and a row: the copy of trigger {name} that the row takes from. {name}@*: all its copies, with an arc to each."
+        ));
+    }
+    notes
 }
 
 /// An arc of the net.
@@ -100,13 +109,22 @@ fn arcs(net: &Net) -> Vec<NetArc> {
         .collect()
 }
 
+/// Arcs of a transition that end at one sign: to or from one place, or to all copies of a trigger.
+#[derive(Clone, Copy, PartialEq, Eq)]
+struct Bundle {
+    first: NetArc,
+    last: usize,
+}
+
 /// The cells of a net.
 struct Marked<'a> {
     plant: &'a Plant,
     net: &'a Net,
+    /// What each place belongs to.
+    homes: Vec<Home>,
     arcs: Vec<NetArc>,
     /// Those that end at copies.
-    copies: Vec<NetArc>,
+    copies: Vec<Bundle>,
 }
 
 impl Cells for Marked<'_> {
@@ -160,6 +178,37 @@ fn over_entry(entry: Port) -> Port {
 }
 
 impl Marked<'_> {
+    /// The trigger that a place is a copy of.
+    fn trigger(&self, place: usize) -> Option<usize> {
+        match self.homes[place] {
+            Home::Count(Count::Copy { item, .. }) => Some(item),
+            _ => None,
+        }
+    }
+
+    /// The arcs, those that give to copies of one trigger together.
+    fn bundled(&self, arcs: impl Iterator<Item = NetArc>) -> Vec<Bundle> {
+        let mut bundles: Vec<Bundle> = Vec::new();
+        for arc in arcs {
+            let goes_on = |Bundle { first, last }: &Bundle| {
+                let trigger = self.trigger(arc.place);
+                let next = NetArc {
+                    place: last + 1,
+                    ..*first
+                };
+                arc.gives && arc == next && trigger.is_some() && trigger == self.trigger(*last)
+            };
+            match bundles.last_mut() {
+                Some(bundle) if goes_on(bundle) => bundle.last = arc.place,
+                _ => bundles.push(Bundle {
+                    first: arc,
+                    last: arc.place,
+                }),
+            }
+        }
+        bundles
+    }
+
     /// The transitions that a row labels.
     fn transitions(&self, row: usize) -> Vec<usize> {
         let transitions = self.net.transitions.iter().enumerate();
@@ -210,8 +259,8 @@ impl Marked<'_> {
 
     /// A place with its mark and what it is.
     fn listed(&self, place: usize) -> Group {
-        let what = match home(self.plant, place) {
-            Home::Item(item) => self.plant.items[item].name.clone(),
+        let what = match self.homes[place] {
+            Home::Count(count) => self.plant.count_name(count),
             Home::Row { .. } => place_words(self.plant, place),
         };
         let words = vec![Words::plain(format!("{place} {what}"), 11)];

@@ -1,10 +1,10 @@
 //! A net's signs: places and transitions, each with what stands under it.
 
-use super::{Marked, NetArc};
+use super::{Bundle, Marked};
 use crate::draw::cell::{Cell, Port};
 use crate::draw::sheet::{Frame, Group, Line, Node, Outline, Point, Style};
 use crate::draw::text::{wrapped, Words};
-use crate::net::{home, place_words, transition_words, Home};
+use crate::net::{place_range, place_words, transition_words, Home};
 
 pub const PLACE: i32 = 32;
 pub const BAR: (i32, i32) = (10, 40);
@@ -81,9 +81,9 @@ impl Marked<'_> {
 
     /// Its number and which of its row's places it is.
     pub fn place_label(&self, place: usize) -> Words {
-        let letter = match home(self.plant, place) {
+        let letter = match self.homes[place] {
             Home::Row { which, .. } => LETTERS[which],
-            Home::Item(_) => "item",
+            Home::Count(_) => "item",
         };
         Words::bold(format!("{letter} {place}"), 10)
     }
@@ -114,9 +114,11 @@ impl Marked<'_> {
         let mut under = vec![self.transition_label(number)];
         under.extend(self.clears(number));
         let copies = self.copies.iter();
-        let copies: Vec<&NetArc> = copies.filter(|arc| arc.transition == number).collect();
+        let copies: Vec<&Bundle> = copies
+            .filter(|bundle| bundle.first.transition == number)
+            .collect();
         let first_copy = 1 + under.len();
-        under.extend(copies.iter().map(|arc| self.copy(arc)));
+        under.extend(copies.iter().map(|bundle| self.copy(bundle)));
         let beside = if copies.is_empty() { 0 } else { STUB };
         let bar = Frame::sign(Outline::Bar, BAR.0, BAR.1, Vec::new());
         let frames = stacked(bar, under, beside);
@@ -126,8 +128,8 @@ impl Marked<'_> {
         };
         let column = column(Node::Transition(number), frames, group, beside);
         let frames = &column.group.frames;
-        let arcs = copies.iter().zip(&frames[first_copy..]);
-        let lines = arcs.map(|(arc, copy)| copy_line(arc, copy, &frames[0], column.width));
+        let signs = copies.iter().zip(&frames[first_copy..]);
+        let lines = signs.map(|(bundle, copy)| copy_line(bundle, copy, &frames[0], column.width));
         Column {
             lines: lines.collect(),
             ..column
@@ -152,17 +154,21 @@ impl Marked<'_> {
         })
     }
 
-    /// A place once more, with the arc's weight.
-    fn copy(&self, arc: &NetArc) -> Frame {
-        let what = match home(self.plant, arc.place) {
-            Home::Item(item) => self.plant.items[item].name.clone(),
-            Home::Row { row, which } => format!("{} of row {row}", LETTERS[which]),
+    /// A place once more, or all copies of a trigger, with the arcs' weight.
+    fn copy(&self, Bundle { first, last }: &Bundle) -> Frame {
+        let what = match (self.homes[first.place], self.trigger(first.place)) {
+            (Home::Row { row, which }, _) => format!("{} of row {row}", LETTERS[which]),
+            (_, Some(trigger)) if first.place != *last => {
+                format!("{}@*", self.plant.items[trigger].name)
+            }
+            (Home::Count(count), _) => self.plant.count_name(count),
         };
-        let weight = match arc.weight {
+        let weight = match first.weight {
             1 => String::new(),
             weight => format!(" ×{weight}"),
         };
-        let words = Words::plain(format!("{} {what}{weight}", arc.place), 10);
+        let places = place_range(first.place, *last);
+        let words = Words::plain(format!("{places} {what}{weight}"), 10);
         Frame::around(Outline::Copy, vec![words], 8, 2)
     }
 }
@@ -203,12 +209,14 @@ fn column(
 }
 
 /// From a copy up beside what is over it and into the bar, or the other way round.
-fn copy_line(arc: &NetArc, copy: &Frame, bar: &Frame, width: i32) -> Line {
+fn copy_line(bundle: &Bundle, copy: &Frame, bar: &Frame, width: i32) -> Line {
     let level = bar.level() + COPIES_LEVEL;
+    let Bundle { first: arc, last } = *bundle;
     let transition = Node::Transition(arc.transition);
     let place = Node::Copy {
         transition: arc.transition,
-        place: arc.place,
+        first: arc.place,
+        last,
     };
     let path = |side: i32, rail: i32, bar: i32| -> Vec<Point> {
         let low = copy.level();

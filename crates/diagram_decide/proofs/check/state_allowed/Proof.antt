@@ -1,68 +1,31 @@
-use Rattle.diagram_moves.specs.RowStores.{all-more, all-less}
-use Rattle.diagram_moves.specs.Decisions.{rowAllowed, stateAllowed}
-use Rattle.ranges.specs.RangeLaws.{all-fail}
-use Rattle.effbd.specs.Ranges.{allBelow}
-use mathlib.Core.Bool.{true}
-use mathlib.Core.Path.{_≡_, refl, sym, _∙_}
-use Prim.Native.Nat.{_≤_, _-_}
-use borrow.Author.Tests.{eq-eqb, ne-eqb, not-true, not-false}
-use native.Mathlib.Omega.{arith}
+use Rattle.diagram_decide.proofs.RowsChecked.{rows-off, rows-pass}
+use borrow.Author.Tests.{not-true, not-false}
+use mathlib.Core.Path.{sym, _∙_}
 use borrow.Author.Needs.{needs}
 use Rattle.diagram_decide.proofs.check.state_allowed.Statement.{statement}
 use Rattle.diagram_decide.proofs.check.state_allowed.Tie as tie
 
-abbrev Inv-loop : tie.InvT-loop
-Inv-loop table rows items state row₀ row = (row ≤ rows) × (allBelow row (rowAllowed table state) ≡ true)
+count-total-requires : tie.Need-count-total-requires
+count-total-requires c κs = search needs
 
-abbrev μ-loop : tie.MeasureT-loop
-μ-loop table rows items state row₀ row = rows - row
+rows-allowed-requires : tie.Need-rows-allowed-requires
+rows-allowed-requires c κs = search needs
 
-mul-if1 : tie.Need-mul-if1 Inv-loop μ-loop
-mul-if1 c = search needs
+returns : tie.Need-returns
+returns c = let a = c .before .before .before .before .before .args in rows-off (a .table .now) (a .rows) (a .items) (a .state .now) (c .before .before .count-total .ensures) (c .before .rows-allowed .ensures) (not-true _ (c .if1 .taken))
 
-add-if1 : tie.Need-add-if1 Inv-loop μ-loop
-add-if1 c = search needs
+shared-allowed-requires : tie.Need-shared-allowed-requires
+shared-allowed-requires c κs = search needs
 
-returns : tie.Need-returns Inv-loop μ-loop
-unfolding stateAllowed
-returns c = rw (ne-eqb _ _ (c .if1 .taken))
-
-loop-holds : tie.Need-loop-holds Inv-loop μ-loop
-loop-holds c = (search needs, refl)
-
-row-allowed-requires : tie.Need-row-allowed-requires Inv-loop μ-loop
-row-allowed-requires c κs = search needs
-
-returns-2 : tie.Need-returns-2 Inv-loop μ-loop
-unfolding stateAllowed
-returns-2 c = rw (eq-eqb _ _ (c .before .before .before .before .if1 .left)) (sym (all-fail (c .before .before .before .before .before .before .before .args .rows) (rowAllowed (c .before .before .before .before .before .before .before .args .table .now) (c .before .before .before .before .before .before .before .args .state .now)) (c .before .before .before .loop .row) (omega arith) (sym (c .before .row-allowed .ensures) ∙ not-true _ (c .if2 .taken))))
-
-add-row : tie.Need-add-row Inv-loop μ-loop
-add-row c = search needs
-
-loop-less : tie.Need-loop-less Inv-loop μ-loop
-loop-less c = search needs
-
-loop-again : tie.Need-loop-again Inv-loop μ-loop
-loop-again c = (omega arith, all-more (rowAllowed (c .before .before .before .before .before .before .before .args .table .now) (c .before .before .before .before .before .before .before .args .state .now)) (c .before .before .before .loop .row) (c .before .before .before .loop .inv .1) (sym (c .before .row-allowed .ensures) ∙ not-false _ (c .if2 .left)))
-
-returns-3 : tie.Need-returns-3 Inv-loop μ-loop
-unfolding stateAllowed
-returns-3 c = rw (eq-eqb _ _ (c .before .before .if1 .left)) (all-less (rowAllowed (c .before .before .before .before .before .args .table .now) (c .before .before .before .before .before .args .state .now)) (c .before .loop .row) (c .before .before .before .before .before .args .rows) (c .before .loop .inv .1) (omega arith))
+returns-2 : tie.Need-returns-2
+returns-2 c = let a = c .before .before .before .before .before .before .args in c .shared-allowed .ensures ∙ sym (rows-pass (a .table .now) (a .rows) (a .items) (a .state .now) (c .before .before .before .count-total .ensures) (c .before .before .rows-allowed .ensures) (not-false _ (c .before .if1 .left)))
 
 pub state-allowed-spec : {M : Type 1} → statement M
 state-allowed-spec =
     tie.close
     (tie.spec
-    Inv-loop
-    μ-loop
-    mul-if1
-    add-if1
+    count-total-requires
+    rows-allowed-requires
     returns
-    loop-holds
-    row-allowed-requires
-    returns-2
-    add-row
-    loop-less
-    loop-again
-    returns-3)
+    shared-allowed-requires
+    returns-2)

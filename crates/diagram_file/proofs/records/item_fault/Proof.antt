@@ -12,16 +12,25 @@ word-requires-2 c κs = search needs
 base-length-requires : tie.Need-base-length-requires
 base-length-requires c κs = search needs
 
+is-item-requires : tie.Need-is-item-requires
+is-item-requires c κs = search needs
+
 record-fault-requires : tie.Need-record-fault-requires
 record-fault-requires c κs = search needs
 
 returns : tie.Need-returns
 returns c =
-    let a = c .before .before .before .before .before .before .args in
-    item-fault-is (a .bytes .now) (c .before .before .before .word .result) (c .before .before .word2 .result) (c .before .base-length .result) (c .record-fault .result) (c .before .before .before .word .ensures) (c .before .before .word2 .ensures)
-    (base-at (a .entries .now) (c .before .before .before .word .result) (c .before .before .before .before .before .before .pre) (c .before .base-length .ensures)) (c .record-fault .ensures)
+    let a = c .before .before .before .before .before .before .before .args in
+    item-fault-is (a .bytes .now) (c .before .before .before .before .word .result) (c .before .before .before .word2 .result) (c .before .before .base-length .result) (c .record-fault .result) (c .before .is-item .result) (c .before .before .before .before .word .ensures) (c .before .before .before .word2 .ensures)
+    (base-at (a .entries .now) (c .before .before .before .before .word .result) (c .before .before .before .before .before .before .before .pre) (c .before .before .base-length .ensures)) (c .before .is-item .ensures) (c .record-fault .ensures)
 
 pub item-fault-spec : {M : Type 1} → statement M
 item-fault-spec =
     tie.close
-    (tie.spec word-requires word-requires-2 base-length-requires record-fault-requires returns)
+    (tie.spec
+    word-requires
+    word-requires-2
+    base-length-requires
+    is-item-requires
+    record-fault-requires
+    returns)

@@ -1,8 +1,9 @@
-use mathlib.Core.Path.{sym, _∙_}
-use native.Mathlib.Omega.{arith}
-use Prim.Native.Nat.{_-_, _≤_}
-use Rattle.diagram_file.specs.Reading.{ItemsState}
 use Rattle.diagram_file.proofs.RecordsRead.{items-start, items-turn, items-stop, items-end}
+use Rattle.diagram_file.specs.Reading.{ItemsState}
+use lib.Dec.{eqb}
+use Prim.Native.Nat.{ℕ, _-_, _≤_}
+use native.Mathlib.Omega.{arith}
+use mathlib.Core.Path.{_≡_, sym, _∙_, ap}
 use borrow.Author.Needs.{needs}
 use Rattle.diagram_file.proofs.records.read_items.Statement.{statement}
 use Rattle.diagram_file.proofs.records.read_items.Tie as tie
@@ -27,20 +28,17 @@ returns c =
     let l = c .before .before .before .loop in let a = c .before .before .before .before .before .before .before .args in
     items-stop (a .from) (a .lines .now) (l .item) (l .at) (l .rest .now) (l .table) (l .inv .1) (a .items) (a .rows) (c .before .item-fault .result) (c .before .before .loop-test .taken) (c .before .item-fault .ensures) (c .if1 .taken)
 
-cast-put : tie.Need-cast-put Inv-loop μ-loop
-cast-put c = search needs
-
-add-put : tie.Need-add-put Inv-loop μ-loop
-add-put c = search needs
-
 word-requires : tie.Need-word-requires Inv-loop μ-loop
 word-requires c κs = search needs
 
-put-requires : tie.Need-put-requires Inv-loop μ-loop
-put-requires c κs = search needs
-
 word-requires-2 : tie.Need-word-requires-2 Inv-loop μ-loop
 word-requires-2 c κs = search needs
+
+put-item-requires : tie.Need-put-item-requires Inv-loop μ-loop
+put-item-requires c κs = search needs
+
+word-requires-3 : tie.Need-word-requires-3 Inv-loop μ-loop
+word-requires-3 c κs = search needs
 
 cast-size : tie.Need-cast-size Inv-loop μ-loop
 cast-size c = search needs
@@ -55,14 +53,14 @@ add-item : tie.Need-add-item Inv-loop μ-loop
 add-item c = search needs
 
 loop-less : tie.Need-loop-less Inv-loop μ-loop
-loop-less c = omega (arith, c .before .before .before .before .before .before .before .before .before .loop-test .taken)
+loop-less c = omega (arith, c .before .before .before .before .before .before .before .before .before .before .loop-test .taken)
 
 loop-again : tie.Need-loop-again Inv-loop μ-loop
 loop-again c =
-    let l = c .before .before .before .before .before .before .before .before .before .before .loop in let a = c .before .before .before .before .before .before .before .before .before .before .before .before .before .before .args in (
-      omega (arith, c .before .before .before .before .before .before .before .before .before .loop-test .taken),
-      items-turn (a .from) (a .lines .now) (l .item) (l .at) (l .rest .now) (l .table) (l .inv .1) (c .before .word2 .result) (c .before .before .before .before .before .word .result) (c .tail .result .now) (c .before .before .before .before .put .last .0)
-          (omega (arith, c .before .before .before .before .before .before .before .before .before .loop-test .taken, c .before .before .before .before .before .before .before .before .before .before .before .before .before .before .pre .0 .1)) (sym (c .before .before .before .before .before .before .before .before .item-fault .ensures) ∙ c .before .before .before .before .before .before .before .if1 .left) (c .before .before .before .before .before .word .ensures) (c .before .word2 .ensures) (c .tail .ensures) (c .before .before .before .before .put .ensures),
+    let l = c .before .before .before .before .before .before .before .before .before .before .before .loop in let a = c .before .before .before .before .before .before .before .before .before .before .before .before .before .before .before .args in (
+      omega (arith, c .before .before .before .before .before .before .before .before .before .before .loop-test .taken),
+      items-turn (a .from) (a .lines .now) (l .item) (l .at) (l .rest .now) (l .table) (l .inv .1) (c .before .word3 .result) (c .before .before .before .before .before .before .word .result) (eqb (c .before .before .before .before .before .word2 .result) 3) (c .tail .result .now) (c .before .before .before .before .put-item .last .0)
+          (omega (arith, c .before .before .before .before .before .before .before .before .before .before .loop-test .taken, c .before .before .before .before .before .before .before .before .before .before .before .before .before .before .before .pre .0 .1)) (sym (c .before .before .before .before .before .before .before .before .before .item-fault .ensures) ∙ c .before .before .before .before .before .before .before .before .if1 .left) (c .before .before .before .before .before .before .word .ensures) (ap (λ (x : ℕ). eqb x 3) (c .before .before .before .before .before .word2 .ensures)) (c .before .word3 .ensures) (c .tail .ensures) (c .before .before .before .before .put-item .ensures),
     )
 
 read-rows-requires : tie.Need-read-rows-requires Inv-loop μ-loop
@@ -70,13 +68,18 @@ read-rows-requires c κs =
     let l = c .before .before .loop in let p = c .before .before .before .before .before .before .pre in
     (((omega (arith, l .inv .1 .near, l .inv .0, p .0 .0 .0, p .0 .1), p .0 .0 .1), p .0 .1), (l .inv .1 .long, p .1 .1))
 
+refine-requires : tie.Need-refine-requires Inv-loop μ-loop
+refine-requires c κs =
+    let l = c .before .before .before .before .before .before .loop in let p = c .before .before .before .before .before .before .before .before .before .before .pre in
+    (record { before = l .table; read = c .before .before .before .read-rows .ensures }, (((omega (arith, l .inv .1 .near, l .inv .0, p .0 .0 .0, p .0 .1), p .0 .0 .1), p .0 .1), p .1 .1))
+
 same-length-2 : tie.Need-same-length-2 Inv-loop μ-loop
 same-length-2 c = search needs
 
 returns-2 : tie.Need-returns-2 Inv-loop μ-loop
 returns-2 c =
-    let l = c .before .before .before .before .before .loop in let a = c .before .before .before .before .before .before .before .before .before .args in
-    items-end (a .from) (a .lines .now) (l .item) (l .at) (l .rest .now) (l .table) (l .inv .1) (a .items) (a .rows) (c .before .before .read-rows .last .1 .1 .1 .1 .1 .0) (c .before .before .read-rows .result) (omega (arith, c .before .before .before .before .loop-test .left, l .inv .0)) (c .before .before .read-rows .ensures)
+    let l = c .before .before .before .before .before .before .before .loop in let a = c .before .before .before .before .before .before .before .before .before .before .before .args in
+    items-end (a .from) (a .lines .now) (l .item) (l .at) (l .rest .now) (l .table) (l .inv .1) (a .items) (a .rows) (c .before .before .before .before .read-rows .last .1 .1 .1 .1 .1 .0) (c .refine .result) (omega (arith, c .before .before .before .before .before .before .loop-test .left, l .inv .0)) (c .refine .ensures .is (l .table) (c .before .before .before .before .read-rows .ensures))
 
 pub read-items-spec : {M : Type 1} → statement M
 read-items-spec =
@@ -88,11 +91,10 @@ read-items-spec =
     item-fault-requires
     same-length
     returns
-    cast-put
-    add-put
     word-requires
-    put-requires
     word-requires-2
+    put-item-requires
+    word-requires-3
     cast-size
     tail-requires
     add-at
@@ -100,5 +102,6 @@ read-items-spec =
     loop-less
     loop-again
     read-rows-requires
+    refine-requires
     same-length-2
     returns-2)

@@ -1,10 +1,10 @@
-use Prim.Native.Nat.{_-_, _≤_}
-use mathlib.Core.Path.{_≡_, ap}
-use native.Mathlib.Omega.{arith}
-use Rattle.net_records.specs.Writing.{Wrote, runs}
-use Rattle.net_records.specs.Records.{mark}
-use Rattle.net_rows.specs.Marks.{itemMark}
 use Rattle.net_records.proofs.Writing.{still, again, same, wrote-length}
+use Rattle.net_rows.specs.Marks.{itemMark}
+use Rattle.net_records.specs.Records.{mark}
+use Rattle.net_records.specs.Writing.{Wrote, runs}
+use native.Mathlib.Omega.{arith}
+use mathlib.Core.Path.{_≡_, ap}
+use Prim.Native.Nat.{_-_, _≤_}
 use borrow.Author.Needs.{needs}
 use Rattle.net_rows.proofs.marks.of_items.Statement.{statement}
 use Rattle.net_rows.proofs.marks.of_items.Tie as tie
@@ -19,11 +19,11 @@ loop-holds : tie.Need-loop-holds Inv-loop μ-loop
 unfolding runs
 loop-holds c = (search needs, still (c .before .before .args .area .now) (c .before .before .args .at))
 
-cast-cell : tie.Need-cast-cell Inv-loop μ-loop
-cast-cell c = search needs
+cast-shared-count : tie.Need-cast-shared-count Inv-loop μ-loop
+cast-shared-count c = search needs
 
-cell-requires : tie.Need-cell-requires Inv-loop μ-loop
-cell-requires c κs = search needs
+shared-count-requires : tie.Need-shared-count-requires Inv-loop μ-loop
+shared-count-requires c κs = search needs
 
 mark-requires : tie.Need-mark-requires Inv-loop μ-loop
 mark-requires c κs = search needs
@@ -36,15 +36,16 @@ loop-less c = search needs
 
 loop-again : tie.Need-loop-again Inv-loop μ-loop
 unfolding itemMark
-loop-again c = let a = c .before .before .before .before .before .before .before .before .before .args in
+loop-again c =
     let l = c .before .before .before .before .before .before .loop in
-    (omega arith, again (itemMark (a .table .now)) (l .item) (l .inv .1) (same (ap mark (c .before .before .before .before .cell .ensures)) (c .before .before .mark .ensures)))
+    (omega arith, again (itemMark (c .before .before .before .before .before .before .before .before .before .args .table .now)) (l .item) (l .inv .1) (same (ap mark (c .before .before .before .before .shared-count .ensures)) (c .before .before .mark .ensures)))
 
 same-length : tie.Need-same-length Inv-loop μ-loop
 same-length c = wrote-length (c .before .loop .inv .1)
 
 returns : tie.Need-returns Inv-loop μ-loop
-returns c = let a = c .before .before .before .before .args in
+returns c =
+    let a = c .before .before .before .before .args in
     let l = c .before .loop in
     let e : l .item ≡ a .items = omega arith in
     same (ap (runs (itemMark (a .table .now))) e) (l .inv .1)
@@ -56,8 +57,8 @@ of-items-spec =
     Inv-loop
     μ-loop
     loop-holds
-    cast-cell
-    cell-requires
+    cast-shared-count
+    shared-count-requires
     mark-requires
     add-item
     loop-less

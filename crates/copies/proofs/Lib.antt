@@ -1,0 +1,9 @@
+pub mod Turns
+pub mod Rising
+pub mod UsesCounted
+pub mod RowsCounted
+pub mod CopiesNumbered
+pub mod Fronts
+pub mod CopiesCounted
+pub mod Plants
+pub mod Freshness

@@ -1,0 +1,62 @@
+-- What is left in a table and in a state, store by store, in the program's own order: receivers and ranks, numbers of copies, the runs of a fresh state.
+-- Assumes nothing.
+use Prim.Native.Nat.{ℕ, zero, suc, _+_, _-_, _*_}
+use mathlib.Core.Bool.{Bool, true, not, cond, _&&_}
+use mathlib.Core.List.{List, [], _∷_}
+use lib.ListN.{take, set}
+use lib.Dec.{ltb, eqb}
+use Rattle.effbd.specs.Diagrams.{Use}
+use Rattle.effbd.specs.Moves.{mostWord}
+use Rattle.words.specs.Stores.{copied}
+use Rattle.diagram_table.specs.Cells.{itemCell, someTriggerCell, copiesCell, rankCell, kindIn, countIn, triggerIn, receiversIn, runFirst, runLength, usesIn}
+
+-- a sum, which stops at the largest word
+unfoldable pub sumTo : ℕ → ℕ → ℕ
+sumTo number more = cond (ltb (mostWord - more) number) mostWord (number + more)
+
+-- a FUNCTION that takes so much of item k receives it: of a trigger, and not 0
+unfoldable pub receivesIn : (table : List ℕ) (k much : ℕ) → Bool
+receivesIn table k much = not (eqb (triggerIn table k) 0) && not (eqb much 0)
+
+-- a use, which takes so much of item k, with its rank in cell `at`: the rows that receive the item so far; perhaps there is one more
+unfoldable pub useCounted : (at k much : ℕ) → List ℕ → List ℕ
+useCounted at k much table = cond (receivesIn table k much)
+    (set (set table at (receiversIn table k)) (itemCell 2 k) (sumTo (receiversIn table k) 1))
+    (set table at (receiversIn table k))
+
+-- uses of a row, with their ranks from cell `at` on
+unfoldable pub usesCounted : (at : ℕ) → List Use → List ℕ → List ℕ
+usesCounted at [] table = table
+usesCounted at (u ∷ us) table = usesCounted (at + 1) us (useCounted at (u .item) (u .take) table)
+
+-- row r, where it is a FUNCTION; the first n rows
+unfoldable pub rowCounted : (file : List ℕ) (r : ℕ) → List ℕ → List ℕ
+rowCounted file r table = cond (eqb (kindIn table r) 16) (usesCounted (rankCell r 0) (usesIn table file r) table) table
+
+unfoldable pub rowsCounted : (file : List ℕ) (n : ℕ) → List ℕ → List ℕ
+rowsCounted file zero table = table
+rowsCounted file (suc r) table = rowCounted file r (rowsCounted file r table)
+
+-- n items from item k on, in front of which `many` copies stand; behind the last one the number of all copies
+unfoldable pub copiesNumbered : (items n k many : ℕ) → List ℕ → List ℕ
+copiesNumbered items zero k many table = set table copiesCell many
+copiesNumbered items (suc n) k many table = copiesNumbered items n (k + 1) (sumTo many (receiversIn table k)) (set table (itemCell 3 k) (sumTo items many))
+
+-- a table's records in front of zeros, with all that is said of copies
+unfoldable pub copiesCounted : (file : List ℕ) (rows items : ℕ) (table zeros : List ℕ) → List ℕ
+copiesCounted file rows items table zeros =
+    copiesNumbered items items 0 0 (rowsCounted file rows (set (copied (take (itemCell 2 0) table) zeros) someTriggerCell 1))
+
+-- a value at `many` places
+unfoldable pub runPut : (from many value : ℕ) → List ℕ → List ℕ
+runPut from zero value state = state
+runPut from (suc n) value state = set (runPut from n value state) (from + n) value
+
+-- the initial counts of the first n items, each at the counts that a give of it changes
+unfoldable pub runsPut : (rows n : ℕ) (table state : List ℕ) → List ℕ
+runsPut rows zero table state = state
+runsPut rows (suc k) table state = runPut (3 * rows + runFirst table true 0 0 k) (runLength table true k) (countIn table k) (runsPut rows k table state)
+
+-- the words of the rows and the items in front of zeros, with the copies of triggers
+unfoldable pub freshPut : (rows items : ℕ) (plain table zeros : List ℕ) → List ℕ
+freshPut rows items plain table zeros = runsPut rows items table (copied (take (3 * rows + items) plain) zeros)

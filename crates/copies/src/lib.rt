@@ -1,0 +1,202 @@
+// The copies of a diagram's triggers: a count of its own for each row that takes one. Counts them, numbers them behind the items in a table that is
+// wide enough for the rank of every use, and makes the fresh state that has them.
+// Nothing is asked of a caller: past the end a cell is 0, a store changes nothing.
+ghost use mathlib.Core.Path.{_≡_};
+ghost use Prim.Native.Nat.{_+_, _*_};
+ghost use lib.ListN.{take};
+ghost use Rattle.diagram_table.specs.Cells.{rankCell, usesOf};
+ghost use Rattle.copies.specs.Counting.{sumTo, receivesIn, useCounted, usesCounted, rowCounted, rowsCounted, copiesNumbered, copiesCounted, runPut, runsPut, freshPut};
+ghost use Rattle.copies.specs.Promised.{Widened, CopyTotal, FreshMade};
+use diagram_table::CELLS;
+use diagram_table::COPIES;
+use diagram_table::COUNT;
+use diagram_table::FIRST_COPY;
+use diagram_table::RANK;
+use diagram_table::RECEIVERS;
+use diagram_table::SOME_TRIGGER;
+use diagram_table::TRIGGER;
+use diagram_table::USE_SIZE;
+use diagram_table::WIDE;
+use effbd::limits::MOST_ITEMS;
+use effbd::limits::MOST_PLACES;
+use effbd::limits::MOST_WORD;
+use words::kinds;
+
+// A sum, which stops at 65,535.
+fn added(number: u16, more: u16) -> u16
+    ensures { λ r. ⌜ r ≡ sumTo number more ⌝ }
+{
+    if MOST_WORD - more < number {
+        return MOST_WORD;
+    }
+    number + more
+}
+
+// The first `n` words of a list, or all that it has.
+fn front<'a>(list: &'a [u16], n: usize) -> &'a [u16]
+    ensures { λ r. ⌜ now r ≡ take n (now (list .entry)) ⌝ }
+{
+    if n <= list.len() {
+        return &list[0..n];
+    }
+    &list[0..list.len()]
+}
+
+// A FUNCTION that takes `much` of an item receives it, where it is a trigger and `much` is not 0.
+fn receives(table: &[u16], item: u32, much: u16) -> bool
+    ensures { λ r. ⌜ r ≡ receivesIn (now (table .entry)) item much ⌝ }
+{
+    if diagram_table::cell(table, TRIGGER, item) == 0 {
+        return false;
+    }
+    much != 0
+}
+
+// A use, which takes `much` of an item: its rank, in cell `at`, and perhaps one receiver more.
+fn count_use(table: &mut [u16], at: usize, item: u32, much: u16)
+    ensures { λ _. ⌜ now (table .exit) ≡ useCounted at item much (now (table .entry)) ⌝ }
+{
+    let above = diagram_table::cell(table, RECEIVERS, item);
+    let one_more = receives(table, item, much);
+    words::put(table, at, above);
+    if one_more {
+        words::put(table, RECEIVERS as usize + item as usize, added(above, 1));
+    }
+}
+
+// The uses of a row, in their order.
+fn count_uses(table: &mut [u16], uses: &[u8], row: u32)
+    ensures { λ _. ⌜ now (table .exit) ≡ usesCounted (rankCell row 0) (usesOf (now (uses .entry))) (now (table .entry)) ⌝ }
+{
+    let mut at: usize = RANK as usize + MOST_ITEMS as usize * row as usize;
+    let mut rest = uses;
+    while USE_SIZE <= rest.len() {
+        let item = words::word(rest, 0) as u32;
+        let much = words::word(rest, 2);
+        count_use(table, at, item, much);
+        at += 1;
+        let more = words::tail(rest, USE_SIZE);
+        rest = more;
+    }
+}
+
+fn count_row(table: &mut [u16], file: &[u8], row: u32)
+    ensures { λ _. ⌜ now (table .exit) ≡ rowCounted (now (file .entry)) row (now (table .entry)) ⌝ }
+{
+    if diagram_table::kind(table, row) != kinds::FUNCTION {
+        return;
+    }
+    let uses = diagram_table::uses(file, table, row);
+    count_uses(table, uses, row);
+}
+
+// All rows, in their order: a rank counts the receivers above.
+fn count_rows(table: &mut [u16], file: &[u8], rows: u16)
+    ensures { λ _. ⌜ now (table .exit) ≡ rowsCounted (now (file .entry)) rows (now (table .entry)) ⌝ }
+{
+    let mut row: u32 = 0;
+    while row < rows as u32 {
+        count_row(table, file, row);
+        row += 1;
+    }
+}
+
+// Copies follow the items, "by item and then row".
+fn number_copies(table: &mut [u16], items: u16)
+    ensures { λ _. ⌜ now (table .exit) ≡ copiesNumbered items items 0 0 (now (table .entry)) ⌝ }
+{
+    let mut copies: u16 = 0;
+    let mut item: u32 = 0;
+    while item < items as u32 {
+        let receivers = diagram_table::cell(table, RECEIVERS, item);
+        words::put(
+            table,
+            FIRST_COPY as usize + item as usize,
+            added(items, copies),
+        );
+        copies = added(copies, receivers);
+        item += 1;
+    }
+    words::put(table, COPIES as usize, copies);
+}
+
+// Fills a zeroed table: another one's records, and what follows from them of copies; ranks as far as it has cells for them.
+fn count_copies(wide: &mut [u16], table: &[u16], rows: u16, items: u16, file: &[u8])
+    ensures { λ _. ⌜ now (wide .exit) ≡ copiesCounted (now (file .entry)) rows items (now (table .entry)) (now (wide .entry)) ⌝ }
+{
+    words::copy(wide, front(table, RECEIVERS as usize));
+    words::put(wide, SOME_TRIGGER as usize, 1);
+    count_rows(wide, file, rows);
+    number_copies(wide, items);
+}
+
+// The table of a file with triggers, widened by all that is asked of their copies.
+pub fn widened(table: &[u16], rows: u16, items: u16, file: &[u8]) -> [u16; WIDE]
+    ensures { λ r. ⌜ Widened (now (file .entry)) rows items (now (table .entry)) r ⌝ }
+{
+    let mut wide = [0u16; WIDE];
+    count_copies(&mut wide[0..WIDE], table, rows, items, file);
+    wide
+}
+
+// How many copies there are; the table needs no structure of rows.
+pub fn copy_total(table: &[u16], rows: u16, items: u16, file: &[u8]) -> u16
+    ensures { λ r. ⌜ CopyTotal (now (file .entry)) rows items (now (table .entry)) r ⌝ }
+{
+    let mut cells = [0u16; CELLS];
+    count_copies(&mut cells[0..CELLS], table, rows, items, file);
+    diagram_table::cell(&cells, COPIES, 0)
+}
+
+// Stores a value at `many` counts of a state, from its count `first` on.
+fn put_run(state: &mut [u16], rows: u16, first: u32, many: u32, value: u16)
+    ensures { λ _. ⌜ now (state .exit) ≡ runPut (3 * rows + first) many value (now (state .entry)) ⌝ }
+{
+    let from = 3 * rows as usize + first as usize;
+    let mut i: u32 = 0;
+    while i < many {
+        words::put(state, from + i as usize, value);
+        i += 1;
+    }
+}
+
+// The initial count of each item, at the counts that a give of it changes: its own, or a trigger's copies.
+fn put_runs(state: &mut [u16], table: &[u16], rows: u16, items: u16)
+    ensures { λ _. ⌜ now (state .exit) ≡ runsPut rows items (now (table .entry)) (now (state .entry)) ⌝ }
+{
+    let mut item: u32 = 0;
+    while item < items as u32 {
+        let first = diagram_table::run_first(table, true, 0, 0, item);
+        let many = diagram_table::run_length(table, true, item);
+        let count = diagram_table::cell(table, COUNT, item);
+        put_run(state, rows, first, many, count);
+        item += 1;
+    }
+}
+
+fn put_fresh(state: &mut [u16], plain: &[u16], table: &[u16], rows: u16, items: u16)
+    ensures { λ _. ⌜ now (state .exit) ≡ freshPut rows items (now (plain .entry)) (now (table .entry)) (now (state .entry)) ⌝ }
+{
+    words::copy(state, front(plain, 3 * rows as usize + items as usize));
+    put_runs(state, table, rows, items);
+}
+
+// The fresh state of a table with copies, from the words of its rows and items.
+pub fn fresh_state(
+    plain: &[u16],
+    table: &[u16],
+    rows: u16,
+    items: u16,
+) -> [u16; MOST_PLACES as usize]
+    ensures { λ r. ⌜ FreshMade rows items (now (plain .entry)) (now (table .entry)) r ⌝ }
+{
+    let mut state = [0u16; MOST_PLACES as usize];
+    put_fresh(
+        &mut state[0..MOST_PLACES as usize],
+        plain,
+        table,
+        rows,
+        items,
+    );
+    state
+}

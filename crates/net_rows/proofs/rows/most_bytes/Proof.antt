@@ -1,0 +1,46 @@
+use Rattle.net_rows.specs.Rows.{mostRowBytes}
+use borrow.Author.Tests.{le-leb, lt-leb}
+use native.Mathlib.Omega.{arith}
+use mathlib.Core.Path.{refl}
+use borrow.Author.Needs.{needs}
+use Rattle.net_rows.proofs.rows.most_bytes.Statement.{statement}
+use Rattle.net_rows.proofs.rows.most_bytes.Tie as tie
+
+mul-working : tie.Need-mul-working
+mul-working c = search needs
+
+add-working : tie.Need-add-working
+add-working c = search needs
+
+mul-working-2 : tie.Need-mul-working-2
+mul-working-2 c = search needs
+
+add-working-2 : tie.Need-add-working-2
+add-working-2 c = search needs
+
+mul-passing : tie.Need-mul-passing
+mul-passing c = search needs
+
+add-passing : tie.Need-add-passing
+add-passing c = search needs
+
+returns : tie.Need-returns
+unfolding mostRowBytes
+returns c = (rw (le-leb _ _ (c .if1 .taken)) refl, omega arith)
+
+returns-2 : tie.Need-returns-2
+unfolding mostRowBytes
+returns-2 c = (rw (lt-leb _ _ (c .if1 .left)) refl, omega arith)
+
+pub most-bytes-spec : {M : Type 1} → statement M
+most-bytes-spec =
+    tie.close
+    (tie.spec
+    mul-working
+    add-working
+    mul-working-2
+    add-working-2
+    mul-passing
+    add-passing
+    returns
+    returns-2)
