@@ -15,7 +15,7 @@ use Rattle.effbd.specs.Counts.{copies, copiesOf}
 use Rattle.agreement.specs.AcceptedFiles.{Held}
 use Rattle.agreement.specs.Counts.{counts-few}
 use Rattle.agreement.specs.Sources.{counts-are}
-use Rattle.diagram_table.specs.Cells.{itemCell, someTriggerCell, copiesCell, cellTotal, receiversIn, firstCopyIn, copiesIn}
+use Rattle.diagram_table.specs.Cells.{receiversCell, firstCopyCell, copiesCell, countedTotal, receiversIn, firstCopyIn, copiesIn}
 use Rattle.copies.specs.Counting.{sumTo, copiesNumbered}
 use Rattle.copies.proofs.UsesCounted.{sum-is}
 
@@ -33,8 +33,8 @@ module _ (d : Diagram) where
   -- after the items from k on
   pub record CopiesDone (k : ℕ) (t next : List ℕ) : Type 0 where
     pub long : length next ≡ length t
-    pub below : (i : ℕ) → i < itemCell 3 0 → getD next i 0 ≡ getD t i 0
-    pub above : (i : ℕ) → someTriggerCell ≤ i → i ≢ copiesCell → getD next i 0 ≡ getD t i 0
+    pub below : (i : ℕ) → i < firstCopyCell 0 → getD next i 0 ≡ getD t i 0
+    pub above : (i : ℕ) → countedTotal ≤ i → getD next i 0 ≡ getD t i 0
     pub before : (i : ℕ) → i < k → firstCopyIn next i ≡ firstCopyIn t i
     pub firsts : (i : ℕ) → k ≤ i → i < itemTotal d → firstCopyIn next i ≡ itemTotal d + length (copies d i)
     pub total : copiesIn next ≡ length (copies d (itemTotal d))
@@ -47,22 +47,22 @@ module _ (d : Diagram) where
     fits k n e = let a = copies-grow k n in let b = copies-few in let c = h .items in
         let z : length (copies d k) ≤ length (copies d (itemTotal d)) = subst (λ x. length (copies d k) ≤ length (copies d x)) e a in omega arith
 
-    pub copies-numbered : (n k many : ℕ) (t : List ℕ) → k + n ≡ itemTotal d → many ≡ length (copies d k) → cellTotal ≤ length t
+    pub copies-numbered : (n k many : ℕ) (t : List ℕ) → k + n ≡ itemTotal d → many ≡ length (copies d k) → countedTotal ≤ length t
         → ((i : ℕ) → i < itemTotal d → receiversIn t i ≡ length (copiesOf d i (rowCount d))) → CopiesDone k t (copiesNumbered (itemTotal d) n k many t)
     unfolding copiesNumbered
     copies-numbered zero k many t e em long r = let x = h .items in record {
       long = length-set t copiesCell many;
       below = λ i l. getD-set-other t copiesCell i many 0 (λ z. absurd (omega arith));
-      above = λ i l n. getD-set-other t copiesCell i many 0 n;
-      before = λ i l. getD-set-other t copiesCell (itemCell 3 i) many 0 (λ z. absurd (omega arith));
+      above = λ i l. getD-set-other t copiesCell i many 0 (λ z. absurd (omega arith));
+      before = λ i l. getD-set-other t copiesCell (firstCopyCell i) many 0 (λ z. absurd (omega arith));
       firsts = λ i l m. absurd (omega arith);
       total = getD-set-same t copiesCell many 0 (omega arith) ∙ (em ∙ ap (λ x. length (copies d x)) (let y : k ≡ itemTotal d = omega arith in y));
     }
-    copies-numbered (suc n) k many t e em long r = one (copies-numbered n (k + 1) (sumTo many (receiversIn t k)) s (omega arith) more (omega (arith, length-set t (itemCell 3 k) (sumTo (itemTotal d) many)))
-        (λ i l. getD-set-other t (itemCell 3 k) (itemCell 2 i) _ 0 (λ z. let x = h .items in absurd (omega arith)) ∙ r i l))
+    copies-numbered (suc n) k many t e em long r = one (copies-numbered n (k + 1) (sumTo many (receiversIn t k)) s (omega arith) more (omega (arith, length-set t (firstCopyCell k) (sumTo (itemTotal d) many)))
+        (λ i l. getD-set-other t (firstCopyCell k) (receiversCell i) _ 0 (λ z. let x = h .items in absurd (omega arith)) ∙ r i l))
       where
         s : List ℕ
-        s = set t (itemCell 3 k) (sumTo (itemTotal d) many)
+        s = set t (firstCopyCell k) (sumTo (itemTotal d) many)
 
         more : sumTo many (receiversIn t k) ≡ length (copies d (k + 1))
         more =
@@ -73,14 +73,14 @@ module _ (d : Diagram) where
         own : firstCopyIn s k ≡ itemTotal d + length (copies d k)
         own =
             let x = h .items in let a = fits k (suc n) e in
-            getD-set-same t (itemCell 3 k) _ 0 (omega arith) ∙ (sum-is (itemTotal d) many (omega arith) ∙ ap (λ (y : ℕ). itemTotal d + y) em)
+            getD-set-same t (firstCopyCell k) _ 0 (omega arith) ∙ (sum-is (itemTotal d) many (omega arith) ∙ ap (λ (y : ℕ). itemTotal d + y) em)
 
         one : {next : List ℕ} → CopiesDone (k + 1) s next → CopiesDone k t next
         one {next} w = let x = h .items in record {
-          long = w .long ∙ length-set t (itemCell 3 k) _;
-          below = λ i l. w .below i l ∙ getD-set-other t (itemCell 3 k) i _ 0 (λ z. absurd (omega arith));
-          above = λ i l m. w .above i l m ∙ getD-set-other t (itemCell 3 k) i _ 0 (λ z. absurd (omega arith));
-          before = λ i l. w .before i (omega arith) ∙ getD-set-other t (itemCell 3 k) (itemCell 3 i) _ 0 (λ z. absurd (omega arith));
+          long = w .long ∙ length-set t (firstCopyCell k) _;
+          below = λ i l. w .below i l ∙ getD-set-other t (firstCopyCell k) i _ 0 (λ z. absurd (omega arith));
+          above = λ i l. w .above i l ∙ getD-set-other t (firstCopyCell k) i _ 0 (λ z. absurd (omega arith));
+          before = λ i l. w .before i (omega arith) ∙ getD-set-other t (firstCopyCell k) (firstCopyCell i) _ 0 (λ z. absurd (omega arith));
           firsts = λ i l m. decide (eqb i k)
               (λ z. subst (λ y. firstCopyIn next y ≡ itemTotal d + length (copies d y)) (sym (eqb-true i k z)) (w .before k (omega arith) ∙ own))
               (λ z. let y = eqb-false i k z in w .firsts i (omega arith) m);

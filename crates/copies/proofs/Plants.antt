@@ -4,7 +4,7 @@ use mathlib.Core.Path.{_≡_, refl, sym, _∙_, ap, subst}
 use mathlib.Core.Bool.{true, false}
 use mathlib.Core.List.{List, [], _++_, append-nil}
 use native.Mathlib.Omega.{arith}
-use lib.ListN.{length, getD, List·getD-eq-default}
+use lib.ListN.{length, getD, replicate, List·getD-eq-default}
 use lib.Dec.{ltb}
 use borrow.Author.Tests.{ltb-true, ltb-false}
 use Rattle.effbd.specs.Answers.{accepted}
@@ -15,10 +15,10 @@ use Rattle.effbd.specs.Nesting.{Part, readDiagram, usesPart, usesPartOf}
 use Rattle.ranges.specs.Tests.{decide, clash}
 use Rattle.agreement.specs.AcceptedFiles.{Held, held}
 use Rattle.agreement.specs.Sources.{counts-are, no-copies}
-use Rattle.diagram_table.specs.Cells.{cellOf, itemCell, cellTotal, wideTotal, usesStartIn, usesNumberIn, someTriggerIn, copiesIn, countsIn}
+use Rattle.diagram_table.specs.Cells.{cellOf, itemCell, countedTotal, wideTotal, usesStartIn, usesNumberIn, someTriggerIn, copiesIn, countsIn}
 use Rattle.diagram_table.specs.Held.{Tabulated, Holds, HoldsUses, HoldsFile, HoldsCopies, HoldsRanks, HoldsPlant, noUse}
 use Rattle.copies.specs.Counting.{copiesCounted}
-use Rattle.copies.specs.Promised.{zeros, Widened, CopyTotal}
+use Rattle.copies.specs.Promised.{zeros, WidenedPlant, Widened, CopyTotal}
 use Rattle.copies.proofs.Rising.{few-uses}
 use Rattle.copies.proofs.RowsCounted.{uses-rise, uses-same}
 use Rattle.copies.proofs.CopiesCounted.{Counted, copies-counted}
@@ -40,7 +40,7 @@ module _ (d : Diagram) (rows items n : ℕ) (table wide : List ℕ) (c : Counted
     noTrigger = λ e k l. absurd (omega (arith, c .some));
   }
 
-  holds : cellTotal ≤ n → Holds d rows items table → Holds d rows items wide
+  holds : countedTotal ≤ n → Holds d rows items table → Holds d rows items wide
   holds room h = let x = h .records .fewRows in record {
     nests = h .nests;
     long = omega (arith, c .long);
@@ -115,22 +115,26 @@ module _ (file : List ℕ) (rows items : ℕ) (table : List ℕ) (bytes : areByt
     unfolding widened-file
     widened-plant = record { held = widened-file; copies = holds-copies d rows items wideTotal table wide all; ranks = holds-ranks }
 
-  widened-by : Widened file rows items table wide
+  pub widened-by : WidenedPlant file rows items table wide
   unfolding widened-plant widened-file
-  widened-by = record { is = refl; plant = widened-plant; same = λ h. refl }
+  widened-by = record { plant = widened-plant; same = λ h. refl }
 
-  pub widened-is : (none next : List ℕ) → none ≡ zeros wideTotal → next ≡ copiesCounted file rows items table none → Widened file rows items table (next ++ [])
-  widened-is none next z e = subst (Widened file rows items table) (sym (append-nil next ∙ (e ∙ ap (copiesCounted file rows items table) z))) widened-by
+  -- counted once, here
+  zeroed : replicate wideTotal 0 ≡ zeros wideTotal
+  zeroed = refl
+
+  pub widened-is : (before next : List ℕ) → next ≡ copiesCounted file rows items table before → length next ≡ length before → Widened file rows items table before next
+  widened-is before next e l = record { is = e; long = l; of = λ z. subst (WidenedPlant file rows items table) (sym (e ∙ ap (copiesCounted file rows items table) (z ∙ zeroed))) widened-by }
 
 -- how many copies there are
-pub total-is : (file : List ℕ) (rows items : ℕ) (table none next : List ℕ) (total : ℕ) → none ≡ zeros cellTotal → next ≡ copiesCounted file rows items table none → total ≡ copiesIn (next ++ [])
+pub total-is : (file : List ℕ) (rows items : ℕ) (table none next : List ℕ) (total : ℕ) → none ≡ zeros countedTotal → next ≡ copiesCounted file rows items table none → total ≡ copiesIn (next ++ [])
     → CopyTotal file rows items table total
 total-is file rows items table none next total z en e = record {
   is = is;
-  of = λ d h b u. is ∙ copies-counted table cellTotal (omega arith) file d h rows items b u .total;
+  of = λ d h b u. is ∙ copies-counted table countedTotal (omega arith) file d h rows items b u .total;
 }
   where
-    is : total ≡ copiesIn (copiesCounted file rows items table (zeros cellTotal))
+    is : total ≡ copiesIn (copiesCounted file rows items table (zeros countedTotal))
     is = e ∙ ap copiesIn (append-nil next ∙ (en ∙ ap (copiesCounted file rows items table) z))
 
 -- ---- no trigger, no copies

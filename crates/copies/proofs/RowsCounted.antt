@@ -12,7 +12,7 @@ use Rattle.effbd.specs.Counts.{copy, takeOf, receives, copiesOf}
 use Rattle.ranges.specs.Tests.{decide, clash, and-right}
 use Rattle.agreement.specs.AcceptedFiles.{Held}
 use Rattle.agreement.specs.Basics.{same-eq}
-use Rattle.diagram_table.specs.Cells.{cellOf, itemCell, cellTotal, rankCell, kindIn, triggerIn, receiversIn, usesStartIn, usesNumberIn, rankIn, usesBytes, usesIn}
+use Rattle.diagram_table.specs.Cells.{cellOf, itemCell, firstCopyCell, cellTotal, countedTotal, rankCell, kindIn, triggerIn, receiversIn, usesStartIn, usesNumberIn, rankIn, usesBytes, usesIn}
 use Rattle.diagram_table.specs.Held.{noUse}
 use Rattle.copies.specs.Counting.{receivesIn, usesCounted, rowCounted, rowsCounted}
 use Rattle.copies.proofs.Rising.{few-uses, item-rises}
@@ -20,7 +20,7 @@ use Rattle.copies.proofs.UsesCounted.{UsesDone, uses-counted}
 
 -- a table that has a diagram's records, before its receivers are counted
 pub record Begun (file : List ℕ) (d : Diagram) (t : List ℕ) : Type 0 where
-  pub long : cellTotal ≤ length t
+  pub long : countedTotal ≤ length t
   pub kinds : (r : ℕ) → r < rowCount d → kindIn t r ≡ numberOf (kind d r)
   pub triggers : (k : ℕ) → k < itemTotal d → triggerIn t k ≡ cond (isTrigger d k) 1 0
   pub uses : (r : ℕ) → r < rowCount d → usesIn t file r ≡ row d r .uses
@@ -29,8 +29,8 @@ pub record Begun (file : List ℕ) (d : Diagram) (t : List ℕ) : Type 0 where
 -- after the rows below r
 pub record RowsDone (d : Diagram) (r : ℕ) (t next : List ℕ) : Type 0 where
   pub long : length next ≡ length t
-  pub below : (i : ℕ) → i < itemCell 2 0 → getD next i 0 ≡ getD t i 0
-  pub above : (i : ℕ) → itemCell 3 0 ≤ i → i < cellTotal → getD next i 0 ≡ getD t i 0
+  pub below : (i : ℕ) → i < cellTotal → getD next i 0 ≡ getD t i 0
+  pub above : (i : ℕ) → firstCopyCell 0 ≤ i → i < countedTotal → getD next i 0 ≡ getD t i 0
   pub receivers : (k : ℕ) → k < itemTotal d → receiversIn next k ≡ length (copiesOf d k r)
   pub ranks : (q j : ℕ) → q < r → isKind d function q ≡ true → j < length (row d q .uses) → rankCell q j < length t
       → rankIn next q j ≡ length (copiesOf d (getD (row d q .uses) j noUse .item) q)

@@ -7,7 +7,7 @@ use native.Mathlib.Omega.{arith}
 use native.Mathlib.Numerals.{add-one}
 use lib.ListN.{length, drop, set}
 use Rattle.effbd.specs.Records.{word}
-use Rattle.diagram_table.specs.Cells.{itemCell, copiesCell, countIn, receiversIn, runFirst, runLength, usesOf}
+use Rattle.diagram_table.specs.Cells.{firstCopyCell, copiesCell, countIn, receiversIn, runFirst, runLength, usesOf}
 use Rattle.diagram_table.proofs.UsesWalked.{uses-next, uses-over}
 use Rattle.copies.specs.Counting.{sumTo, useCounted, usesCounted, rowCounted, rowsCounted, copiesNumbered, runPut, runsPut}
 
@@ -29,7 +29,7 @@ unfolding rowsCounted
 rows-turn file n start table next et en = en ∙ (rw et refl ∙ ap (λ (m : ℕ). rowsCounted file m start) (sym (add-one n)))
 
 pub numbers-turn : (items k many receivers first more : ℕ) (table next : List ℕ) → k < items → receivers ≡ receiversIn table k → first ≡ sumTo items many
-    → next ≡ set table (itemCell 3 k) first → more ≡ sumTo many receivers → copiesNumbered items (items - (k + 1)) (k + 1) more next ≡ copiesNumbered items (items - k) k many table
+    → next ≡ set table (firstCopyCell k) first → more ≡ sumTo many receivers → copiesNumbered items (items - (k + 1)) (k + 1) more next ≡ copiesNumbered items (items - k) k many table
 unfolding copiesNumbered
 numbers-turn items k many receivers first more table next l er ef en em =
     let z : items - k ≡ suc (items - (k + 1)) = omega arith in

@@ -13,7 +13,7 @@ use Rattle.effbd.specs.Diagrams.{Use, usesFine, mostItems}
 use Rattle.effbd.specs.Counts.{takeOf}
 use Rattle.effbd.specs.Moves.{mostWord}
 use Rattle.ranges.specs.Tests.{decide}
-use Rattle.diagram_table.specs.Cells.{itemCell, cellTotal, triggerIn, receiversIn}
+use Rattle.diagram_table.specs.Cells.{itemCell, receiversCell, firstCopyCell, cellTotal, countedTotal, triggerIn, receiversIn}
 use Rattle.diagram_table.specs.Held.{noUse}
 use Rattle.copies.specs.Counting.{sumTo, receivesIn, useCounted, usesCounted}
 use Rattle.copies.proofs.Rising.{Rises, rises, take-below, item-rises}
@@ -34,13 +34,13 @@ receives-same t next k much e = rw e
 -- after one use of item k, whether it counts one receiver more
 record UseDone (at k : ℕ) (more : Bool) (t next : List ℕ) : Type 0 where
   long : length next ≡ length t
-  below : (i : ℕ) → i < itemCell 2 0 → getD next i 0 ≡ getD t i 0
-  above : (i : ℕ) → itemCell 3 0 ≤ i → i ≢ at → getD next i 0 ≡ getD t i 0
+  below : (i : ℕ) → i < cellTotal → getD next i 0 ≡ getD t i 0
+  above : (i : ℕ) → firstCopyCell 0 ≤ i → i ≢ at → getD next i 0 ≡ getD t i 0
   others : (q : ℕ) → q < mostItems → q ≢ k → receiversIn next q ≡ receiversIn t q
   own : receiversIn next k ≡ receiversIn t k + cond more 1 0
   rank : at < length t → getD next at 0 ≡ receiversIn t k
 
-module _ (at k : ℕ) (t : List ℕ) (far : cellTotal ≤ at) (long : cellTotal ≤ length t) (low : k < mostItems) (small : receiversIn t k < mostWord) where
+module _ (at k : ℕ) (t : List ℕ) (far : countedTotal ≤ at) (long : countedTotal ≤ length t) (low : k < mostItems) (small : receiversIn t k < mostWord) where
   abbrev ranked : List ℕ
   ranked = set t at (receiversIn t k)
 
@@ -49,22 +49,22 @@ module _ (at k : ℕ) (t : List ℕ) (far : cellTotal ≤ at) (long : cellTotal 
     long = length-set t at _;
     below = λ i l. getD-set-other t at i _ 0 (λ e. absurd (omega arith));
     above = λ i l n. getD-set-other t at i _ 0 n;
-    others = λ q l n. getD-set-other t at (itemCell 2 q) _ 0 (λ e. absurd (omega arith));
-    own = getD-set-other t at (itemCell 2 k) _ 0 (λ e. absurd (omega arith)) ∙ (let y : receiversIn t k ≡ receiversIn t k + 0 = omega arith in y);
+    others = λ q l n. getD-set-other t at (receiversCell q) _ 0 (λ e. absurd (omega arith));
+    own = getD-set-other t at (receiversCell k) _ 0 (λ e. absurd (omega arith)) ∙ (let y : receiversIn t k ≡ receiversIn t k + 0 = omega arith in y);
     rank = λ l. getD-set-same t at _ 0 l;
   }
 
-  one-more : UseDone at k true t (set ranked (itemCell 2 k) (sumTo (receiversIn t k) 1))
+  one-more : UseDone at k true t (set ranked (receiversCell k) (sumTo (receiversIn t k) 1))
   one-more = let w = rank-put in record {
-    long = length-set ranked (itemCell 2 k) _ ∙ w .long;
-    below = λ i l. getD-set-other ranked (itemCell 2 k) i _ 0 (λ e. absurd (omega arith)) ∙ w .below i l;
-    above = λ i l n. getD-set-other ranked (itemCell 2 k) i _ 0 (λ e. absurd (omega arith)) ∙ w .above i l n;
-    others = λ q l n. getD-set-other ranked (itemCell 2 k) (itemCell 2 q) _ 0 (λ e. n (omega arith)) ∙ w .others q l n;
-    own = getD-set-same ranked (itemCell 2 k) _ 0 (omega (arith, w .long)) ∙ sum-is (receiversIn t k) 1 (omega arith);
-    rank = λ l. getD-set-other ranked (itemCell 2 k) at _ 0 (λ e. absurd (omega arith)) ∙ w .rank l;
+    long = length-set ranked (receiversCell k) _ ∙ w .long;
+    below = λ i l. getD-set-other ranked (receiversCell k) i _ 0 (λ e. absurd (omega arith)) ∙ w .below i l;
+    above = λ i l n. getD-set-other ranked (receiversCell k) i _ 0 (λ e. absurd (omega arith)) ∙ w .above i l n;
+    others = λ q l n. getD-set-other ranked (receiversCell k) (receiversCell q) _ 0 (λ e. n (omega arith)) ∙ w .others q l n;
+    own = getD-set-same ranked (receiversCell k) _ 0 (omega (arith, w .long)) ∙ sum-is (receiversIn t k) 1 (omega arith);
+    rank = λ l. getD-set-other ranked (receiversCell k) at _ 0 (λ e. absurd (omega arith)) ∙ w .rank l;
   }
 
-  use-by : (more : Bool) → UseDone at k more t (cond more (set ranked (itemCell 2 k) (sumTo (receiversIn t k) 1)) ranked)
+  use-by : (more : Bool) → UseDone at k more t (cond more (set ranked (receiversCell k) (sumTo (receiversIn t k) 1)) ranked)
   use-by true = one-more
   use-by false = rank-put
 
@@ -75,14 +75,14 @@ module _ (at k : ℕ) (t : List ℕ) (far : cellTotal ≤ at) (long : cellTotal 
 -- after uses of rising items
 pub record UsesDone (M at : ℕ) (us : List Use) (t next : List ℕ) : Type 0 where
   pub long : length next ≡ length t
-  pub below : (i : ℕ) → i < itemCell 2 0 → getD next i 0 ≡ getD t i 0
-  pub above : (i : ℕ) → itemCell 3 0 ≤ i → i < at → getD next i 0 ≡ getD t i 0
+  pub below : (i : ℕ) → i < cellTotal → getD next i 0 ≡ getD t i 0
+  pub above : (i : ℕ) → firstCopyCell 0 ≤ i → i < at → getD next i 0 ≡ getD t i 0
   pub receivers : (k : ℕ) → k < M → receiversIn next k ≡ receiversIn t k + cond (receivesIn t k (takeOf us k)) 1 0
   pub ranks : (j : ℕ) → j < length us → at + j < length t → getD next (at + j) 0 ≡ receiversIn t (getD us j noUse .item)
 
 module _ (M : ℕ) (few : M ≤ mostItems) where
   -- one use, and the uses behind it
-  uses-more : (from at : ℕ) (u : Use) (us : List Use) (t s next : List ℕ) → Rises M from u us → cellTotal ≤ at
+  uses-more : (from at : ℕ) (u : Use) (us : List Use) (t s next : List ℕ) → Rises M from u us → countedTotal ≤ at
       → UseDone at (u .item) (receivesIn t (u .item) (u .take)) t s → UsesDone M (at + 1) us s next → UsesDone M at (u ∷ us) t next
   uses-more from at u us t s next r far o w = record {
     long = w .long ∙ o .long;
@@ -106,7 +106,7 @@ module _ (M : ℕ) (few : M ≤ mostItems) where
           let y : at + suc j ≡ at + 1 + j = omega arith in
           ap (λ i. getD next i 0) y ∙ (w .ranks j (omega arith) (omega (arith, o .long)) ∙ o .others (getD us j noUse .item) (omega arith) (λ z. absurd (omega arith)))
 
-  pub uses-counted : (from at : ℕ) (us : List Use) (t : List ℕ) → usesFine M from us ≡ true → cellTotal ≤ at → cellTotal ≤ length t
+  pub uses-counted : (from at : ℕ) (us : List Use) (t : List ℕ) → usesFine M from us ≡ true → countedTotal ≤ at → countedTotal ≤ length t
       → ((k : ℕ) → from ≤ k → k < M → receiversIn t k < mostWord) → UsesDone M at us t (usesCounted at us t)
   unfolding usesCounted
   uses-counted from at [] t e far long small = record {

@@ -8,7 +8,7 @@ use lib.Dec.{ltb, eqb}
 use Rattle.effbd.specs.Diagrams.{Use}
 use Rattle.effbd.specs.Moves.{mostWord}
 use Rattle.words.specs.Stores.{copied}
-use Rattle.diagram_table.specs.Cells.{itemCell, someTriggerCell, copiesCell, rankCell, kindIn, countIn, triggerIn, receiversIn, runFirst, runLength, usesIn}
+use Rattle.diagram_table.specs.Cells.{receiversCell, firstCopyCell, someTriggerCell, copiesCell, rankCell, kindIn, countIn, triggerIn, receiversIn, runFirst, runLength, usesIn}
 
 -- a sum, which stops at the largest word
 unfoldable pub sumTo : ℕ → ℕ → ℕ
@@ -21,7 +21,7 @@ receivesIn table k much = not (eqb (triggerIn table k) 0) && not (eqb much 0)
 -- a use, which takes so much of item k, with its rank in cell `at`: the rows that receive the item so far; perhaps there is one more
 unfoldable pub useCounted : (at k much : ℕ) → List ℕ → List ℕ
 useCounted at k much table = cond (receivesIn table k much)
-    (set (set table at (receiversIn table k)) (itemCell 2 k) (sumTo (receiversIn table k) 1))
+    (set (set table at (receiversIn table k)) (receiversCell k) (sumTo (receiversIn table k) 1))
     (set table at (receiversIn table k))
 
 -- uses of a row, with their ranks from cell `at` on
@@ -40,12 +40,12 @@ rowsCounted file (suc r) table = rowCounted file r (rowsCounted file r table)
 -- n items from item k on, in front of which `many` copies stand; behind the last one the number of all copies
 unfoldable pub copiesNumbered : (items n k many : ℕ) → List ℕ → List ℕ
 copiesNumbered items zero k many table = set table copiesCell many
-copiesNumbered items (suc n) k many table = copiesNumbered items n (k + 1) (sumTo many (receiversIn table k)) (set table (itemCell 3 k) (sumTo items many))
+copiesNumbered items (suc n) k many table = copiesNumbered items n (k + 1) (sumTo many (receiversIn table k)) (set table (firstCopyCell k) (sumTo items many))
 
 -- a table's records in front of zeros, with all that is said of copies
 unfoldable pub copiesCounted : (file : List ℕ) (rows items : ℕ) (table zeros : List ℕ) → List ℕ
 copiesCounted file rows items table zeros =
-    copiesNumbered items items 0 0 (rowsCounted file rows (set (copied (take (itemCell 2 0) table) zeros) someTriggerCell 1))
+    copiesNumbered items items 0 0 (rowsCounted file rows (set (copied (take someTriggerCell table) zeros) someTriggerCell 1))
 
 -- a value at `many` places
 unfoldable pub runPut : (from many value : ℕ) → List ℕ → List ℕ

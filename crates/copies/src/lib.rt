@@ -7,9 +7,9 @@ ghost use lib.ListN.{take};
 ghost use Rattle.diagram_table.specs.Cells.{rankCell, usesOf};
 ghost use Rattle.copies.specs.Counting.{sumTo, receivesIn, useCounted, usesCounted, rowCounted, rowsCounted, copiesNumbered, copiesCounted, runPut, runsPut, freshPut};
 ghost use Rattle.copies.specs.Promised.{Widened, CopyTotal, FreshMade};
-use diagram_table::CELLS;
 use diagram_table::COPIES;
 use diagram_table::COUNT;
+use diagram_table::COUNTED;
 use diagram_table::FIRST_COPY;
 use diagram_table::RANK;
 use diagram_table::RECEIVERS;
@@ -124,27 +124,26 @@ fn number_copies(table: &mut [u16], items: u16)
 fn count_copies(wide: &mut [u16], table: &[u16], rows: u16, items: u16, file: &[u8])
     ensures { λ _. ⌜ now (wide .exit) ≡ copiesCounted (now (file .entry)) rows items (now (table .entry)) (now (wide .entry)) ⌝ }
 {
-    words::copy(wide, front(table, RECEIVERS as usize));
+    words::copy(wide, front(table, SOME_TRIGGER as usize));
     words::put(wide, SOME_TRIGGER as usize, 1);
     count_rows(wide, file, rows);
     number_copies(wide, items);
 }
 
-// The table of a file with triggers, widened by all that is asked of their copies.
-pub fn widened(table: &[u16], rows: u16, items: u16, file: &[u8]) -> [u16; WIDE]
-    ensures { λ r. ⌜ Widened (now (file .entry)) rows items (now (table .entry)) r ⌝ }
+// Widens the table of a file with triggers by all that is asked of their copies, into a zeroed table of the caller's: handed back as a value it
+// would be copied.
+pub fn widen(wide: &mut [u16; WIDE], table: &[u16], rows: u16, items: u16, file: &[u8])
+    ensures { λ _. ⌜ Widened (now (file .entry)) rows items (now (table .entry)) (now (wide .entry)) (now (wide .exit)) ⌝ }
 {
-    let mut wide = [0u16; WIDE];
-    count_copies(&mut wide[0..WIDE], table, rows, items, file);
-    wide
+    count_copies(wide, table, rows, items, file);
 }
 
 // How many copies there are; the table needs no structure of rows.
 pub fn copy_total(table: &[u16], rows: u16, items: u16, file: &[u8]) -> u16
     ensures { λ r. ⌜ CopyTotal (now (file .entry)) rows items (now (table .entry)) r ⌝ }
 {
-    let mut cells = [0u16; CELLS];
-    count_copies(&mut cells[0..CELLS], table, rows, items, file);
+    let mut cells = [0u16; COUNTED];
+    count_copies(&mut cells[0..COUNTED], table, rows, items, file);
     diagram_table::cell(&cells, COPIES, 0)
 }
 

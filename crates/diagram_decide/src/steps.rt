@@ -2,8 +2,8 @@
 ghost use mathlib.Core.Path.{_≡_};
 ghost use Rattle.effbd.specs.Answers.{said};
 ghost use Rattle.diagram_moves.specs.Decisions.{doneAt, allDoneTo, readyVerdict, startVerdict, endVerdict, functionVerdict, branchVerdict, closeVerdict, rowVerdict};
-use crate::cells;
 use crate::uses;
+use diagram_state::cells;
 use diagram_table::FIRST;
 use diagram_table::OWNER;
 use effbd::Answer;

@@ -1,13 +1,15 @@
 // The uses of a FUNCTION in the file's bytes: what stops its takes or its gives.
 ghost use mathlib.Core.Path.{_≡_};
-ghost use mathlib.Core.Bool.{cond};
-ghost use Prim.Native.Nat.{_<_};
-ghost use lib.ListN.{length};
+ghost use mathlib.Core.Bool.{true, cond};
+ghost use Prim.Native.Nat.{_+_, _<_};
+ghost use lib.ListN.{length, getD};
+ghost use lib.ListN.{length as long};
+ghost use lib.Dec.{ltb};
 ghost use Rattle.effbd.specs.Records.{word};
 ghost use Rattle.diagram_table.specs.Cells.{usesOf, usesIn};
-ghost use Rattle.diagram_moves.specs.Decisions.{runBlocked, useBlocked, blockedItem};
+ghost use Rattle.diagram_moves.specs.Decisions.{countPlace, mostOf, useBlocked, blockedItem};
 ghost use Rattle.diagram_moves.specs.Decisions.{exceeds as exceeding};
-use crate::cells;
+use diagram_state::cells;
 use diagram_table::USE_SIZE;
 use effbd::limits::MOST_WORD;
 
@@ -31,19 +33,39 @@ fn exceeds(giving: bool, count: u16, amount: u16) -> bool
     count < amount
 }
 
-// Some count of a run stops a take or a give.
-fn run_blocked(state: &[u16], rows: u32, first: u32, length: u32, giving: bool, amount: u16) -> bool
-    ensures { λ r. ⌜ r ≡ runBlocked giving rows first amount length (now (state .entry)) ⌝ }
+// The larger of two counts.
+fn larger(count: u16, other: u16) -> u16
+    ensures { λ r. ⌜ r ≡ cond (ltb count other) other count ⌝ }
 {
-    for index in 0..length {
-        if exceeds(giving, cells::count(state, rows, first, index), amount) {
-            return true;
-        }
+    if count < other {
+        return other;
     }
-    false
+    count
 }
 
-// Use `index` of a row is stopped. An amount of 0 never is: a row that only takes a trigger does not look at all its copies when it ends.
+// A count that is known to stand.
+fn known_count(state: &[u16], rows: u32, first: u32, index: u32) -> u16
+    requires { ⌜ countPlace rows (first + index) < long (now state) ⌝ }
+    ensures { λ r. ⌜ r ≡ getD (now (state .entry)) (countPlace rows (first + index)) 0 ⌝ }
+{
+    state[3 * rows as usize + (first as usize + index as usize)]
+}
+
+// The largest count of a run: one look at the state's length serves all that stand, the others are 0.
+fn most_in(state: &[u16], rows: u32, first: u32, length: u32) -> u16
+    ensures { λ r. ⌜ r ≡ mostOf rows first (now (state .entry)) length ⌝ }
+{
+    let standing = cells::standing(state, rows, first, length);
+    let mut most = 0;
+    for index in 0..standing {
+        let count = known_count(state, rows, first, index);
+        most = larger(most, count);
+    }
+    most
+}
+
+// Use `index` of a row is stopped. An amount of 0 never is: a row that only takes a trigger does not look at all its copies when it ends. Only
+// a give of a trigger has more counts than one, or none: it is stopped by some of them exactly if the largest stops it.
 fn use_blocked(
     table: &[u16],
     rows: u32,
@@ -64,7 +86,8 @@ fn use_blocked(
     if length == 1 {
         return exceeds(giving, cells::count(state, rows, first, 0), amount);
     }
-    run_blocked(state, rows, first, length, giving, amount)
+    let most = most_in(state, rows, first, length);
+    exceeds(true, most, amount)
 }
 
 // The item of the first of a row's uses that is stopped, or the number of items. "lowest": uses name rising items.

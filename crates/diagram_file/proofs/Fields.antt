@@ -160,6 +160,19 @@ module _ (items : ℕ) (bytes : List ℕ) where
         let z : leb (word bytes 4) (word bytes 6) ≡ true = rw (← eh, ← el) (le-leb first second h) in
         rw (z, eb, et, en, es)
 
+-- a record whose length and kind are cut short
+short : (bytes : List ℕ) (due right fine : Bool) (number : ℕ) → length bytes < 4 → 1 ≡ faultAt bytes due right fine number
+unfolding faultAt
+short bytes due right fine number l = rw (lt-ltb (length bytes) 4 l)
+
+pub row-short : (items : ℕ) (bytes : List ℕ) → length bytes < 4 → 1 ≡ rowFault items bytes
+unfolding rowFault
+row-short items bytes = short bytes _ _ _ 5
+
+pub item-short : (bytes : List ℕ) → length bytes < 4 → 1 ≡ itemFault bytes
+unfolding itemFault
+item-short bytes = short bytes _ _ _ 5
+
 module _ (bytes : List ℕ) where
   pub item-fault-is : (kind size n r : ℕ) (due : Bool) → kind ≡ word bytes 2 → size ≡ word bytes 0 → n ≡ lengthOf kind → due ≡ isItem kind → r ≡ faultAt bytes due (eqb size n) true 5
       → r ≡ itemFault bytes

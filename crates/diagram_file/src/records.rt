@@ -18,6 +18,7 @@ use diagram_table::USE_SIZE;
 use diagram_table::USES_NUMBER;
 use diagram_table::USES_START;
 use effbd::refusals::BYTES_AFTER_LAST;
+use effbd::refusals::CUT_SHORT;
 use effbd::refusals::FIELD_OFF;
 use effbd::refusals::HEAD_VALUE_OFF;
 use effbd::refusals::TRIGGER_OFF;
@@ -122,11 +123,14 @@ fn function_fault(bytes: &[u8], base: u16, behind: u16, items: u16) -> u16
     words::record_fault(bytes, true, right, fine, FIELD_OFF)
 }
 
-// One look at the kind finds all that is asked of a row.
+// One look at the length serves what follows, and one at the kind finds all that is asked of a row.
 fn row_fault(bytes: &[u8], entries: &[u8], items: u16) -> u16
     requires { ⌜ KindBytes (now entries) ⌝ }
     ensures { λ r. ⌜ r ≡ rowFault items (now (bytes .entry)) ⌝ }
 {
+    if bytes.len() < 4 {
+        return CUT_SHORT;
+    }
     let kind = words::word(bytes, 2);
     let size = words::word(bytes, 0);
     let base = kinds::base_length(entries, kind);
@@ -208,6 +212,9 @@ fn item_fault(bytes: &[u8], entries: &[u8]) -> u16
     requires { ⌜ KindBytes (now entries) ⌝ }
     ensures { λ r. ⌜ r ≡ itemFault (now (bytes .entry)) ⌝ }
 {
+    if bytes.len() < 4 {
+        return CUT_SHORT;
+    }
     let kind = words::word(bytes, 2);
     let right = words::word(bytes, 0) == kinds::base_length(entries, kind);
     words::record_fault(bytes, is_item(kind), right, true, FIELD_OFF)

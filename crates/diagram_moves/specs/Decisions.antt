@@ -1,5 +1,5 @@
 -- What a move is told before anything is written: over the table and the state's words, in the program's order. Assumes nothing.
-use Prim.Native.Nat.{ℕ, _+_, _-_, _*_}
+use Prim.Native.Nat.{ℕ, zero, suc, _+_, _-_, _*_}
 use mathlib.Core.Bool.{Bool, true, false, not, cond, _&&_, _||_}
 use mathlib.Core.List.{List, [], _∷_}
 use lib.ListN.{length, getD}
@@ -34,6 +34,15 @@ countAllows giving rows first amount words i = not (exceeds giving (getD words (
 
 unfoldable pub runBlocked : (giving : Bool) (rows first amount n : ℕ) → List ℕ → Bool
 runBlocked giving rows first amount n words = not (allBelow n (countAllows giving rows first amount words))
+
+-- how many of so many counts from number `first` on stand in a state: all, but for one that is too short
+unfoldable pub standing : (rows first n : ℕ) → List ℕ → ℕ
+standing rows first n words = cond (leb (countPlace rows (first + n)) (length words)) n (length words - countPlace rows first)
+
+-- the largest of so many counts from number `first` on
+unfoldable pub mostOf : (rows first : ℕ) (words : List ℕ) → ℕ → ℕ
+mostOf rows first words zero = 0
+mostOf rows first words (suc i) = let most = mostOf rows first words i in let count = getD words (countPlace rows (first + i)) 0 in cond (ltb most count) count most
 
 module _ (table : List ℕ) where
   -- use j of row r, of so much of item k, is stopped by a count of its run; an amount of 0 has no business with them

@@ -4,6 +4,7 @@ pub mod Stores
 pub mod RowStores
 pub mod BusyRows
 pub mod RisingUses
+pub mod StandingCounts
 pub mod UseRuns
 pub mod TokenMoves
 pub mod FunctionMoves

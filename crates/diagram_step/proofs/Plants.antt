@@ -13,7 +13,7 @@ use Rattle.effbd.specs.Moves.{freshDiagram}
 use Rattle.diagram_table.specs.Cells.{someTriggerIn, countsIn}
 use Rattle.diagram_table.specs.Held.{HoldsFile, HoldsPlant, FreshFront, FreshOf}
 use Rattle.diagram_file.specs.Tables.{Freshened}
-use Rattle.copies.specs.Promised.{Widened, FreshMade}
+use Rattle.copies.specs.Promised.{WidenedPlant, FreshMade}
 use Rattle.copies.proofs.Plants.{plain-plant}
 use Rattle.copies.proofs.Freshness.{plain-fresh}
 use Rattle.agreement.specs.AcceptedFiles.{held}
@@ -56,7 +56,7 @@ module _ (file : List ℕ) (rows items : ℕ) (table : List ℕ) (h : HoldsFile 
     plain-words fresh f = words-of (h .diagram) fresh (3 * rows + items) (plain-state fresh f) (plain-size ∙ plant-places file [] rows items table plain-table)
 
   -- with copies
-  module _ (bytes : areBytes file ≡ true) (wide : List ℕ) (w : Widened file rows items table wide) where
+  module _ (bytes : areBytes file ≡ true) (wide : List ℕ) (w : WidenedPlant file rows items table wide) where
     pub wide-state : (plain fresh : List ℕ) → Freshened rows items table plain → FreshMade rows items plain wide fresh → FreshOf (w .plant h .held .diagram) fresh
     wide-state plain fresh f m = let p = w .plant h in
         m .of (p .held .diagram) (held file (p .held .diagram) bytes (p .held .read)) (p .held .holds) (p .copies) (subst (λ (d : Diagram). FreshFront d plain) (sym (w .same h)) (f .of (h .diagram) (h .holds)))

@@ -8,21 +8,21 @@ ghost use lib.ListN.{length};
 ghost use Rattle.diagram_table.specs.Cells.{ownerIn, closeIn, someTriggerIn};
 ghost use Rattle.diagram_table.specs.Held.{HoldsFile};
 ghost use Rattle.diagram_moves.specs.Changes.{rowSet, entered, branchesTurned, itOpenChange, exitChange, functionChange, rowChange, moveChange, tableMove, checkedTableMove, freshPlaced};
-use diagram_decide::cells;
-use diagram_decide::check;
+use diagram_changes::counts;
+use diagram_changes::tokens;
 use diagram_file::Diagram;
+use diagram_state::cells;
+use diagram_state::check;
 use diagram_table::CLOSE;
 use diagram_table::FIRST;
 use diagram_table::LOOP;
 use diagram_table::OWNER;
 use diagram_table::SOME_TRIGGER;
+use diagram_table::WIDE;
 use effbd::Answer;
 use effbd::moves;
 use effbd::refusals;
 use words::kinds;
-
-mod counts;
-mod tokens;
 
 // An IT open: one turn more, or the turns are over and the row after its close is entered.
 fn turn_iteration(table: &[u16], state: &mut [u16], row: u16)
@@ -196,7 +196,8 @@ pub fn step(file: &[u8], state: &mut [u16], code: u16, argument: u16) -> Answer
             argument,
         );
     }
-    let table = copies::widened(&diagram.table, rows, items, file);
+    let mut table = [0u16; WIDE];
+    copies::widen(&mut table, &diagram.table, rows, items, file);
     step_table(&table, rows as u32, items, file, state, code, argument)
 }
 
@@ -221,7 +222,8 @@ fn fresh_with_copies(diagram: Diagram, file: &[u8], state: &mut [u16]) -> Answer
 {
     let rows = diagram.rows;
     let items = diagram.items;
-    let table = copies::widened(&diagram.table, rows, items, file);
+    let mut table = [0u16; WIDE];
+    copies::widen(&mut table, &diagram.table, rows, items, file);
     let size = 3 * rows as usize + diagram_table::count_total(&table, items) as usize;
     let plain = diagram.fresh();
     let fresh = copies::fresh_state(&plain, &table, rows, items);

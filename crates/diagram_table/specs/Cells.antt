@@ -17,27 +17,37 @@ cellOf column row = mostRows * column + row
 abbrev pub columns : ℕ
 columns = 9
 
--- the cells of an item: 0 initial count, 1 whether it is a trigger, 2 how many rows receive it, 3 the number of its first copy
+-- the cells of an item: 0 initial count, 1 whether it is a trigger
 abbrev pub itemCell : (column item : ℕ) → ℕ
 itemCell column k = mostRows * columns + mostItems * column + k
 
 abbrev pub itemColumns : ℕ
-itemColumns = 4
+itemColumns = 2
 
--- behind them whether some item is a trigger, and the number of copies
+-- behind them whether some item is a trigger
 abbrev pub someTriggerCell : ℕ
 someTriggerCell = itemCell itemColumns 0
 
-abbrev pub copiesCell : ℕ
-copiesCell = itemCell itemColumns 1
-
--- how many cells a table has
+-- how many cells a table has that says nothing of copies
 abbrev pub cellTotal : ℕ
-cellTotal = itemCell itemColumns 2
+cellTotal = itemCell itemColumns 1
 
--- where there are triggers, behind all these a cell for each use of each row: its row's place among the receivers of its item
+-- where there are triggers, behind all these of an item how many rows receive it, and the number of its first copy; the number of copies
+abbrev pub receiversCell : (item : ℕ) → ℕ
+receiversCell k = cellTotal + k
+
+abbrev pub firstCopyCell : (item : ℕ) → ℕ
+firstCopyCell k = cellTotal + mostItems + k
+
+abbrev pub copiesCell : ℕ
+copiesCell = cellTotal + 2 * mostItems
+
+abbrev pub countedTotal : ℕ
+countedTotal = cellTotal + 2 * mostItems + 1
+
+-- then a cell for each use of each row: its row's place among the receivers of its item
 abbrev pub rankCell : (row index : ℕ) → ℕ
-rankCell r j = cellTotal + mostItems * r + j
+rankCell r j = countedTotal + mostItems * r + j
 
 abbrev pub wideTotal : ℕ
 wideTotal = rankCell mostRows 0
@@ -85,10 +95,10 @@ module _ (table : List ℕ) where
   triggerIn k = getD table (itemCell 1 k) 0
 
   abbrev pub receiversIn : ℕ → ℕ
-  receiversIn k = getD table (itemCell 2 k) 0
+  receiversIn k = getD table (receiversCell k) 0
 
   abbrev pub firstCopyIn : ℕ → ℕ
-  firstCopyIn k = getD table (itemCell 3 k) 0
+  firstCopyIn k = getD table (firstCopyCell k) 0
 
   -- 1 where some item is a trigger; the number of copies
   abbrev pub someTriggerIn : ℕ

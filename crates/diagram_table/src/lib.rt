@@ -28,27 +28,29 @@ pub const CLOSE: u32 = 7 * COLUMN;
 
 pub const LOOP: u32 = 8 * COLUMN;
 
-// Behind the columns the items' initial counts; 1 for each item that is a trigger; how many rows receive it; the number of its first copy.
+// Behind the columns the items' initial counts; 1 for each item that is a trigger; whether some item is one.
 pub const COUNT: u32 = 9 * COLUMN;
 
 pub const TRIGGER: u32 = COUNT + MOST_ITEMS as u32;
 
-pub const RECEIVERS: u32 = COUNT + 2 * MOST_ITEMS as u32;
+pub const SOME_TRIGGER: u32 = COUNT + 2 * MOST_ITEMS as u32;
 
-pub const FIRST_COPY: u32 = COUNT + 3 * MOST_ITEMS as u32;
+// How many cells a table has that says nothing of copies: a plant without triggers pays for no more.
+pub const CELLS: usize = SOME_TRIGGER as usize + 1;
 
-// Then whether some item is a trigger, and the number of copies.
-pub const SOME_TRIGGER: u32 = COUNT + 4 * MOST_ITEMS as u32;
+// Where there are triggers, behind all these how many rows receive each item, the number of its first copy, and the number of copies.
+pub const RECEIVERS: u32 = CELLS as u32;
 
-pub const COPIES: u32 = SOME_TRIGGER + 1;
+pub const FIRST_COPY: u32 = RECEIVERS + MOST_ITEMS as u32;
 
-// How many cells a table has.
-pub const CELLS: usize = COPIES as usize + 1;
+pub const COPIES: u32 = FIRST_COPY + MOST_ITEMS as u32;
 
-// Where there are triggers, behind all these a cell for each use of each row: how many rows above it receive the item.
-pub const RANK: u32 = CELLS as u32;
+pub const COUNTED: usize = COPIES as usize + 1;
 
-pub const WIDE: usize = CELLS + MOST_ROWS as usize * MOST_ITEMS as usize;
+// Then a cell for each use of each row: how many rows above it receive the item.
+pub const RANK: u32 = COUNTED as u32;
+
+pub const WIDE: usize = COUNTED + MOST_ROWS as usize * MOST_ITEMS as usize;
 
 // The bytes of a use: item, take, give.
 pub const USE_SIZE: usize = 6;

@@ -4,7 +4,7 @@ use mathlib.Core.Path.{_≡_, refl, sym, _∙_, ap, ap₂, subst}
 use mathlib.Core.Bool.{Bool, true, _&&_}
 use mathlib.Core.List.{List, _++_}
 use native.Mathlib.Omega.{arith}
-use lib.ListN.{length, take, drop, length-append, length-drop}
+use lib.ListN.{length, take, drop, length-append}
 use lib.Seq.{length-take-le}
 use lib.Dec.{leb}
 use borrow.Author.Tests.{eq-eqb, leb-true}
@@ -120,21 +120,20 @@ fresh-net-long : (n : Net) → length (freshNetWords n) ≡ netWordCount n
 unfolding freshNetWords
 fresh-net-long n = length-append (n .marks) _ ∙ ap (λ (k : ℕ). length (n .marks) + k) (length-tab (length (n .transitions)) (λ x. 0))
 
-laid-over : (after front area : List ℕ) (n : ℕ) → after ≡ front ++ drop n area → length front ≡ n → n ≤ length area → length after ≡ length area
-laid-over after front area n e f l = let a = ap length e ∙ length-append front (drop n area) in let b = length-drop n area in omega arith
+-- a part that starts what was lent is no longer than that
+starts-within : (after front rest : List ℕ) (n : ℕ) → after ≡ front ++ rest → n ≡ length front → n ≤ length after
+starts-within after front rest n e f = let a = ap length e ∙ length-append front rest in omega arith
 
--- and what is lent keeps its length
-pub lengths-kept : (o : Outcome Diagram) (net leader follower net′ leader′ follower′ : List ℕ) (size words words′ : ℕ)
-    → ReadyAs o net leader follower net′ leader′ follower′ size words words′ → netRoom ≤ length net → leaderRoom ≤ length leader → followerRoom ≤ length follower
-    → (length net′ ≡ length net) × ((length leader′ ≡ length leader) × (length follower′ ≡ length follower))
-lengths-kept (accepted d) net leader follower net′ leader′ follower′ size words words′ r a b c =
-    let f = r .fresh in
-    let x = r .net-fits in let y = f .leader-fits in let z = f .follower-fits in (
-      laid-over net′ (netFileOf d) net size (r .net-holds) (sym (r .net-long)) (omega arith),
+-- and what was lent has each of them as a part
+pub sizes-within : (o : Outcome Diagram) (net leader follower net′ leader′ follower′ : List ℕ) (size words words′ : ℕ)
+    → ReadyAs o net leader follower net′ leader′ follower′ size words words′ → (size ≤ length net′) × ((words ≤ length leader′) × (words′ ≤ length follower′))
+sizes-within (accepted d) net leader follower net′ leader′ follower′ size words words′ r =
+    let f = r .fresh in (
+      starts-within net′ (netFileOf d) (drop size net) size (r .net-holds) (r .net-long),
       (
-        laid-over leader′ (freshWords d) leader words (f .leader-holds) (fresh-long d ∙ sym (f .leader-long)) (omega arith),
-        laid-over follower′ (freshNetWords (netOf d)) follower words′ (f .follower-holds) (fresh-net-long (netOf d) ∙ sym (f .follower-long)) (omega arith),
+        starts-within leader′ (freshWords d) (drop words leader) words (f .leader-holds) (f .leader-long ∙ sym (fresh-long d)),
+        starts-within follower′ (freshNetWords (netOf d)) (drop words′ follower) words′ (f .follower-holds) (f .follower-long ∙ sym (fresh-net-long (netOf d))),
       ),
     )
-lengths-kept (refused n v) net leader follower net′ leader′ follower′ size words words′ r a b c =
-    (ap length (r .net-kept), (ap length (r .leader-kept), ap length (r .follower-kept)))
+sizes-within (refused n v) net leader follower net′ leader′ follower′ size words words′ r =
+    let a = r .no-net in let b = r .no-leader in let c = r .no-follower in (omega arith, (omega arith, omega arith))

@@ -30,8 +30,8 @@ use Rattle.diagram_table.specs.Held.{HoldsFile}
 use Rattle.diagram_file.specs.declared.Diagram.{Diagram as Table}
 use Rattle.translate.proofs.Sizes.{net-short}
 use Rattle.copies.specs.Counting.{copiesCounted}
-use Rattle.copies.specs.Promised.{zeros, Widened}
-use Rattle.copies.proofs.Plants.{widened-is}
+use Rattle.copies.specs.Promised.{zeros, WidenedPlant}
+use Rattle.copies.proofs.Plants.{widened-by}
 use Rattle.diagram_table.specs.Cells.{wideTotal}
 use Rattle.play.specs.CallList.{callsOf, listAfter}
 use Rattle.play.specs.ReadyEnds.{netLength, NetLaid, NetLaidAs, NetOf, asLong}
@@ -71,13 +71,13 @@ module _ (file : List ℕ) (rows items : ℕ) (table : List ℕ) (h : HoldsFile 
   abbrev wide : List ℕ
   wide = copiesCounted file rows items table (zeros wideTotal)
 
-  widened : Widened file rows items table (wide ++ [])
-  widened = widened-is file rows items table bytes (zeros wideTotal) wide refl refl
+  widened : WidenedPlant file rows items table wide
+  widened = widened-by file rows items table bytes
 
   small : length (netFileOf (h .diagram)) ≤ netRoom
   small = let p = widened .plant h in
       subst (λ (d : Diagram). length (netFileOf d) ≤ netRoom) (widened .same h)
-      (net-short (p .held .diagram) rows items (wide ++ []) file (p .held .holds) (p .held .uses) (p .copies) (p .ranks) (held file (p .held .diagram) bytes (p .held .read)))
+      (net-short (p .held .diagram) rows items wide file (p .held .holds) (p .held .uses) (p .copies) (p .ranks) (held file (p .held .diagram) bytes (p .held .read)))
 
   translation : (area : List ℕ) → netRoom ≤ length area
       → translated file area ≡ record { answer = accepted (length (netFileOf (h .diagram))); area = netFileOf (h .diagram) ++ drop (length (netFileOf (h .diagram))) area }

@@ -7,9 +7,10 @@ ghost use Rattle.effbd.specs.Starts.{logStarts};
 ghost use Rattle.starts.specs.Faults.{startsFault};
 ghost use Rattle.starts.specs.Counting.{noWindow, waited, Turning, Turned, Counting, FreshPlant};
 ghost use Rattle.diagram_table.specs.Held.{HoldsFile};
-use diagram_decide::cells;
 use diagram_file::Diagram;
+use diagram_state::cells;
 use diagram_table::SOME_TRIGGER;
+use diagram_table::WIDE;
 use effbd::Answer;
 use effbd::moves;
 use effbd::refusals;
@@ -167,7 +168,14 @@ fn starts_with_copies(diagram: Diagram, file: &[u8], log: &[u8], row: u16, at: &
     ensures { λ r. ⌜ said r ≡ logStarts (now (file .entry)) (now (log .entry)) row (now (at .entry)) .answer ⌝ }
     ensures { λ _. ⌜ now (at .exit) ≡ logStarts (now (file .entry)) (now (log .entry)) row (now (at .entry)) .at ⌝ }
 {
-    let table = copies::widened(&diagram.table, diagram.rows, diagram.items, file);
+    let mut table = [0u16; WIDE];
+    copies::widen(
+        &mut table,
+        &diagram.table,
+        diagram.rows,
+        diagram.items,
+        file,
+    );
     let rows = diagram.rows;
     let items = diagram.items;
     let plain = diagram.fresh();

@@ -4,11 +4,11 @@ ghost use Prim.Native.Nat.{_≤_};
 ghost use lib.ListN.{length};
 ghost use Rattle.effbd.specs.Answers.{said};
 ghost use Rattle.effbd.specs.Patterns.{translated};
-ghost use Rattle.diagram_table.specs.Cells.{someTriggerIn};
 ghost use Rattle.diagram_table.specs.Held.{HoldsPlant};
 ghost use Rattle.net_records.specs.Writing.{flat, Wrote};
 ghost use Rattle.translate.specs.NetRecords.{netRecords, longestNet};
 use diagram_table::SOME_TRIGGER;
+use diagram_table::WIDE;
 use effbd::Answer;
 use effbd::refusals::AREA_SHORT;
 use net_rows::marks;
@@ -59,34 +59,21 @@ fn write_measured(table: &[u16], file: &[u8], rows: u16, items: u16, area: &mut 
     write_whole(table, file, rows, items, area)
 }
 
-// The net of an accepted file; an area with room for every net of its rows, items and counts needs no measuring.
-fn write(table: &[u16], file: &[u8], rows: u16, items: u16, area: &mut [u8]) -> Answer
+// The net of an accepted file, which is known to have at most so many bytes: an area with room for these needs no measuring.
+fn write(table: &[u16], file: &[u8], rows: u16, items: u16, most: usize, area: &mut [u8]) -> Answer
     requires { ⌜ HoldsPlant (now file) rows items (now table) ⌝ }
+    requires { ⌜ length (flat (netRecords (now table) (now file) rows items)) ≤ most ⌝ }
     ensures { λ r. ⌜ said r ≡ translated (now (file .entry)) (now (area .entry)) .answer ⌝ }
     ensures { λ _. ⌜ now (area .exit) ≡ translated (now (file .entry)) (now (area .entry)) .area ⌝ }
 {
-    let counts = diagram_table::count_total(table, items);
-    if area.len() < longest(rows, items, counts) {
+    if area.len() < most {
         return write_measured(table, file, rows, items, area);
     }
     write_whole(table, file, rows, items, area)
 }
 
-// No net of a plant without triggers is longer (`plain-shorter`).
+// No net of a plant without triggers is longer (`plain-shorter`): its bound needs no computing.
 const LONGEST_PLAIN: usize = 40424;
-
-// The same of a plant without triggers, whose bound needs no computing.
-fn write_plain(table: &[u16], file: &[u8], rows: u16, items: u16, area: &mut [u8]) -> Answer
-    requires { ⌜ HoldsPlant (now file) rows items (now table) ⌝ }
-    requires { ⌜ someTriggerIn (now table) ≡ 0 ⌝ }
-    ensures { λ r. ⌜ said r ≡ translated (now (file .entry)) (now (area .entry)) .answer ⌝ }
-    ensures { λ _. ⌜ now (area .exit) ≡ translated (now (file .entry)) (now (area .entry)) .area ⌝ }
-{
-    if area.len() < LONGEST_PLAIN {
-        return write(table, file, rows, items, area);
-    }
-    write_whole(table, file, rows, items, area)
-}
 
 // The net of a diagram file, written into the first bytes of the area: answers its length. A refused file's refusal, and AREA_SHORT with
 // the bytes needed where the area is too short; then nothing is altered.
@@ -99,8 +86,24 @@ pub fn translate(file: &[u8], area: &mut [u8]) -> Answer
         return Answer::Refused(diagram.number, diagram.value);
     }
     if diagram_table::cell(&diagram.table, SOME_TRIGGER, 0) == 0 {
-        return write_plain(&diagram.table, file, diagram.rows, diagram.items, area);
+        return write(
+            &diagram.table,
+            file,
+            diagram.rows,
+            diagram.items,
+            LONGEST_PLAIN,
+            area,
+        );
     }
-    let table = copies::widened(&diagram.table, diagram.rows, diagram.items, file);
-    write(&table, file, diagram.rows, diagram.items, area)
+    let mut table = [0u16; WIDE];
+    copies::widen(
+        &mut table,
+        &diagram.table,
+        diagram.rows,
+        diagram.items,
+        file,
+    );
+    let counts = diagram_table::count_total(&table, diagram.items);
+    let most = longest(diagram.rows, diagram.items, counts);
+    write(&table, file, diagram.rows, diagram.items, most, area)
 }

@@ -1,8 +1,7 @@
-use Prim.Native.Nat.{ℕ, _≤_}
-use lib.ListN.{length, replicate, length-replicate}
-use Rattle.translate.specs.NetRecords.{netRoom}
+use Prim.Native.Nat.{_≤_}
+use lib.ListN.{length}
 use Rattle.play.specs.ReadyEnds.{leaderRoom, followerRoom}
-use Rattle.play.proofs.Readied.{sizes-fit, lengths-kept}
+use Rattle.play.proofs.Readied.{sizes-fit, sizes-within}
 use Rattle.bus_play.proofs.ListReading.{part-few}
 use Rattle.effbd.specs.Nesting.{readDiagram}
 use native.Mathlib.Omega.{arith}
@@ -12,9 +11,9 @@ use borrow.Author.Needs.{needs}
 use Rattle.bus_play.proofs.show_list.Statement.{statement}
 use Rattle.bus_play.proofs.show_list.Tie as tie
 
--- the zeros of the net, counted by a law and not one by one
-net-room : netRoom ≤ length (replicate {A = ℕ} netRoom 0)
-net-room = rw (length-replicate {A = ℕ} netRoom 0) (omega arith)
+-- each size that `ready` answers is within what it left, however long that is: the zeros lent to it need no counting
+within : (c : tie.After-ready) → (c .ready .result .net ≤ length (c .ready .last .1 .0)) × ((c .ready .result .states .leader ≤ length (c .ready .last .1 .1 .0)) × (c .ready .result .states .follower ≤ length (c .ready .last .1 .1 .1 .0)))
+within c = sizes-within (readDiagram (c .before .before .before .before .before .args .file .now)) _ _ _ _ _ _ _ _ _ (c .ready .ensures .1)
 
 ready-requires : tie.Need-ready-requires
 ready-requires c κs = search needs
@@ -35,46 +34,28 @@ cast-net : tie.Need-cast-net
 cast-net c = search needs
 
 array-share-prefix-net : tie.Need-array-share-prefix-net
-array-share-prefix-net c =
-    let f = sizes-fit (readDiagram (c .before .before .before .before .before .before .before .before .before .before .args .file .now)) _ _ _ _ _ _ _ _ _ (c .before .before .before .before .before .ready .ensures .1) in
-    let k = lengths-kept (readDiagram (c .before .before .before .before .before .before .before .before .before .before .args .file .now)) _ _ _ _ _ _ _ _ _ (c .before .before .before .before .before .ready .ensures .1) net-room (omega arith) (omega arith) in
-    omega arith
+array-share-prefix-net c = within (c .before .before .before .before .before) .0
 
 slice-aggregate-show-calls : tie.Need-slice-aggregate-show-calls
-slice-aggregate-show-calls c =
-    let f = sizes-fit (readDiagram (c .before .before .before .before .before .before .before .before .before .before .before .args .file .now)) _ _ _ _ _ _ _ _ _ (c .before .before .before .before .before .before .ready .ensures .1) in
-    let k = lengths-kept (readDiagram (c .before .before .before .before .before .before .before .before .before .before .before .args .file .now)) _ _ _ _ _ _ _ _ _ (c .before .before .before .before .before .before .ready .ensures .1) net-room (omega arith) (omega arith) in
-    sym (length-take-le (c .before .before .before .before .before .before .ready .result .net) (c .before .before .before .before .before .before .ready .last .1 .0) (omega arith))
+slice-aggregate-show-calls c = sym (length-take-le (c .before .before .before .before .before .before .ready .result .net) (c .before .before .before .before .before .before .ready .last .1 .0) (within (c .before .before .before .before .before .before) .0))
 
 cast-leader : tie.Need-cast-leader
 cast-leader c = search needs
 
 array-borrow-prefix-leader : tie.Need-array-borrow-prefix-leader
-array-borrow-prefix-leader c =
-    let f = sizes-fit (readDiagram (c .before .before .before .before .before .before .before .before .before .before .before .before .args .file .now)) _ _ _ _ _ _ _ _ _ (c .before .before .before .before .before .before .before .ready .ensures .1) in
-    let k = lengths-kept (readDiagram (c .before .before .before .before .before .before .before .before .before .before .before .before .args .file .now)) _ _ _ _ _ _ _ _ _ (c .before .before .before .before .before .before .before .ready .ensures .1) net-room (omega arith) (omega arith) in
-    omega arith
+array-borrow-prefix-leader c = within (c .before .before .before .before .before .before .before) .1 .0
 
 slice-aggregate-show-calls-2 : tie.Need-slice-aggregate-show-calls-2
-slice-aggregate-show-calls-2 c =
-    let f = sizes-fit (readDiagram (c .before .before .before .before .before .before .before .before .before .before .before .before .before .args .file .now)) _ _ _ _ _ _ _ _ _ (c .before .before .before .before .before .before .before .before .ready .ensures .1) in
-    let k = lengths-kept (readDiagram (c .before .before .before .before .before .before .before .before .before .before .before .before .before .args .file .now)) _ _ _ _ _ _ _ _ _ (c .before .before .before .before .before .before .before .before .ready .ensures .1) net-room (omega arith) (omega arith) in
-    sym (length-take-le (c .before .before .before .before .before .before .before .before .ready .result .states .leader) (c .before .before .before .before .before .before .before .before .ready .last .1 .1 .0) (omega arith))
+slice-aggregate-show-calls-2 c = sym (length-take-le (c .before .before .before .before .before .before .before .before .ready .result .states .leader) (c .before .before .before .before .before .before .before .before .ready .last .1 .1 .0) (within (c .before .before .before .before .before .before .before .before) .1 .0))
 
 cast-follower : tie.Need-cast-follower
 cast-follower c = search needs
 
 array-borrow-prefix-follower : tie.Need-array-borrow-prefix-follower
-array-borrow-prefix-follower c =
-    let f = sizes-fit (readDiagram (c .before .before .before .before .before .before .before .before .before .before .before .before .before .before .args .file .now)) _ _ _ _ _ _ _ _ _ (c .before .before .before .before .before .before .before .before .before .ready .ensures .1) in
-    let k = lengths-kept (readDiagram (c .before .before .before .before .before .before .before .before .before .before .before .before .before .before .args .file .now)) _ _ _ _ _ _ _ _ _ (c .before .before .before .before .before .before .before .before .before .ready .ensures .1) net-room (omega arith) (omega arith) in
-    omega arith
+array-borrow-prefix-follower c = within (c .before .before .before .before .before .before .before .before .before) .1 .1
 
 slice-aggregate-show-calls-3 : tie.Need-slice-aggregate-show-calls-3
-slice-aggregate-show-calls-3 c =
-    let f = sizes-fit (readDiagram (c .before .before .before .before .before .before .before .before .before .before .before .before .before .before .before .args .file .now)) _ _ _ _ _ _ _ _ _ (c .before .before .before .before .before .before .before .before .before .before .ready .ensures .1) in
-    let k = lengths-kept (readDiagram (c .before .before .before .before .before .before .before .before .before .before .before .before .before .before .before .args .file .now)) _ _ _ _ _ _ _ _ _ (c .before .before .before .before .before .before .before .before .before .before .ready .ensures .1) net-room (omega arith) (omega arith) in
-    sym (length-take-le (c .before .before .before .before .before .before .before .before .before .before .ready .result .states .follower) (c .before .before .before .before .before .before .before .before .before .before .ready .last .1 .1 .1 .0) (omega arith))
+slice-aggregate-show-calls-3 c = sym (length-take-le (c .before .before .before .before .before .before .before .before .before .before .ready .result .states .follower) (c .before .before .before .before .before .before .before .before .before .before .ready .last .1 .1 .1 .0) (within (c .before .before .before .before .before .before .before .before .before .before) .1 .1))
 
 slice-aggregate-show-calls-4 : tie.Need-slice-aggregate-show-calls-4
 slice-aggregate-show-calls-4 c = search needs
@@ -82,7 +63,7 @@ slice-aggregate-show-calls-4 c = search needs
 show-calls-requires : tie.Need-show-calls-requires
 show-calls-requires c κs =
     let f = sizes-fit (readDiagram (c .before .before .before .before .before .before .before .before .before .before .before .before .before .before .before .before .args .file .now)) _ _ _ _ _ _ _ _ _ (c .before .before .before .before .before .before .before .before .before .before .before .ready .ensures .1) in
-    (part-few (c .before .before .before .before .before .before .before .before .before .before .before .ready .last .1 .1 .0) (c .before .before .before .before .before .before .before .before .before .before .before .ready .result .states .leader) leaderRoom (omega arith), (part-few (c .before .before .before .before .before .before .before .before .before .before .before .ready .last .1 .1 .1 .0) (c .before .before .before .before .before .before .before .before .before .before .before .ready .result .states .follower) followerRoom (omega arith), omega arith))
+    (part-few (c .before .before .before .before .before .before .before .before .before .before .before .ready .last .1 .1 .0) (c .before .before .before .before .before .before .before .before .before .before .before .ready .result .states .leader) leaderRoom (f .1 .0), (part-few (c .before .before .before .before .before .before .before .before .before .before .before .ready .last .1 .1 .1 .0) (c .before .before .before .before .before .before .before .before .before .before .before .ready .result .states .follower) followerRoom (f .1 .1), omega arith))
 
 show-end-requires : tie.Need-show-end-requires
 show-end-requires c κs = search needs

@@ -2,7 +2,7 @@ use Rattle.effbd.specs.Diagrams.{mostItems}
 use Rattle.copies.proofs.Turns.{uses-turn, uses-end}
 use Rattle.copies.specs.Counting.{usesCounted}
 use Rattle.diagram_table.proofs.UsesWalked.{uses-fall}
-use Rattle.diagram_table.specs.Cells.{cellTotal, rankCell, usesOf}
+use Rattle.diagram_table.specs.Cells.{countedTotal, rankCell, usesOf}
 use native.Mathlib.Omega.{arith}
 use lib.ListN.{length, length-drop}
 use mathlib.Core.Path.{_≡_, refl, _∙_, ap}
@@ -31,7 +31,7 @@ add-at c = search needs
 
 loop-holds : tie.Need-loop-holds Inv-loop μ-loop
 loop-holds c =
-    let a = c .before .before .args in let z : cellTotal + mostItems * a .row ≡ rankCell (a .row) 0 = omega arith in
+    let a = c .before .before .args in let z : countedTotal + mostItems * a .row ≡ rankCell (a .row) 0 = omega arith in
     (refl, omega arith, ap (λ (n : ℕ). usesCounted n (usesOf (a .uses .now)) (a .table .now)) z)
 
 word-requires : tie.Need-word-requires Inv-loop μ-loop

@@ -3,6 +3,7 @@ use Rattle.diagram_step.proofs.Answered.{answered-as, step-turned}
 use Rattle.diagram_moves.specs.FileMoves.{step-is}
 use Rattle.agreement.specs.ByteLaws.{bytes-are}
 use native.Mathlib.Omega.{arith}
+use mathlib.Core.Path.{refl, sym}
 use borrow.Author.Needs.{needs}
 use Rattle.diagram_step.proofs.step.Statement.{statement}
 use Rattle.diagram_step.proofs.step.Tie as tie
@@ -35,11 +36,11 @@ returns-2 c =
     (plain-table (a .file .now) (p .result .rows) (p .result .items) (p .result .table) (p .ensures .holds (c .before .before .before .before .before .before .before .before .before .before .before .before .if1 .left)) (c .before .before .before .before .before .before .before .before .cell .ensures) (c .before .before .before .before .before .before .before .if2 .taken))
     (bytes-are (a .file .now) (λ i. omega (arith, c .before .before .before .before .before .before .before .before .before .before .before .before .before .before .before .shared-slice-known .given i))) (record { small = λ i. omega (arith, c .before .before .before .before .before .before .before .before .before .before .before .before .before .before .slice-known .given i) }) (a .code) (a .argument))
 
-widened-requires : tie.Need-widened-requires
-widened-requires c κs = search needs
+widen-requires : tie.Need-widen-requires
+widen-requires c κs = search needs
 
 slice-aggregate-step-table : tie.Need-slice-aggregate-step-table
-slice-aggregate-step-table c = search needs
+slice-aggregate-step-table c = sym (c .before .widen .ensures .long)
 
 cast-step-table : tie.Need-cast-step-table
 cast-step-table c = search needs
@@ -52,10 +53,10 @@ same-length-2 c = search needs
 
 returns-3 : tie.Need-returns-3
 returns-3 c =
-    let a = c .before .before .before .before .before .before .before .before .before .before .before .before .before .before .before .before .before .before .args in let p = c .before .before .before .before .before .before .before .before .before .before .before .before .before .before .before .parse in
+    let a = c .before .before .before .before .before .before .before .before .before .before .before .before .before .before .before .before .before .before .before .args in let p = c .before .before .before .before .before .before .before .before .before .before .before .before .before .before .before .before .parse in
     answered-as _ _ _ _ _ (c .before .before .step-table .ensures) (step-is (a .file .now) (a .state .now) (p .result .rows) (p .result .items) _
-    (c .before .before .before .before .before .widened .ensures .plant (p .ensures .holds (c .before .before .before .before .before .before .before .before .before .before .before .before .before .before .if1 .left)))
-    (bytes-are (a .file .now) (λ i. omega (arith, c .before .before .before .before .before .before .before .before .before .before .before .before .before .before .before .before .before .shared-slice-known .given i))) (record { small = λ i. omega (arith, c .before .before .before .before .before .before .before .before .before .before .before .before .before .before .before .before .slice-known .given i) }) (a .code) (a .argument))
+    (c .before .before .before .before .before .widen .ensures .of refl .plant (p .ensures .holds (c .before .before .before .before .before .before .before .before .before .before .before .before .before .before .before .if1 .left)))
+    (bytes-are (a .file .now) (λ i. omega (arith, c .before .before .before .before .before .before .before .before .before .before .before .before .before .before .before .before .before .before .shared-slice-known .given i))) (record { small = λ i. omega (arith, c .before .before .before .before .before .before .before .before .before .before .before .before .before .before .before .before .before .slice-known .given i) }) (a .code) (a .argument))
 
 pub step-spec : {M : Type 1} → statement M
 step-spec =
@@ -69,7 +70,7 @@ step-spec =
     step-plain-requires
     same-length
     returns-2
-    widened-requires
+    widen-requires
     slice-aggregate-step-table
     cast-step-table
     step-table-requires

@@ -1,34 +1,31 @@
-use Prim.Native.Nat.{ℕ, _≤_}
-use native.Mathlib.Omega.{arith}
-use lib.ListN.{length, replicate, length-replicate}
+use Prim.Native.Nat.{ℕ}
+use native.Mathlib.Nat.{le-of-eq}
+use lib.ListN.{length-replicate}
 use Rattle.translate.specs.NetRecords.{netRoom}
 use Rattle.play.proofs.Starts.{unplayed, file-refused, found-net}
 use Rattle.play.specs.Played.{playable}
 use Rattle.effbd.specs.Answers.{said}
 use lib.Seq.{length-take-le}
 use mathlib.Core.Path.{refl, sym, _∙_, ap}
-use borrow.Author.Needs.{needs}
+use mir.Facts.{fits-32-64}
 use Rattle.play.proofs.play.Statement.{statement}
 use Rattle.play.proofs.play.Tie as tie
 
--- the zeros of the area, counted by a law and not one by one
-net-room : netRoom ≤ length (replicate {A = ℕ} netRoom 0)
-net-room = rw (length-replicate {A = ℕ} netRoom 0) (omega arith)
-
+-- the zeros of the area are counted by a law; each answer names the fact that it uses, since `search` and `omega` would count them one by one
 slice-aggregate-translate-into : tie.Need-slice-aggregate-translate-into
-slice-aggregate-translate-into c = search needs
+slice-aggregate-translate-into c = sym (length-replicate {A = ℕ} netRoom 0)
 
 translate-into-requires : tie.Need-translate-into-requires
-translate-into-requires c κs = net-room
+translate-into-requires c κs = le-of-eq (sym (length-replicate {A = ℕ} netRoom 0))
 
 enum-known-answer : tie.Need-enum-known-answer
-enum-known-answer c = search needs
+enum-known-answer c = c .match .keys1
 
 enum-known-answer-2 : tie.Need-enum-known-answer-2
-enum-known-answer-2 c = search needs
+enum-known-answer-2 c = c .match .keys2
 
 cast-area : tie.Need-cast-area
-cast-area c = search needs
+cast-area c = fits-32-64 (record { fits = c .known-told2 .given .0 .1 })
 
 array-share-prefix-area : tie.Need-array-share-prefix-area
 array-share-prefix-area c =
@@ -54,16 +51,16 @@ returns c =
     (a .file .now) (a .station) (a .calls .now) (a .leader .now) (a .follower .now) (a .leader .now) refl
 
 same-length : tie.Need-same-length
-same-length c = search needs
+same-length c = c .before .before .before .before .before .before .play-net .kept .1 .1 .0
 
 same-length-2 : tie.Need-same-length-2
-same-length-2 c = search needs
+same-length-2 c = c .before .before .before .before .before .before .play-net .kept .1 .1 .1 .0
 
 same-length-3 : tie.Need-same-length-3
-same-length-3 c = search needs
+same-length-3 c = c .before .before .before .before .before .before .play-net .kept .1 .1 .1 .1 .1 .0
 
 returns-2 : tie.Need-returns-2
-returns-2 c = search needs
+returns-2 c = c .before .before .before .before .before .before .play-net .ensures
 
 pub play-spec : {M : Type 1} → statement M
 play-spec =

@@ -1,12 +1,13 @@
 use Rattle.diagram_step.proofs.Plants.{wide-room, wide-words}
 use Rattle.agreement.specs.ByteLaws.{bytes-are}
 use native.Mathlib.Omega.{arith}
+use mathlib.Core.Path.{refl}
 use borrow.Author.Needs.{needs}
 use Rattle.starts.proofs.starts_with_copies.Statement.{statement}
 use Rattle.starts.proofs.starts_with_copies.Tie as tie
 
-widened-requires : tie.Need-widened-requires
-widened-requires c κs = search needs
+widen-requires : tie.Need-widen-requires
+widen-requires c κs = search needs
 
 fresh-requires : tie.Need-fresh-requires
 fresh-requires c κs = search needs
@@ -54,12 +55,12 @@ part-state-start : tie.Need-part-state-start
 part-state-start c = search needs
 
 part-state-end : tie.Need-part-state-end
-part-state-end c = let a = c .before .before .before .before .before .before .before .before .before .before .before .before .before .args in let d = a .t1 in wide-room (a .file .now) (d .rows) (d .items) (d .table) (c .before .before .before .before .before .before .before .before .before .before .before .before .before .pre) (bytes-are (a .file .now) (λ i. omega (arith, c .before .before .before .before .before .before .before .before .before .before .before .before .shared-slice-known .given i))) (c .before .before .before .before .before .before .before .widened .result) (c .before .before .before .before .before .before .before .widened .ensures) (c .before .before .before .before .before .before .fresh .result) (c .before .before .before .fresh-state .result) (c .before .before .before .before .before .before .fresh .ensures) (c .before .before .before .fresh-state .ensures) (c .before .count-total .ensures)
+part-state-end c = let a = c .before .before .before .before .before .before .before .before .before .before .before .before .before .before .args in let d = a .t1 in wide-room (a .file .now) (d .rows) (d .items) (d .table) (c .before .before .before .before .before .before .before .before .before .before .before .before .before .before .pre) (bytes-are (a .file .now) (λ i. omega (arith, c .before .before .before .before .before .before .before .before .before .before .before .before .before .shared-slice-known .given i))) (c .before .before .before .before .before .before .before .widen .last .0) (c .before .before .before .before .before .before .before .widen .ensures .of refl) (c .before .before .before .before .before .before .fresh .result) (c .before .before .before .fresh-state .result) (c .before .before .before .before .before .before .fresh .ensures) (c .before .before .before .fresh-state .ensures) (c .before .count-total .ensures)
 
 starts-on-requires : tie.Need-starts-on-requires
 starts-on-requires c κs =
-    let a = c .before .before .before .before .before .before .before .before .before .before .before .before .before .before .before .args in let d = a .t1 in let w = c .before .before .before .before .before .before .before .before .before .widened in
-    record { plant = w .ensures .plant (c .before .before .before .before .before .before .before .before .before .before .before .before .before .before .before .pre); fresh = wide-words (a .file .now) (d .rows) (d .items) (d .table) (c .before .before .before .before .before .before .before .before .before .before .before .before .before .before .before .pre) (bytes-are (a .file .now) (λ i. omega (arith, c .before .before .before .before .before .before .before .before .before .before .before .before .before .before .shared-slice-known .given i))) (w .result) (w .ensures) (c .before .before .before .before .before .before .before .before .fresh .result) (c .before .before .before .before .before .fresh-state .result) (c .before .before .before .before .before .before .before .before .fresh .ensures) (c .before .before .before .before .before .fresh-state .ensures) (c .before .before .before .count-total .ensures) }
+    let a = c .before .before .before .before .before .before .before .before .before .before .before .before .before .before .before .before .args in let d = a .t1 in let w = c .before .before .before .before .before .before .before .before .before .widen in
+    record { plant = w .ensures .of refl .plant (c .before .before .before .before .before .before .before .before .before .before .before .before .before .before .before .before .pre); fresh = wide-words (a .file .now) (d .rows) (d .items) (d .table) (c .before .before .before .before .before .before .before .before .before .before .before .before .before .before .before .before .pre) (bytes-are (a .file .now) (λ i. omega (arith, c .before .before .before .before .before .before .before .before .before .before .before .before .before .before .before .shared-slice-known .given i))) (w .last .0) (w .ensures .of refl) (c .before .before .before .before .before .before .before .before .fresh .result) (c .before .before .before .before .before .fresh-state .result) (c .before .before .before .before .before .before .before .before .fresh .ensures) (c .before .before .before .before .before .fresh-state .ensures) (c .before .before .before .count-total .ensures) }
 
 returns : tie.Need-returns
 returns c = search needs
@@ -68,7 +69,7 @@ pub starts-with-copies-spec : {M : Type 1} → statement M
 starts-with-copies-spec =
     tie.close
     (tie.spec
-    widened-requires
+    widen-requires
     fresh-requires
     slice-aggregate-fresh-state
     slice-aggregate-fresh-state-2

@@ -1,6 +1,9 @@
-use Rattle.translate.proofs.AnswerAndArea.{turned-away}
+use Rattle.translate.proofs.AnswerAndArea.{turned-away, never-longer, plain-shorter}
+use Rattle.translate.specs.NetRecords.{longestNet}
 use Rattle.copies.proofs.Plants.{plain-plant}
-use mathlib.Core.Path.{sym, _∙_}
+use Rattle.agreement.specs.ByteLaws.{bytes-are}
+use native.Mathlib.Omega.{arith}
+use mathlib.Core.Path.{refl, sym, ap, _∙_}
 use borrow.Author.Needs.{needs}
 use Rattle.translate.proofs.translate.Statement.{statement}
 use Rattle.translate.proofs.translate.Tie as tie
@@ -16,11 +19,13 @@ returns c =
 cell-requires : tie.Need-cell-requires
 cell-requires c κs = search needs
 
-write-plain-requires : tie.Need-write-plain-requires
-write-plain-requires c κs =
+write-requires : tie.Need-write-requires
+write-requires c κs =
     let p = c .before .before .before .before .before .before .before .before .before .before .parse .result in
+    let file = c .before .before .before .before .before .before .before .before .before .before .before .before .before .args .file .now in
     let z = sym (c .before .before .before .before .before .cell .ensures) ∙ c .before .before .before .before .if2 .taken in
-    (plain-plant (c .before .before .before .before .before .before .before .before .before .before .before .before .before .args .file .now) (p .rows) (p .items) (p .table) (c .before .before .before .before .before .before .before .before .before .before .parse .ensures .holds (c .before .before .before .before .before .before .before .before .before .if1 .left)) z, z)
+    let plant = plain-plant file (p .rows) (p .items) (p .table) (c .before .before .before .before .before .before .before .before .before .before .parse .ensures .holds (c .before .before .before .before .before .before .before .before .before .if1 .left)) z in
+    (plant, plain-shorter file (p .rows) (p .items) (p .table) plant (bytes-are file (λ i. omega (arith, c .before .before .before .before .before .before .before .before .before .before .before .before .shared-slice-known .given i))) z)
 
 same-length : tie.Need-same-length
 same-length c = search needs
@@ -28,14 +33,30 @@ same-length c = search needs
 returns-2 : tie.Need-returns-2
 returns-2 c = search needs
 
-widened-requires : tie.Need-widened-requires
-widened-requires c κs = search needs
+widen-requires : tie.Need-widen-requires
+widen-requires c κs = search needs
+
+slice-aggregate-count-total : tie.Need-slice-aggregate-count-total
+slice-aggregate-count-total c = sym (c .before .widen .ensures .long)
+
+count-total-requires : tie.Need-count-total-requires
+count-total-requires c κs = search needs
+
+longest-requires : tie.Need-longest-requires
+longest-requires c κs = search needs
 
 slice-aggregate-write : tie.Need-slice-aggregate-write
-slice-aggregate-write c = search needs
+slice-aggregate-write c = sym (c .before .before .before .before .widen .ensures .long)
 
-write-requires : tie.Need-write-requires
-write-requires c κs = c .before .before .widened .ensures .plant (c .before .before .before .before .before .before .before .before .before .before .before .before .parse .ensures .holds (c .before .before .before .before .before .before .before .before .before .before .before .if1 .left))
+write-requires-2 : tie.Need-write-requires-2
+write-requires-2 c κs =
+    let p = c .before .before .before .before .before .before .before .before .before .before .before .before .before .before .before .before .parse .result in
+    let file = c .before .before .before .before .before .before .before .before .before .before .before .before .before .before .before .before .before .before .before .args .file .now in
+    let table = c .before .before .before .before .before .widen .last .0 in
+    let plant = c .before .before .before .before .before .widen .ensures .of refl .plant (c .before .before .before .before .before .before .before .before .before .before .before .before .before .before .before .before .parse .ensures .holds (c .before .before .before .before .before .before .before .before .before .before .before .before .before .before .before .if1 .left)) in
+    let bound = never-longer file (p .rows) (p .items) table plant (bytes-are file (λ i. omega (arith, c .before .before .before .before .before .before .before .before .before .before .before .before .before .before .before .before .before .before .shared-slice-known .given i))) in
+    let is = c .before .before .longest .ensures ∙ ap (longestNet (p .rows) (p .items)) (c .before .before .before .count-total .ensures) in
+    (plant, omega (arith, bound, is))
 
 same-length-2 : tie.Need-same-length-2
 same-length-2 c = search needs
@@ -50,11 +71,14 @@ translate-spec =
     parse-requires
     returns
     cell-requires
-    write-plain-requires
+    write-requires
     same-length
     returns-2
-    widened-requires
+    widen-requires
+    slice-aggregate-count-total
+    count-total-requires
+    longest-requires
     slice-aggregate-write
-    write-requires
+    write-requires-2
     same-length-2
     returns-3)

@@ -1,4 +1,4 @@
-use Rattle.diagram_decide.proofs.RowsChecked.{done-start, done-from}
+use Rattle.diagram_decide.proofs.BranchesDone.{done-start, done-from}
 use Rattle.diagram_moves.specs.RowStores.{all-more, all-less}
 use Rattle.diagram_moves.specs.Decisions.{doneFrom, allDoneTo}
 use Rattle.ranges.specs.RangeLaws.{all-fail}

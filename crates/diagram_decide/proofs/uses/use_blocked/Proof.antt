@@ -1,6 +1,8 @@
-use Rattle.diagram_decide.proofs.UsesBlocked.{one-blocked}
+use Rattle.diagram_decide.proofs.UsesBlocked.{one-blocked, give-is, more-given}
 use borrow.Author.Tests.{eq-eqb, ne-eqb}
-use Rattle.diagram_moves.specs.Decisions.{useBlocked}
+use Rattle.diagram_moves.specs.Decisions.{useBlocked, runBlocked}
+use mathlib.Core.Bool.{Bool}
+use mathlib.Core.Path.{_≡_, sym, subst}
 use borrow.Author.Needs.{needs}
 use Rattle.diagram_decide.proofs.uses.use_blocked.Statement.{statement}
 use Rattle.diagram_decide.proofs.uses.use_blocked.Tie as tie
@@ -25,12 +27,19 @@ returns-2 : tie.Need-returns-2
 unfolding useBlocked
 returns-2 c = let a = c .before .before .before .before .before .before .before .before .args in rw (ne-eqb _ _ (c .before .before .before .before .before .if1 .left), ← c .before .before .before .before .run-first .ensures, ← c .before .before .before .run-length .ensures) (one-blocked (a .giving) (a .rows) (c .before .before .before .before .run-first .result) (a .amount) (a .state .now) (c .before .before .if2 .taken) (c .before .count .ensures) (c .exceeds .ensures))
 
-run-blocked-requires : tie.Need-run-blocked-requires
-run-blocked-requires c κs = search needs
+most-in-requires : tie.Need-most-in-requires
+most-in-requires c κs = search needs
+
+exceeds-requires-2 : tie.Need-exceeds-requires-2
+exceeds-requires-2 c κs = search needs
 
 returns-3 : tie.Need-returns-3
 unfolding useBlocked
-returns-3 c = rw (ne-eqb _ _ (c .before .before .before .before .if1 .left), ← c .before .before .before .run-first .ensures, ← c .before .before .run-length .ensures) (c .run-blocked .ensures)
+returns-3 c =
+    let a = c .before .before .before .before .before .before .before .before .args in let first = c .before .before .before .before .run-first .result in let length = c .before .before .before .run-length .result in
+    rw (ne-eqb _ _ (c .before .before .before .before .before .if1 .left), ← c .before .before .before .before .run-first .ensures, ← c .before .before .before .run-length .ensures)
+    (subst (λ (g : Bool). c .exceeds2 .result ≡ runBlocked g (a .rows) first (a .amount) length (a .state .now)) (sym (more-given (a .table .now) (a .giving) (a .item) (c .before .before .before .run-length .ensures) (c .before .before .if2 .left)))
+    (give-is (a .rows) first (a .amount) (a .state .now) length (c .before .most-in .ensures) (c .exceeds2 .ensures)))
 
 pub use-blocked-spec : {M : Type 1} → statement M
 use-blocked-spec =
@@ -42,5 +51,6 @@ use-blocked-spec =
     count-requires
     exceeds-requires
     returns-2
-    run-blocked-requires
+    most-in-requires
+    exceeds-requires-2
     returns-3)
