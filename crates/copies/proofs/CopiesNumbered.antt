@@ -1,7 +1,6 @@
 -- The copies, numbered: a trigger's first one stands behind the items and the copies of the items in front of it.
 use Prim.Native.Nat.{ℕ, zero, suc, _+_, _*_, _≤_, _<_}
 use mathlib.Core.Path.{_≡_, sym, _∙_, ap, subst}
-use mathlib.Core.Logic.{_≢_}
 use mathlib.Core.List.{List}
 use native.Mathlib.Omega.{arith}
 use native.Mathlib.Numerals.{add-one}
@@ -16,8 +15,9 @@ use Rattle.agreement.specs.AcceptedFiles.{Held}
 use Rattle.agreement.specs.Counts.{counts-few}
 use Rattle.agreement.specs.Sources.{counts-are}
 use Rattle.diagram_table.specs.Cells.{receiversCell, firstCopyCell, copiesCell, countedTotal, receiversIn, firstCopyIn, copiesIn}
-use Rattle.copies.specs.Counting.{sumTo, copiesNumbered}
-use Rattle.copies.proofs.UsesCounted.{sum-is}
+use Rattle.words.specs.Sums.{added}
+use Rattle.words.proofs.PlainSums.{whole-sum}
+use Rattle.copies.specs.Counting.{copiesNumbered}
 
 module _ (d : Diagram) where
   pub copies-next : (k : ℕ) → length (copies d (suc k)) ≡ length (copies d k) + length (copiesOf d k (rowCount d))
@@ -58,22 +58,22 @@ module _ (d : Diagram) where
       firsts = λ i l m. absurd (omega arith);
       total = getD-set-same t copiesCell many 0 (omega arith) ∙ (em ∙ ap (λ x. length (copies d x)) (let y : k ≡ itemTotal d = omega arith in y));
     }
-    copies-numbered (suc n) k many t e em long r = one (copies-numbered n (k + 1) (sumTo many (receiversIn t k)) s (omega arith) more (omega (arith, length-set t (firstCopyCell k) (sumTo (itemTotal d) many)))
+    copies-numbered (suc n) k many t e em long r = one (copies-numbered n (k + 1) (added many (receiversIn t k)) s (omega arith) more (omega (arith, length-set t (firstCopyCell k) (added (itemTotal d) many)))
         (λ i l. getD-set-other t (firstCopyCell k) (receiversCell i) _ 0 (λ z. let x = h .items in absurd (omega arith)) ∙ r i l))
       where
         s : List ℕ
-        s = set t (firstCopyCell k) (sumTo (itemTotal d) many)
+        s = set t (firstCopyCell k) (added (itemTotal d) many)
 
-        more : sumTo many (receiversIn t k) ≡ length (copies d (k + 1))
+        more : added many (receiversIn t k) ≡ length (copies d (k + 1))
         more =
             let a = fits (k + 1) n (omega arith) in
             let y : length (copies d (k + 1)) ≡ many + receiversIn t k = ap (λ x. length (copies d x)) (add-one k) ∙ (copies-next k ∙ (let z = r k (omega arith) in omega arith)) in
-            sum-is many (receiversIn t k) (omega arith) ∙ sym y
+            whole-sum many (receiversIn t k) (omega arith) ∙ sym y
 
         own : firstCopyIn s k ≡ itemTotal d + length (copies d k)
         own =
             let x = h .items in let a = fits k (suc n) e in
-            getD-set-same t (firstCopyCell k) _ 0 (omega arith) ∙ (sum-is (itemTotal d) many (omega arith) ∙ ap (λ (y : ℕ). itemTotal d + y) em)
+            getD-set-same t (firstCopyCell k) _ 0 (omega arith) ∙ (whole-sum (itemTotal d) many (omega arith) ∙ ap (λ (y : ℕ). itemTotal d + y) em)
 
         one : {next : List ℕ} → CopiesDone (k + 1) s next → CopiesDone k t next
         one {next} w = let x = h .items in record {

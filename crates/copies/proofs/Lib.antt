@@ -1,5 +1,4 @@
 pub mod Turns
-pub mod Rising
 pub mod UsesCounted
 pub mod RowsCounted
 pub mod CopiesNumbered

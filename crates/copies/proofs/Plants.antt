@@ -1,5 +1,5 @@
 -- A widened table holds an accepted file's diagram with its copies, and so does a table that has no trigger, as it is.
-use Prim.Native.Nat.{ℕ, zero, suc, _+_, _*_, _≤_, _<_, zero-le}
+use Prim.Native.Nat.{ℕ, _*_, _≤_, _<_, zero-le}
 use mathlib.Core.Path.{_≡_, refl, sym, _∙_, ap, subst}
 use mathlib.Core.Bool.{true, false}
 use mathlib.Core.List.{List, [], _++_, append-nil}
@@ -10,7 +10,7 @@ use borrow.Author.Tests.{ltb-true, ltb-false}
 use Rattle.effbd.specs.Answers.{accepted}
 use Rattle.effbd.specs.Records.{areBytes}
 use Rattle.effbd.specs.Diagrams.{Diagram, Item, function, rowCount, itemTotal, isTrigger, row, isKind, noItem}
-use Rattle.effbd.specs.Counts.{copies, copiesOf, countTotal}
+use Rattle.effbd.specs.Counts.{copies}
 use Rattle.effbd.specs.Nesting.{Part, readDiagram, usesPart, usesPartOf}
 use Rattle.ranges.specs.Tests.{decide, clash}
 use Rattle.agreement.specs.AcceptedFiles.{Held, held}
@@ -19,7 +19,7 @@ use Rattle.diagram_table.specs.Cells.{cellOf, itemCell, countedTotal, wideTotal
 use Rattle.diagram_table.specs.Held.{Tabulated, Holds, HoldsUses, HoldsFile, HoldsCopies, HoldsRanks, HoldsPlant, noUse}
 use Rattle.copies.specs.Counting.{copiesCounted}
 use Rattle.copies.specs.Promised.{zeros, WidenedPlant, Widened, CopyTotal}
-use Rattle.copies.proofs.Rising.{few-uses}
+use Rattle.diagram_table.proofs.RisingUses.{few-uses}
 use Rattle.copies.proofs.RowsCounted.{uses-rise, uses-same}
 use Rattle.copies.proofs.CopiesCounted.{Counted, copies-counted}
 

@@ -15,7 +15,7 @@ use Rattle.agreement.specs.Basics.{same-eq}
 use Rattle.diagram_table.specs.Cells.{cellOf, itemCell, firstCopyCell, cellTotal, countedTotal, rankCell, kindIn, triggerIn, receiversIn, usesStartIn, usesNumberIn, rankIn, usesBytes, usesIn}
 use Rattle.diagram_table.specs.Held.{noUse}
 use Rattle.copies.specs.Counting.{receivesIn, usesCounted, rowCounted, rowsCounted}
-use Rattle.copies.proofs.Rising.{few-uses, item-rises}
+use Rattle.diagram_table.proofs.RisingUses.{few-uses, item-rises}
 use Rattle.copies.proofs.UsesCounted.{UsesDone, uses-counted}
 
 -- a table that has a diagram's records, before its receivers are counted

@@ -9,7 +9,8 @@ use lib.ListN.{length, drop, set}
 use Rattle.effbd.specs.Records.{word}
 use Rattle.diagram_table.specs.Cells.{firstCopyCell, copiesCell, countIn, receiversIn, runFirst, runLength, usesOf}
 use Rattle.diagram_table.proofs.UsesWalked.{uses-next, uses-over}
-use Rattle.copies.specs.Counting.{sumTo, useCounted, usesCounted, rowCounted, rowsCounted, copiesNumbered, runPut, runsPut}
+use Rattle.words.specs.Sums.{added}
+use Rattle.copies.specs.Counting.{useCounted, usesCounted, rowCounted, rowsCounted, copiesNumbered, runPut, runsPut}
 
 pub uses-turn : (at k much : ℕ) (rest more table next : List ℕ) → 6 ≤ length rest → k ≡ word rest 0 → much ≡ word rest 2 → next ≡ useCounted at k much table → more ≡ drop 6 rest
     → usesCounted (at + 1) (usesOf more) next ≡ usesCounted at (usesOf rest) table
@@ -28,8 +29,8 @@ pub rows-turn : (file : List ℕ) (n : ℕ) (start table next : List ℕ) → ta
 unfolding rowsCounted
 rows-turn file n start table next et en = en ∙ (rw et refl ∙ ap (λ (m : ℕ). rowsCounted file m start) (sym (add-one n)))
 
-pub numbers-turn : (items k many receivers first more : ℕ) (table next : List ℕ) → k < items → receivers ≡ receiversIn table k → first ≡ sumTo items many
-    → next ≡ set table (firstCopyCell k) first → more ≡ sumTo many receivers → copiesNumbered items (items - (k + 1)) (k + 1) more next ≡ copiesNumbered items (items - k) k many table
+pub numbers-turn : (items k many receivers first more : ℕ) (table next : List ℕ) → k < items → receivers ≡ receiversIn table k → first ≡ added items many
+    → next ≡ set table (firstCopyCell k) first → more ≡ added many receivers → copiesNumbered items (items - (k + 1)) (k + 1) more next ≡ copiesNumbered items (items - k) k many table
 unfolding copiesNumbered
 numbers-turn items k many receivers first more table next l er ef en em =
     let z : items - k ≡ suc (items - (k + 1)) = omega arith in

@@ -1,5 +1,5 @@
 -- The uses of a row, counted: one receiver more of each trigger that they take, and the rank of each use.
-use Prim.Native.Nat.{ℕ, zero, suc, _+_, _-_, _≤_, _<_}
+use Prim.Native.Nat.{ℕ, zero, suc, _+_, _≤_, _<_}
 use mathlib.Core.Path.{_≡_, refl, sym, _∙_, ap}
 use mathlib.Core.Logic.{_≢_}
 use mathlib.Core.Bool.{Bool, true, false, cond, not, and-false}
@@ -8,19 +8,17 @@ use native.Mathlib.Omega.{arith}
 use lib.ListN.{length, getD, set, length-set}
 use lib.Seq.{getD-set-same, getD-set-other}
 use lib.Dec.{eqb}
-use borrow.Author.Tests.{le-ltb, eqb-true, eqb-false}
+use borrow.Author.Tests.{eqb-true, eqb-false}
 use Rattle.effbd.specs.Diagrams.{Use, usesFine, mostItems}
 use Rattle.effbd.specs.Counts.{takeOf}
 use Rattle.effbd.specs.Moves.{mostWord}
 use Rattle.ranges.specs.Tests.{decide}
 use Rattle.diagram_table.specs.Cells.{itemCell, receiversCell, firstCopyCell, cellTotal, countedTotal, triggerIn, receiversIn}
 use Rattle.diagram_table.specs.Held.{noUse}
-use Rattle.copies.specs.Counting.{sumTo, receivesIn, useCounted, usesCounted}
-use Rattle.copies.proofs.Rising.{Rises, rises, take-below, item-rises}
-
-pub sum-is : (a b : ℕ) → a + b ≤ mostWord → sumTo a b ≡ a + b
-unfolding sumTo
-sum-is a b h = rw (le-ltb (mostWord - b) a (omega arith))
+use Rattle.words.specs.Sums.{added}
+use Rattle.words.proofs.PlainSums.{whole-sum}
+use Rattle.copies.specs.Counting.{receivesIn, useCounted, usesCounted}
+use Rattle.diagram_table.proofs.RisingUses.{Rises, rises, take-below, item-rises}
 
 receives-none : (t : List ℕ) (k : ℕ) → receivesIn t k 0 ≡ false
 unfolding receivesIn
@@ -54,17 +52,17 @@ module _ (at k : ℕ) (t : List ℕ) (far : countedTotal ≤ at) (long : counted
     rank = λ l. getD-set-same t at _ 0 l;
   }
 
-  one-more : UseDone at k true t (set ranked (receiversCell k) (sumTo (receiversIn t k) 1))
+  one-more : UseDone at k true t (set ranked (receiversCell k) (added (receiversIn t k) 1))
   one-more = let w = rank-put in record {
     long = length-set ranked (receiversCell k) _ ∙ w .long;
     below = λ i l. getD-set-other ranked (receiversCell k) i _ 0 (λ e. absurd (omega arith)) ∙ w .below i l;
     above = λ i l n. getD-set-other ranked (receiversCell k) i _ 0 (λ e. absurd (omega arith)) ∙ w .above i l n;
     others = λ q l n. getD-set-other ranked (receiversCell k) (receiversCell q) _ 0 (λ e. n (omega arith)) ∙ w .others q l n;
-    own = getD-set-same ranked (receiversCell k) _ 0 (omega (arith, w .long)) ∙ sum-is (receiversIn t k) 1 (omega arith);
+    own = getD-set-same ranked (receiversCell k) _ 0 (omega (arith, w .long)) ∙ whole-sum (receiversIn t k) 1 (omega arith);
     rank = λ l. getD-set-other ranked (receiversCell k) at _ 0 (λ e. absurd (omega arith)) ∙ w .rank l;
   }
 
-  use-by : (more : Bool) → UseDone at k more t (cond more (set ranked (receiversCell k) (sumTo (receiversIn t k) 1)) ranked)
+  use-by : (more : Bool) → UseDone at k more t (cond more (set ranked (receiversCell k) (added (receiversIn t k) 1)) ranked)
   use-by true = one-more
   use-by false = rank-put
 

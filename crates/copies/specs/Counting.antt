@@ -1,18 +1,14 @@
 -- What is left in a table and in a state, store by store, in the program's own order: receivers and ranks, numbers of copies, the runs of a fresh state.
 -- Assumes nothing.
-use Prim.Native.Nat.{ℕ, zero, suc, _+_, _-_, _*_}
+use Prim.Native.Nat.{ℕ, zero, suc, _+_, _*_}
 use mathlib.Core.Bool.{Bool, true, not, cond, _&&_}
 use mathlib.Core.List.{List, [], _∷_}
 use lib.ListN.{take, set}
-use lib.Dec.{ltb, eqb}
+use lib.Dec.{eqb}
 use Rattle.effbd.specs.Diagrams.{Use}
-use Rattle.effbd.specs.Moves.{mostWord}
 use Rattle.words.specs.Stores.{copied}
+use Rattle.words.specs.Sums.{added}
 use Rattle.diagram_table.specs.Cells.{receiversCell, firstCopyCell, someTriggerCell, copiesCell, rankCell, kindIn, countIn, triggerIn, receiversIn, runFirst, runLength, usesIn}
-
--- a sum, which stops at the largest word
-unfoldable pub sumTo : ℕ → ℕ → ℕ
-sumTo number more = cond (ltb (mostWord - more) number) mostWord (number + more)
 
 -- a FUNCTION that takes so much of item k receives it: of a trigger, and not 0
 unfoldable pub receivesIn : (table : List ℕ) (k much : ℕ) → Bool
@@ -21,7 +17,7 @@ receivesIn table k much = not (eqb (triggerIn table k) 0) && not (eqb much 0)
 -- a use, which takes so much of item k, with its rank in cell `at`: the rows that receive the item so far; perhaps there is one more
 unfoldable pub useCounted : (at k much : ℕ) → List ℕ → List ℕ
 useCounted at k much table = cond (receivesIn table k much)
-    (set (set table at (receiversIn table k)) (receiversCell k) (sumTo (receiversIn table k) 1))
+    (set (set table at (receiversIn table k)) (receiversCell k) (added (receiversIn table k) 1))
     (set table at (receiversIn table k))
 
 -- uses of a row, with their ranks from cell `at` on
@@ -40,7 +36,7 @@ rowsCounted file (suc r) table = rowCounted file r (rowsCounted file r table)
 -- n items from item k on, in front of which `many` copies stand; behind the last one the number of all copies
 unfoldable pub copiesNumbered : (items n k many : ℕ) → List ℕ → List ℕ
 copiesNumbered items zero k many table = set table copiesCell many
-copiesNumbered items (suc n) k many table = copiesNumbered items n (k + 1) (sumTo many (receiversIn table k)) (set table (firstCopyCell k) (sumTo items many))
+copiesNumbered items (suc n) k many table = copiesNumbered items n (k + 1) (added many (receiversIn table k)) (set table (firstCopyCell k) (added items many))
 
 -- a table's records in front of zeros, with all that is said of copies
 unfoldable pub copiesCounted : (file : List ℕ) (rows items : ℕ) (table zeros : List ℕ) → List ℕ

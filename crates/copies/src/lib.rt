@@ -5,7 +5,7 @@ ghost use mathlib.Core.Path.{_≡_};
 ghost use Prim.Native.Nat.{_+_, _*_};
 ghost use lib.ListN.{take};
 ghost use Rattle.diagram_table.specs.Cells.{rankCell, usesOf};
-ghost use Rattle.copies.specs.Counting.{sumTo, receivesIn, useCounted, usesCounted, rowCounted, rowsCounted, copiesNumbered, copiesCounted, runPut, runsPut, freshPut};
+ghost use Rattle.copies.specs.Counting.{receivesIn, useCounted, usesCounted, rowCounted, rowsCounted, copiesNumbered, copiesCounted, runPut, runsPut, freshPut};
 ghost use Rattle.copies.specs.Promised.{Widened, CopyTotal, FreshMade};
 use diagram_table::COPIES;
 use diagram_table::COUNT;
@@ -19,18 +19,7 @@ use diagram_table::USE_SIZE;
 use diagram_table::WIDE;
 use effbd::limits::MOST_ITEMS;
 use effbd::limits::MOST_PLACES;
-use effbd::limits::MOST_WORD;
 use words::kinds;
-
-// A sum, which stops at 65,535.
-fn added(number: u16, more: u16) -> u16
-    ensures { λ r. ⌜ r ≡ sumTo number more ⌝ }
-{
-    if MOST_WORD - more < number {
-        return MOST_WORD;
-    }
-    number + more
-}
 
 // The first `n` words of a list, or all that it has.
 fn front<'a>(list: &'a [u16], n: usize) -> &'a [u16]
@@ -60,7 +49,11 @@ fn count_use(table: &mut [u16], at: usize, item: u32, much: u16)
     let one_more = receives(table, item, much);
     words::put(table, at, above);
     if one_more {
-        words::put(table, RECEIVERS as usize + item as usize, added(above, 1));
+        words::put(
+            table,
+            RECEIVERS as usize + item as usize,
+            words::added(above, 1),
+        );
     }
 }
 
@@ -112,9 +105,9 @@ fn number_copies(table: &mut [u16], items: u16)
         words::put(
             table,
             FIRST_COPY as usize + item as usize,
-            added(items, copies),
+            words::added(items, copies),
         );
-        copies = added(copies, receivers);
+        copies = words::added(copies, receivers);
         item += 1;
     }
     words::put(table, COPIES as usize, copies);

@@ -4,31 +4,19 @@ ghost use Prim.Native.Nat.{_+_, _<_};
 ghost use lib.ListN.{length};
 ghost use lib.ListN.{length as long};
 ghost use Rattle.diagram_table.specs.Cells.{usesOf, usesIn};
-ghost use Rattle.diagram_moves.specs.Decisions.{added as adding};
 ghost use Rattle.diagram_moves.specs.Decisions.{changed as changing};
 ghost use Rattle.diagram_moves.specs.Decisions.{countPlace};
 ghost use Rattle.diagram_moves.specs.Changes.{countTurn, useChanged, countsChanged, tickTurn, fold};
 use diagram_decide::uses;
 use diagram_state::cells;
 use diagram_table::USE_SIZE;
-use effbd::limits::MOST_WORD;
-
-// A sum, which stops at 65,535.
-fn added(number: u16, more: u16) -> u16
-    ensures { λ r. ⌜ r ≡ adding number more ⌝ }
-{
-    if MOST_WORD - more < number {
-        return MOST_WORD;
-    }
-    number + more
-}
 
 // A count after a give or a take; a difference stops at 0.
 fn changed(giving: bool, count: u16, amount: u16) -> u16
     ensures { λ r. ⌜ r ≡ changing giving count amount ⌝ }
 {
     if giving {
-        return added(count, amount);
+        return words::added(count, amount);
     }
     if amount <= count {
         return count - amount;
@@ -129,7 +117,7 @@ fn tick_row(state: &mut [u16], ticks: u16, row: u32)
 {
     if cells::activity(state, row) == 2 {
         let clock = cells::clock(state, row);
-        words::put(state, 3 * row as usize + 2, added(clock, ticks));
+        words::put(state, 3 * row as usize + 2, words::added(clock, ticks));
     }
 }
 

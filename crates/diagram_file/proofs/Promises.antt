@@ -17,11 +17,12 @@ use Rattle.effbd.specs.Layout.{places}
 use Rattle.effbd.specs.States.{stateLength}
 use Rattle.diagram_file.specs.declared.records.Reached.{Reached}
 use Rattle.nesting.specs.declared.Judgement.{Judgement}
-use Rattle.diagram_file.specs.declared.Diagram.{Diagram as Parse}
+use Rattle.diagram.specs.declared.Diagram.{Diagram as Parse}
 use Rattle.diagram_file.specs.declared.Refusal.{Refusal}
 use Rattle.diagram_file.specs.Reading.{Tabled, Recorded}
 use Rattle.nesting.specs.Runs.{Kinds, NestingRead}
-use Rattle.diagram_file.specs.Structure.{putStructure, structured}
+use Rattle.diagram_structure.specs.Structure.{putStructure, structured, structureFilled}
+use Rattle.diagram_structure.proofs.Filled.{filled-is}
 use Rattle.diagram_file.specs.Tables.{Judged, Filled, Parsed, PartIs}
 use Rattle.diagram_table.specs.declared.Part.{Part as Lies}
 use Rattle.diagram_table.specs.Cells.{cellOf, itemCell, someTriggerCell, cellTotal, someTriggerIn, usesStartIn, usesNumberIn, usesPartIn, usesBytes, usesOf, usesIn}
@@ -32,7 +33,7 @@ use Rattle.agreement.specs.Sources.{counts-are, no-copies}
 use Rattle.copies.specs.Promised.{CopyTotal}
 use Rattle.diagram_file.proofs.Files.{two-parts}
 use Rattle.nesting.proofs.Stacks.{owner-low, loop-low, close-low}
-use Rattle.diagram_file.proofs.Columns.{Sound, sound, close-is}
+use Rattle.diagram_structure.proofs.Columns.{Sound, sound, close-is}
 
 refused-back : {A : Type 0} (x : Outcome A) (n v : ℕ) → n ≡ refusalNumber x → v ≡ refusalValue x → n ≢ 0 → x ≡ refused n v
 refused-back (accepted a) n v en ev ne = absurd (ne en)
@@ -176,11 +177,11 @@ module _ {file t : List ℕ} {r : Refusal} (w : Judged file t r) where
   pub filled-refused : r .number ≢ 0 → Filled file t r
   filled-refused ne = record { number = w .number; value = w .value; holds = λ z. absurd (ne z) }
 
-  pub filled-accepted : {n : ℕ} {u : List ℕ} → r .number ≡ 0 → length t ≡ cellTotal → n ≡ word file 6 → u ≡ structured n (n - 1) (putStructure n 0 0 0 0 t) → Filled file u r
+  pub filled-accepted : {n : ℕ} {u : List ℕ} → r .number ≡ 0 → length t ≡ cellTotal → n ≡ word file 6 → u ≡ structureFilled n t → Filled file u r
   filled-accepted z long en eu = record {
     number = w .number;
     value = w .value;
-    holds = λ _. subst (HoldsFile file (word file 6) (word file 8)) (sym (eu ∙ ap (λ (x : ℕ). structured x (x - 1) (putStructure x 0 0 0 0 t)) en)) (structured-holds (w .tabled z) (w .read z) long);
+    holds = λ _. subst (HoldsFile file (word file 6) (word file 8)) (sym (eu ∙ (ap (λ (x : ℕ). structureFilled x t) en ∙ filled-is (word file 6) t long (some-row (w .tabled z)) (few-rows (w .tabled z))))) (structured-holds (w .tabled z) (w .read z) long);
   }
 
   -- ---- a file's answer

@@ -2,7 +2,7 @@
 use Prim.Native.Nat.{ℕ, zero, suc, _+_, _-_, _*_, _/_, _%_, _≤_, _<_}
 use mathlib.Core.Path.{_≡_, refl, sym, _∙_, ap, ap₂, subst}
 use mathlib.Core.Logic.{_≢_}
-use mathlib.Core.Bool.{Bool, true, false, not, cond, _&&_, _||_}
+use mathlib.Core.Bool.{Bool, true, false, cond, _&&_, _||_}
 use mathlib.Core.List.{List, [], _∷_}
 use native.Mathlib.Omega.{arith}
 use native.Mathlib.Numerals.{add-one}
@@ -11,7 +11,7 @@ use lib.Seq.{getD-set-same, getD-set-other, drop-drop}
 use lib.Dec.{leb, eqb}
 use borrow.Author.Tests.{leb-true, leb-false, eqb-true, eqb-false, eq-eqb, ne-eqb}
 use Rattle.effbd.specs.Records.{word, lengthAt, kindAt, kindTable, entryIn, lengthOf}
-use Rattle.effbd.specs.Diagrams.{mostRows, mostItems, Use, itemFault, itemAt, rowAt, rowRight, rowFine, rowFault}
+use Rattle.effbd.specs.Diagrams.{mostRows, mostItems, itemFault, itemAt, rowAt, rowRight, rowFine, rowFault}
 use Rattle.effbd.specs.Nesting.{skip}
 use Rattle.ranges.specs.Tests.{decide, and-left, and-right}
 use Rattle.ranges.specs.Outcomes.{else-none}
@@ -19,11 +19,11 @@ use Rattle.ranges.specs.RangeLaws.{all-elim}
 use Rattle.effbd.specs.Ranges.{allBelow}
 use Rattle.effbd.specs.Answers.{orElse}
 use Rattle.agreement.specs.ByteLaws.{Clean, none-clean}
-use Rattle.diagram_file.specs.Cells.{Cell, cell}
+use Rattle.diagram_table.specs.CellStores.{Cell, cell}
 use Rattle.diagram_table.specs.Cells.{cellOf, itemCell, someTriggerCell, cellTotal, triggerIn, someTriggerIn}
 use Rattle.diagram_file.specs.declared.records.Reached.{Reached}
 use Rattle.diagram_file.specs.Reading.{Reading, Stopped, FilledRows, FilledItems, Kept, ItemsState, ItemsRead, RowsState, RowsRead, SomeRowsRead, Refined, endReached, column, putRow, fillRow, putItem, triggerFault, tableFault}
-use Rattle.diagram_file.proofs.Cells.{put-long, put-away, put-at}
+use Rattle.diagram_table.proofs.CellStores.{put-long, put-away, put-at}
 use Rattle.words.proofs.KindTable.{short}
 
 skip-next : (i : ℕ) (l : List ℕ) → skip (suc i) l ≡ drop (lengthAt (skip i l)) (skip i l)

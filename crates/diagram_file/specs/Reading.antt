@@ -12,7 +12,7 @@ use Rattle.effbd.specs.Diagrams.{function, Use, Row, Item, Diagram, rowCount, r
 use Rattle.effbd.specs.Nesting.{skip, fromRow}
 use Rattle.diagram_table.specs.Cells.{cellOf, itemCell, someTriggerCell, cellTotal, triggerIn, someTriggerIn, usesStartIn, usesNumberIn}
 use Rattle.diagram_table.specs.Held.{Tabulated}
-use Rattle.diagram_file.specs.Cells.{Cell, cell, putAll}
+use Rattle.diagram_table.specs.CellStores.{Cell, cell, putAll}
 use Rattle.diagram_file.specs.Fields.{fieldOf}
 use Rattle.diagram_file.specs.declared.records.Reached.{Reached}
 

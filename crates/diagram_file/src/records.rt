@@ -8,7 +8,7 @@ ghost use Rattle.effbd.specs.Diagrams.{mostRows, mostItems, usesAt, usesFine, h
 ghost use Rattle.diagram_table.specs.Cells.{cellTotal};
 ghost use Rattle.diagram_file.specs.Fields.{fieldOf, useFine, functionRight, functionFine, functionFault, turnLimitFine, headFine, isItem, isRow};
 ghost use Rattle.diagram_file.specs.Reading.{putRow, fillRow, putItem, useFits, triggersFit, triggerFault, endReached, ItemsRead, RowsRead, SomeRowsRead, Refined, Recorded};
-use crate::Diagram;
+use diagram::Diagram;
 use diagram_table::COUNT;
 use diagram_table::FIRST;
 use diagram_table::SECOND;

@@ -9,7 +9,8 @@ use Rattle.effbd.specs.Answers.{Outcome, accepted, refused}
 use Rattle.effbd.specs.Diagrams.{Use}
 use Rattle.effbd.specs.States.{activityAt, turnsAt, clockAt}
 use Rattle.diagram_table.specs.Cells.{kindIn, firstIn, ownerIn, closeIn, loopIn, runFirst, runLength, usesIn, isBranch, enteredIn}
-use Rattle.diagram_moves.specs.Decisions.{countPlace, amountOf, added, changed, stateAllowed, moveVerdict}
+use Rattle.words.specs.Sums.{added}
+use Rattle.diagram_moves.specs.Decisions.{countPlace, amountOf, changed, stateAllowed, moveVerdict}
 
 -- a loop of stores: n turns from 0 up; the same with nothing done before row `start`
 abbrev pub fold : ℕ → (ℕ → List ℕ → List ℕ) → List ℕ → List ℕ

@@ -9,6 +9,7 @@ use Rattle.effbd.specs.Answers.{Outcome, accepted, refused}
 use Rattle.effbd.specs.Diagrams.{Use}
 use Rattle.effbd.specs.States.{activityAt, turnsAt, clockAt}
 use Rattle.effbd.specs.Moves.{mostWord}
+use Rattle.words.specs.Sums.{added}
 use Rattle.diagram_table.specs.Cells.{kindIn, firstIn, secondIn, ownerIn, closeIn, triggerIn, someTriggerIn, countsIn, runFirst, runLength, usesIn, isBranch}
 
 -- where count k stands in a state of so many rows
@@ -21,9 +22,6 @@ amountOf giving u = cond giving (u .give) (u .take)
 
 unfoldable pub exceeds : (giving : Bool) (count amount : ℕ) → Bool
 exceeds giving count amount = cond giving (ltb (mostWord - amount) count) (ltb count amount)
-
-unfoldable pub added : ℕ → ℕ → ℕ
-added x n = cond (ltb (mostWord - n) x) mostWord (x + n)
 
 unfoldable pub changed : (giving : Bool) (count amount : ℕ) → ℕ
 changed giving count amount = cond giving (added count amount) (count - amount)

@@ -15,13 +15,14 @@ use Rattle.effbd.specs.Diagrams.{Diagram, Kind, Use, function, row, rowCount, i
 use Rattle.effbd.specs.Counts.{countTotal, itemOf, tally, giveOf, takes, gives}
 use Rattle.effbd.specs.States.{State, enter, makeIdle, setCounts, setRunning, stateOf}
 use Rattle.effbd.specs.Moves.{mostWord, isThere, enough, sumFits, sumsFit, lowestItem, startFunction, endFunction, stepAs, wordsOutcome}
+use Rattle.words.proofs.PlainSums.{whole-sum}
 use Rattle.diagram_table.specs.Held.{Holds, HoldsCopies, HoldsRanks, HoldsUses}
 use Rattle.ranges.specs.Tests.{decide, and-right, not-not}
 use Rattle.ranges.specs.RangeLaws.{all-elim}
 use Rattle.agreement.specs.AcceptedFiles.{AllOf, Held}
 use Rattle.agreement.specs.Sources.{gives-to}
 use Rattle.diagram_table.specs.Cells.{usesIn}
-use Rattle.diagram_moves.specs.Decisions.{exceeds, added, changed, blockedItem, startVerdict, endVerdict, functionVerdict}
+use Rattle.diagram_moves.specs.Decisions.{exceeds, changed, blockedItem, startVerdict, endVerdict, functionVerdict}
 use Rattle.diagram_moves.specs.Changes.{rowSet, countsChanged, tokenPassed, functionChange, outcomeOf}
 use Rattle.diagram_moves.specs.Stores.{Reads, like, reads-words, set-row}
 use Rattle.diagram_moves.specs.UseRuns.{blocked-is, counts-read, lowest-all, lowest-same, use-runs}
@@ -33,11 +34,6 @@ flip x w = decide (ltb x w) (λ e. let z = ltb-true x w e in rw e (lt-leb w x z)
 above : (x w : ℕ) → w ≤ mostWord → ltb (mostWord - w) x ≡ not (leb (x + w) mostWord)
 above x w b = decide (ltb (mostWord - w) x) (λ e. let z = ltb-true (mostWord - w) x e in e ∙ ap not (sym (lt-leb (x + w) mostWord (omega arith))))
     (λ e. let z = ltb-false (mostWord - w) x e in e ∙ ap not (sym (le-leb (x + w) mostWord (omega arith))))
-
--- a sum that fits is the plain sum
-pub whole-sum : (x w : ℕ) → x + w ≤ mostWord → added x w ≡ x + w
-unfolding added
-whole-sum x w b = rw (le-ltb (mostWord - w) x (omega arith))
 
 give-fits : (us : List Use) (k : ℕ) → AllOf (λ (u : Use). (u .take ≤ mostWord) × (u .give ≤ mostWord)) us → giveOf us k ≤ mostWord
 give-fits [] k h = zero-le

@@ -3,7 +3,7 @@ pub mod Changes
 pub mod Stores
 pub mod RowStores
 pub mod BusyRows
-pub mod RisingUses
+pub mod UseAmounts
 pub mod StandingCounts
 pub mod UseRuns
 pub mod TokenMoves

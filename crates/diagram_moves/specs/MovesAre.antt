@@ -27,13 +27,15 @@ use Rattle.agreement.specs.AcceptedFiles.{Held}
 use Rattle.agreement.specs.Sources.{item-in, item-shared, known, numbers}
 use Rattle.agreement.specs.Sources.{numberOf as tallyNumber}
 use Rattle.diagram_table.specs.Cells.{kindIn, ownerIn, closeIn, someTriggerIn}
-use Rattle.diagram_moves.specs.Decisions.{added, activityAllowed, turnsAllowed, clockAllowed, rowAllowed, countAllowed, sharedAllowed, stateAllowed, andDone, readyVerdict, branchVerdict, closeVerdict, rowVerdict, functionHolds, rowHolds, rowFree, waitVerdict, moveVerdict}
+use Rattle.words.specs.Sums.{added}
+use Rattle.words.proofs.PlainSums.{whole-sum}
+use Rattle.diagram_moves.specs.Decisions.{activityAllowed, turnsAllowed, clockAllowed, rowAllowed, countAllowed, sharedAllowed, stateAllowed, andDone, readyVerdict, branchVerdict, closeVerdict, rowVerdict, functionHolds, rowHolds, rowFree, waitVerdict, moveVerdict}
 use Rattle.diagram_moves.specs.Changes.{fold, rowSet, tickTurn, tokenPassed, branchesTurned, itOpenChange, exitChange, entered, rowChange, moveChange, outcomeOf, tableMove, checkedTableMove}
 use Rattle.diagram_moves.specs.Stores.{Reads, like, reads-words, words-read, set-turns}
 use Rattle.diagram_moves.specs.RowStores.{tick-fold}
 use Rattle.agreement.specs.Reach.{next-in, close-in, opened-by, and-closed}
 use Rattle.diagram_moves.specs.TokenMoves.{number-is, idle-reads, enter-reads, pass-reads, ready-is, all-done-is, idle-branches, open-branches, clear-reads}
-use Rattle.diagram_moves.specs.FunctionMoves.{Small, SmallCounts, small-counts, whole-sum, enough-is, function-is}
+use Rattle.diagram_moves.specs.FunctionMoves.{Small, SmallCounts, small-counts, enough-is, function-is}
 
 or-nil : (e : Bool) → e ≡ e || false
 or-nil true = refl

@@ -20,10 +20,11 @@ use Rattle.ranges.specs.RangeLaws.{only-refl, all-elim, all-fail, all-find, all
 use Rattle.agreement.specs.Sources.{copies-run, copyAt, gives-copy, gives-item, gives-to, item-in, item-shared, known, source, source-of, takes-from}
 use Rattle.diagram_table.specs.Cells.{runFirst, runLength}
 use Rattle.diagram_table.specs.Held.{HoldsCopies, HoldsRanks, Tabulated, noUse}
+use Rattle.diagram_table.proofs.RisingUses.{Rises, rises, item-rises}
 use Rattle.diagram_moves.specs.Decisions.{amountOf, blockedItem, changed, countAllows, countPlace, exceeds, runBlocked, useBlocked}
 use Rattle.diagram_moves.specs.Changes.{countTurn, countsChanged, fold, useChanged}
 use Rattle.diagram_moves.specs.Stores.{Reads, like, set-count}
-use Rattle.diagram_moves.specs.RisingUses.{EachUse, amount-below, amount-give, amount-of, amount-take, amountIn, each-map, each-use, First, first-of, first-stop, item-of, least-all}
+use Rattle.diagram_moves.specs.UseAmounts.{EachUse, amount-below, amount-give, amount-of, amount-take, amountIn, each-map, each-use, first-stop, least-all}
 
 -- the counts from number `first` on, n of them
 unfoldable pub inRun : (first n c : ℕ) → Bool
@@ -120,7 +121,7 @@ module _ (d : Diagram) (r : ℕ) where
         (λ y. rw y (run-read d giving (runFirst table giving r j (u .item)) (amountOf giving u) l s h (runLength table giving (u .item)) (w .run (eqb-false (amountOf giving u) 0 y) .there)))
 
     -- one use: of its own item's counts those of its run, of another item's none
-    use-due : (giving : Bool) (M from j : ℕ) (u : Use) (us : List Use) → First M from u us → UseRun giving j u → (x c : ℕ) → c < countTotal d
+    use-due : (giving : Bool) (M from j : ℕ) (u : Use) (us : List Use) → Rises M from u us → UseRun giving j u → (x c : ℕ) → c < countTotal d
         → altered giving (cond (hit giving j u c) (changed giving x (amountOf giving u)) x) (dueBy giving us c) ≡ altered giving x (dueBy giving (u ∷ us) c)
     unfolding amountIn
     use-due giving M from j u us w v x c b = decide (eqb (u .item) (itemOf (tally d c)))
@@ -146,8 +147,8 @@ module _ (d : Diagram) (r : ℕ) where
     unfolding countsChanged amountIn
     counts-upto giving M [] j from l s e w h = h
     counts-upto giving M (u ∷ us) j from l s e w h =
-        like d (counts-upto giving M us (j + 1) (suc (u .item)) (useChanged table giving (rowCount d) r j (u .item) (amountOf giving u) l) _ (first-of M from u us e .rest) (w .1) (use-read giving j u l s (w .0) h))
-        (record { activity = λ q c. refl; turns = λ q c. refl; clock = λ q c. refl; count = λ c b. use-due giving M from j u us (first-of M from u us e) (w .0) (s .count c) c b })
+        like d (counts-upto giving M us (j + 1) (suc (u .item)) (useChanged table giving (rowCount d) r j (u .item) (amountOf giving u) l) _ (rises M from u us e .rest) (w .1) (use-read giving j u l s (w .0) h))
+        (record { activity = λ q c. refl; turns = λ q c. refl; clock = λ q c. refl; count = λ c b. use-due giving M from j u us (rises M from u us e) (w .0) (s .count c) c b })
 
     -- the uses of the row change each count by what is due there
     pub counts-read : (giving : Bool) (M : ℕ) (l : List ℕ) (s : State) → usesFine M 0 (row d r .uses) ≡ true → EachUse (UseRun giving) 0 (row d r .uses) → Reads d l s
@@ -270,14 +271,14 @@ module _ (d : Diagram) (table : List ℕ) (held : Tabulated d (rowCount d) (item
           let a : giveOf (row d r .uses) k ≡ getD (row d r .uses) j noUse .give = sym (amount-give (row d r .uses) k) ∙ amount-of true (itemTotal d) 0 (row d r .uses) e j b in
           record {
             amount = amount-of true (itemTotal d) 0 (row d r .uses) e j b;
-            run = λ n. subst (λ x. RunOf d r true k (runFirst table true r j k) (runLength table true k) x) a (give-run j k (item-of (itemTotal d) 0 (row d r .uses) e j b .1));
+            run = λ n. subst (λ x. RunOf d r true k (runFirst table true r j k) (runLength table true k) x) a (give-run j k (item-rises (itemTotal d) 0 (row d r .uses) e j b .1));
           }
       at false j b =
           let k = getD (row d r .uses) j noUse .item in
           let a : takeOf (row d r .uses) k ≡ getD (row d r .uses) j noUse .take = sym (amount-take (row d r .uses) k) ∙ amount-of false (itemTotal d) 0 (row d r .uses) e j b in
           record {
             amount = amount-of false (itemTotal d) 0 (row d r .uses) e j b;
-            run = λ n. subst (λ x. RunOf d r false k (runFirst table false r j k) (runLength table false k) x) a (take-run j b k refl (item-of (itemTotal d) 0 (row d r .uses) e j b .1) (λ z. n (sym a ∙ z)));
+            run = λ n. subst (λ x. RunOf d r false k (runFirst table false r j k) (runLength table false k) x) a (take-run j b k refl (item-rises (itemTotal d) 0 (row d r .uses) e j b .1) (λ z. n (sym a ∙ z)));
           }
 
 -- some item has a count that does not pass exactly if some count does not

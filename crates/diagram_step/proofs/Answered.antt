@@ -14,7 +14,7 @@ use Rattle.effbd.specs.declared.Answer.the-variants.{Accepted, Refused}
 use Rattle.effbd.specs.Nesting.{readDiagram}
 use Rattle.effbd.specs.Moves.{stepDiagram, freshDiagram}
 use Rattle.diagram_file.specs.Tables.{Parsed}
-use Rattle.diagram_file.specs.declared.Diagram.{Diagram as Parse}
+use Rattle.diagram.specs.declared.Diagram.{Diagram as Parse}
 use Rattle.diagram_moves.specs.Decisions.{rowAllowed, sharedAllowed, stateAllowed, moveVerdict}
 use Rattle.diagram_moves.specs.Changes.{moveChange, tableMove, checkedTableMove}
 use Rattle.diagram_moves.specs.FileMoves.{step-refused, fresh-refused}

@@ -12,7 +12,7 @@ use Rattle.effbd.specs.States.{stateWords, freshWords}
 use Rattle.effbd.specs.Moves.{freshDiagram}
 use Rattle.diagram_table.specs.Cells.{someTriggerIn, countsIn}
 use Rattle.diagram_table.specs.Held.{HoldsFile, HoldsPlant, FreshFront, FreshOf}
-use Rattle.diagram_file.specs.Tables.{Freshened}
+use Rattle.diagram.specs.FreshWords.{Freshened}
 use Rattle.copies.specs.Promised.{WidenedPlant, FreshMade}
 use Rattle.copies.proofs.Plants.{plain-plant}
 use Rattle.copies.proofs.Freshness.{plain-fresh}

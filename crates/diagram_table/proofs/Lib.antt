@@ -1,3 +1,5 @@
+pub mod CellStores
 pub mod HeldCells
+pub mod RisingUses
 pub mod UsesCut
 pub mod UsesWalked

@@ -1,11 +1,11 @@
 -- A part that holds uses, walked by its tails: one use, and the uses of the rest.
 use Prim.Native.Nat.{ℕ, suc, _/_, _≤_, _<_}
-use mathlib.Core.Path.{_≡_, refl, _∙_, ap}
+use mathlib.Core.Path.{_≡_, ap}
 use mathlib.Core.List.{List, [], _∷_}
 use native.Mathlib.Omega.{arith}
 use lib.ListN.{length, drop, length-drop}
 use Rattle.effbd.specs.Records.{word}
-use Rattle.effbd.specs.Diagrams.{Use, usesAt}
+use Rattle.effbd.specs.Diagrams.{usesAt}
 use Rattle.diagram_table.specs.Cells.{usesOf}
 
 pub uses-next : (rest : List ℕ) → 6 ≤ length rest → usesOf rest ≡ record { item = word rest 0; take = word rest 2; give = word rest 4 } ∷ usesOf (drop 6 rest)

@@ -4,7 +4,7 @@
 use Prim.Native.Nat.{ℕ, _+_, _*_, _/_}
 use mathlib.Core.Bool.{Bool, cond, _&&_}
 use mathlib.Core.List.{List, []}
-use lib.ListN.{length, getD, take, drop}
+use lib.ListN.{length, getD, take}
 use lib.Dec.{leb, eqb}
 use Rattle.effbd.specs.Diagrams.{mostRows, mostItems, Use, usesAt}
 use Rattle.effbd.specs.Nesting.{Part, partIn}

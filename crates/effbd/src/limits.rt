@@ -1,6 +1,6 @@
 // The limits of documents 01 and 02 by name.
 
-// The rows and items of a diagram; they are constants of its type too, in crate diagram_file.
+// The rows and items of a diagram; they are constants of its type too, in crate diagram.
 pub const MOST_ROWS: u16 = 64;
 
 pub const MOST_ITEMS: u16 = 16;

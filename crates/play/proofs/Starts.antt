@@ -27,7 +27,7 @@ use Rattle.agreement.specs.Theorems.{net-well-formed, net-read-back}
 use Rattle.bus.specs.Demand.{demand-3}
 use Rattle.diagram_file.specs.Tables.{Parsed}
 use Rattle.diagram_table.specs.Held.{HoldsFile}
-use Rattle.diagram_file.specs.declared.Diagram.{Diagram as Table}
+use Rattle.diagram.specs.declared.Diagram.{Diagram as Table}
 use Rattle.translate.proofs.Sizes.{net-short}
 use Rattle.copies.specs.Counting.{copiesCounted}
 use Rattle.copies.specs.Promised.{zeros, WidenedPlant}

@@ -16,7 +16,8 @@ use Rattle.effbd.specs.Starts.{activity}
 use Rattle.ranges.specs.Tests.{decide}
 use Rattle.agreement.specs.ByteLaws.{never}
 use Rattle.diagram_table.specs.Cells.{kindIn, enteredIn, usesIn}
-use Rattle.diagram_moves.specs.Decisions.{added, functionVerdict, rowVerdict, moveVerdict}
+use Rattle.words.specs.Sums.{added}
+use Rattle.diagram_moves.specs.Decisions.{functionVerdict, rowVerdict, moveVerdict}
 use Rattle.diagram_moves.specs.Changes.{fold, rowSet, countsChanged, tickTurn, entered, tokenPassed, functionChange, rowChange, moveChange, outcomeOf, tableMove}
 
 written : (o : Outcome ℕ) (l next : List ℕ) → outcomeOf o l ≡ accepted next → l ≡ next

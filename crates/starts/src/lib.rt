@@ -7,7 +7,7 @@ ghost use Rattle.effbd.specs.Starts.{logStarts};
 ghost use Rattle.starts.specs.Faults.{startsFault};
 ghost use Rattle.starts.specs.Counting.{noWindow, waited, Turning, Turned, Counting, FreshPlant};
 ghost use Rattle.diagram_table.specs.Held.{HoldsFile};
-use diagram_file::Diagram;
+use diagram::Diagram;
 use diagram_state::cells;
 use diagram_table::SOME_TRIGGER;
 use diagram_table::WIDE;

@@ -17,7 +17,7 @@ use Rattle.effbd.specs.Patterns.{netOf, translatedAs, translated}
 use Rattle.agreement.specs.AcceptedFiles.{Held, held}
 use Rattle.effbd.specs.Diagrams.{Diagram as Read}
 use Rattle.effbd.specs.Nesting.{readDiagram}
-use Rattle.diagram_file.specs.declared.Diagram.{Diagram}
+use Rattle.diagram.specs.declared.Diagram.{Diagram}
 use Rattle.diagram_table.specs.Cells.{someTriggerIn, countsIn}
 use Rattle.diagram_table.specs.Held.{HoldsFile, HoldsPlant}
 use Rattle.diagram_file.specs.Tables.{Parsed}

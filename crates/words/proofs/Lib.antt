@@ -1,2 +1,3 @@
 pub mod Ends
 pub mod KindTable
+pub mod PlainSums

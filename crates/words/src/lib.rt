@@ -2,12 +2,14 @@
 // Nothing is asked of a caller: past the end a byte or word is 0, a tail is empty, a store changes nothing.
 pub mod kinds;
 
+use effbd::limits::MOST_WORD;
 use effbd::refusals;
 ghost use mathlib.Core.Path.{_≡_};
 ghost use Prim.Native.Nat.{_+_, _*_, _<_};
 ghost use lib.ListN.{drop, getD, set};
 ghost use Rattle.effbd.specs.Records.{word as wordIn, faultAt};
 ghost use Rattle.words.specs.Stores.{longIn, wordPut, longPut, copied};
+ghost use Rattle.words.specs.Sums.{added as sumOf};
 
 // The byte at `at`.
 pub fn byte(bytes: &[u8], at: usize) -> u16
@@ -134,4 +136,14 @@ pub fn copy(to: &mut [u16], from: &[u16])
         to[i] = from[i];
         i += 1;
     }
+}
+
+// A sum, which stops at 65,535.
+pub fn added(number: u16, more: u16) -> u16
+    ensures { λ r. ⌜ r ≡ sumOf number more ⌝ }
+{
+    if MOST_WORD - more < number {
+        return MOST_WORD;
+    }
+    number + more
 }

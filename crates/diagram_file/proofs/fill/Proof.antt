@@ -1,4 +1,4 @@
-use Rattle.diagram_file.proofs.Promises.{some-row, few-rows, filled-refused, filled-accepted}
+use Rattle.diagram_file.proofs.Promises.{filled-refused, filled-accepted}
 use native.Mathlib.Omega.{arith}
 use borrow.Author.Needs.{needs}
 use Rattle.diagram_file.proofs.fill.Statement.{statement}
@@ -17,9 +17,7 @@ word-requires : tie.Need-word-requires
 word-requires c κs = search needs
 
 fill-structure-requires : tie.Need-fill-structure-requires
-fill-structure-requires c κs =
-    let w = c .before .before .before .before .before .before .judge .ensures .tabled (c .before .before .if1 .left) in
-    (omega (arith, some-row w, c .word .ensures), omega (arith, few-rows w, c .word .ensures))
+fill-structure-requires c κs = search needs
 
 same-length-2 : tie.Need-same-length-2
 same-length-2 c = search needs

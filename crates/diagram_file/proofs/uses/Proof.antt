@@ -1,4 +1,3 @@
-use native.Mathlib.Omega.{arith}
 use Rattle.diagram_file.proofs.Promises.{part-cut}
 use borrow.Author.Needs.{needs}
 use Rattle.diagram_file.proofs.uses.Statement.{statement}

@@ -1,5 +1,4 @@
 use borrow.Author.Tests.{eq-eqb, ne-eqb}
-use borrow.Author.Needs.{needs}
 use Rattle.diagram_file.proofs.records.behind_last.Statement.{statement}
 use Rattle.diagram_file.proofs.records.behind_last.Tie as tie
 

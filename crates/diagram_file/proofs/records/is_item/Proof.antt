@@ -1,4 +1,3 @@
-use borrow.Author.Needs.{needs}
 use borrow.Author.Tests.{eq-eqb, ne-eqb}
 use Rattle.diagram_file.specs.Fields.{isItem}
 use Rattle.diagram_file.proofs.records.is_item.Statement.{statement}

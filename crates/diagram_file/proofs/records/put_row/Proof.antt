@@ -1,5 +1,5 @@
 use Rattle.diagram_file.specs.Reading.{putRow}
-use Rattle.diagram_file.specs.Cells.{putAll}
+use Rattle.diagram_table.specs.CellStores.{putAll}
 use lib.ListN.{length-set}
 use native.Mathlib.Omega.{arith}
 use mathlib.Core.Path.{refl}

@@ -3,7 +3,7 @@ use Rattle.diagram_file.specs.Reading.{ItemsState}
 use lib.Dec.{eqb}
 use Prim.Native.Nat.{ℕ, _-_, _≤_}
 use native.Mathlib.Omega.{arith}
-use mathlib.Core.Path.{_≡_, sym, _∙_, ap}
+use mathlib.Core.Path.{sym, _∙_, ap}
 use borrow.Author.Needs.{needs}
 use Rattle.diagram_file.proofs.records.read_items.Statement.{statement}
 use Rattle.diagram_file.proofs.records.read_items.Tie as tie

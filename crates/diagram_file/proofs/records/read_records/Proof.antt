@@ -1,4 +1,3 @@
-use mathlib.Core.Path.{refl}
 use Rattle.diagram_file.proofs.Files.{head-bad, head-near, read-through}
 use borrow.Author.Needs.{needs}
 use Rattle.diagram_file.proofs.records.read_records.Statement.{statement}
