@@ -13,9 +13,9 @@
  *     uint64_t answer = effbd_step(file, file_count, state, state_count, EFFBD_WAIT, 20);
  *     if (effbd_number(answer) == EFFBD_WAIT_HELD) { .. a step is due before time may pass .. }
  *
- * Order of refusals. A file is looked at first (1 to 9 and, right after 5 at the same record, 43), then the number of words of a state
- * (20), its words (20), the move (21 to 26), the leader's count (27), the area (10). The follower looks at the telegram (30 to 33) before
- * all of these. Of a log, after the file: its length (40), the row (41), its moves (42).
+ * Order of refusals. A file is looked at first (1 to 9; 43 right after 5 at the same record, 44 between 7 and 8 at the same row), then the
+ * number of words of a state (20), its words (20), the move (21 to 26), the leader's count (27), the area (10). The follower looks at the
+ * telegram (30 to 33) before all of these. Of a log, after the file: its length (40), the row (41), its moves (42).
  */
 #ifndef EFFBD_H
 #define EFFBD_H
@@ -38,7 +38,7 @@ extern "C" {
 #define EFFBD_MOST_TRANSITIONS 128      /* of a net */
 #define EFFBD_MOST_STATE_WORDS 1216     /* of a diagram: 3 for each row, 1 for each item, 1 for each copy of a trigger */
 #define EFFBD_MOST_NET_STATE_WORDS 1344 /* of a net: 1 for each place, 1 for each transition */
-#define EFFBD_NET_ROOM 551304           /* bytes that have room for the net of any diagram, by proof */
+#define EFFBD_NET_ROOM 584072           /* bytes that have room for the net of any diagram, by proof */
 #define EFFBD_ANNEX_NET_ROOM 65536      /* bytes that the annex program lends for the net */
 #define EFFBD_ANNEX_ROOM 393216         /* bytes that have room for the annex text of any file, the net lent EFFBD_ANNEX_NET_ROOM */
 #define EFFBD_TELEGRAM_LENGTH 14        /* bytes */
@@ -74,6 +74,7 @@ enum effbd_refusal {
     EFFBD_NOT_FUNCTION = 41,
     EFFBD_MOVE_REFUSED = 42,
     EFFBD_TRIGGER_OFF = 43,
+    EFFBD_KILLING_BRANCH_EMPTY = 44,
 };
 
 /* Number (EFFBD_ACCEPTED or a refusal) and value of an answer. */
@@ -172,6 +173,7 @@ static inline const char *effbd_words(uint32_t number) {
     case EFFBD_NOT_FUNCTION: return "row is no FUNCTION";
     case EFFBD_MOVE_REFUSED: return "a move of the log refused";
     case EFFBD_TRIGGER_OFF: return "trigger's take or give above 1";
+    case EFFBD_KILLING_BRANCH_EMPTY: return "killing branch empty";
     default: return "no number of the table";
     }
 }

@@ -4,9 +4,9 @@
 //! the table of documents 01 and 02. A refusal alters nothing that was lent. What each call promises is proved in the Rattle crate that has it
 //! (`crates/*/src`); this file only passes lists on as pointer and number of elements.
 //!
-//! A file is looked at first (refusals 1 to 9 and, right after 5 at the same record, 43), then a state (20), the move (21 to 26), the leader's
-//! count (27), the area (10). The follower looks at the telegram (30 to 33) before all of these. Of a log, after the file: its length (40), the
-//! row (41), its moves (42).
+//! A file is looked at first (refusals 1 to 9; 43 right after 5 at the same record, 44 between 7 and 8 at the same row), then a state (20), the
+//! move (21 to 26), the leader's count (27), the area (10). The follower looks at the telegram (30 to 33) before all of these. Of a log, after
+//! the file: its length (40), the row (41), its moves (42).
 //!
 //! Example A of document 01, one move over the bus:
 //!
@@ -55,7 +55,7 @@ pub const MOST_STATE_WORDS: usize = 3 * MOST_ROWS + MOST_ITEMS + MOST_ITEMS * (M
 /// Words of a net's state, at most: 1 for each place, 1 for each transition.
 pub const MOST_NET_STATE_WORDS: usize = MOST_PLACES + MOST_TRANSITIONS;
 /// Bytes that have room for the net of any diagram.
-pub const NET_ROOM: usize = 551_304;
+pub const NET_ROOM: usize = 584_072;
 /// Bytes that the annex program lends for the net.
 pub const ANNEX_NET_ROOM: usize = 65_536;
 /// Bytes that have room for the annex text of any file, where [`ANNEX_NET_ROOM`] bytes are lent for the net.
@@ -183,6 +183,7 @@ refusals! {
     41 NOT_FUNCTION "row is no FUNCTION"
     42 MOVE_REFUSED "a move of the log refused"
     43 TRIGGER_OFF "trigger's take or give above 1"
+    44 KILLING_BRANCH_EMPTY "killing branch empty"
 }
 
 impl fmt::Display for Refusal {

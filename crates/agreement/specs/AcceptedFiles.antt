@@ -10,7 +10,7 @@ use lib.Dec.{leb, ltb, eqb}
 use borrow.Author.Tests.{ltb-false, leb-true, eqb-true, eqb-false, lt-ltb}
 use Rattle.effbd.specs.Answers.{accepted, refused}
 use Rattle.effbd.specs.Diagrams.{Diagram, Item, Kind, Row, Use, and-close, and-open, branch, end, function, headFault, isKind, it-close, it-open, item, itemAt, itemFault, itemTotal, kind, loop-exit, lp-close, lp-open, noItem, or-close, or-open, plain, row, rowAt, rowCount, rowFault, rowFaultIn, rowFine, rowRight, triggersFine, usesAt}
-use Rattle.effbd.specs.Nesting.{afterItems, afterRows, exitMisplaced, firstFaulty, follows, inAndOr, innermostIs, nested, nestingBroken, nestingFault, readDiagram, someOpen, stack, standsAs, thirteenthOpen}
+use Rattle.effbd.specs.Nesting.{afterItems, afterRows, exitMisplaced, firstFaulty, follows, inAndOr, innermostIs, killerEmpty, nested, nestingBroken, nestingFault, readDiagram, someOpen, stack, standsAs, thirteenthOpen}
 use Rattle.effbd.specs.Records.{Got, areBytes, kindAt, lengthAt, lengthOf, readMany, word}
 use Rattle.effbd.specs.Ranges.{allBelow, howMany}
 use Rattle.ranges.specs.Tests.{and-intro, and-left, and-right, clash, decide, not-false, not-true, or-split}
@@ -59,17 +59,17 @@ unfolding usesAt
 uses-fit zero l b = tt
 uses-fit (suc u) l b = ((word-fits l b 2, word-fits l b 4), uses-fit u (drop 6 l) (bytes-drop 6 l b))
 
-cond-fits : (b : Bool) (x : ℕ) → x ≤ 65535 → cond b x 0 ≤ 65535
-cond-fits true x h = h
-cond-fits false x h = zero-le
+cond-fits : (b : Bool) (x y : ℕ) → x ≤ 65535 → y ≤ 65535 → cond b x y ≤ 65535
+cond-fits true x y h g = h
+cond-fits false x y h g = g
 
 row-ok : (items : List Item) (l : List ℕ) → areBytes l ≡ true → rowFaultIn items l ≡ 0 → RowOk items (rowAt l)
 unfolding rowFaultIn rowFault
 row-ok items l b e = record {
-  first = unfold rowAt in cond-fits (eqb (kindAt l) 16 || eqb (kindAt l) 22) (word l 4) (word-fits l b 4);
-  second = unfold rowAt in cond-fits (eqb (kindAt l) 16) (word l 6) (word-fits l b 6);
+  first = unfold rowAt in cond-fits (eqb (kindAt l) 16 || eqb (kindAt l) 22) (word l 4) _ (word-fits l b 4) (cond-fits (eqb (kindAt l) 28) 1 0 (omega arith) zero-le);
+  second = unfold rowAt in cond-fits (eqb (kindAt l) 16) (word l 6) 0 (word-fits l b 6) zero-le;
   uses = unfold rowAt in (decide (eqb (kindAt l) 16) (λ z. rw z (uses-fit ((lengthAt l - 8) / 6) (drop 8 l) (bytes-drop 8 l b))) (λ z. rw z tt));
-  fine = none-clean l (leb 16 (kindAt l) && leb (kindAt l) 27) (rowRight (length items) l) (rowFine (length items) (rowAt l)) 4 (none .0) .isFine;
+  fine = none-clean l (leb 16 (kindAt l) && leb (kindAt l) 28) (rowRight (length items) l) (rowFine (length items) (rowAt l)) 4 (none .0) .isFine;
   triggers = go (triggersFine items (rowAt l .uses)) (none .1);
 }
   where
@@ -94,29 +94,31 @@ pub record Held (d : Diagram) : Type 0 where
   pub stocks : (k : ℕ) → item d k .initial ≤ 65535
 
 module _ (d : Diagram) where
-  nest-none : (a b c : Bool) → _≡_ {A = ℕ} (cond a 7 (cond b 8 (cond c 9 0))) 0 → (a ≡ false) × (b ≡ false) × (c ≡ false)
-  nest-none true b c e = absurd (omega arith)
-  nest-none false true c e = absurd (omega arith)
-  nest-none false false true e = absurd (omega arith)
-  nest-none false false false e = (refl, refl, refl)
+  nest-none : (a b c e : Bool) → _≡_ {A = ℕ} (cond a 7 (cond b 44 (cond c 8 (cond e 9 0)))) 0 → (a ≡ false) × (b ≡ false) × (c ≡ false)
+  nest-none true b c e h = absurd (omega arith)
+  nest-none false true c e h = absurd (omega arith)
+  nest-none false false true e h = absurd (omega arith)
+  nest-none false false false e h = (refl, refl, refl)
 
   pub record Stands (q : ℕ) : Type 0 where
     pub follow : follows d q ≡ true
     pub stand : standsAs d (kind d q) q (stack d q) ≡ true
     pub ends : (not (eqb (suc q) (rowCount d)) || isKind d end q) ≡ true
+    pub full : killerEmpty d q ≡ false
     pub exits : exitMisplaced d q ≡ false
 
   stands : (q : ℕ) → nestingFault d q ≡ 0 → Stands q
   unfolding nestingFault nestingBroken
   stands q e =
-      let z = nest-none (not (follows d q && (standsAs d (kind d q) q (stack d q) && (not (eqb (suc q) (rowCount d)) || isKind d end q)))) (exitMisplaced d q) (thirteenthOpen d q) e in
+      let z = nest-none (not (follows d q && (standsAs d (kind d q) q (stack d q) && (not (eqb (suc q) (rowCount d)) || isKind d end q)))) (killerEmpty d q) (exitMisplaced d q) (thirteenthOpen d q) e in
       let a = not-false _ (z .0) in
       let b = and-right (follows d q) (standsAs d (kind d q) q (stack d q) && (not (eqb (suc q) (rowCount d)) || isKind d end q)) a in
       record {
         follow = and-left (follows d q) _ a;
         stand = and-left (standsAs d (kind d q) q (stack d q)) _ b;
         ends = and-right (standsAs d (kind d q) q (stack d q)) _ b;
-        exits = z .1;
+        full = z .1;
+        exits = z .2;
       }
 
   module _ (all : (q : ℕ) → q < rowCount d → Stands q) where
@@ -153,7 +155,7 @@ module _ (d : Diagram) where
     mayAs : (q : ℕ) (k : Kind) → q < rowCount d → kind d q ≡ k → standsAs d k q (stack d q) ≡ true → mayStand d k q (stack d q) ≡ true
     mayAs q function l e h = h
     mayAs q and-open l e h = opened q l (rw e) (rw e)
-    mayAs q branch l e h = h
+    mayAs q branch l e h = and-intro (and-left (inAndOr d (stack d q)) _ h) (rw (all q l .full))
     mayAs q and-close l e h = h
     mayAs q or-open l e h = opened q l (rw e) (rw e)
     mayAs q or-close l e h = h

@@ -2,33 +2,39 @@
 use Prim.Native.Nat.{_*_, ℕ, suc, _+_, _-_, _≤_, _<_, zero-le}
 use mathlib.Core.Path.{_≡_, refl}
 use mathlib.Core.Logic.{_≢_}
-use mathlib.Core.Bool.{Bool, true, false, cond, _&&_, and-false, and-true}
+use mathlib.Core.Bool.{Bool, true, false, cond, _&&_, and-false}
 use mathlib.Core.List.{[], _∷_}
 use native.Mathlib.Omega.{arith}
 use native.Mathlib.Nat.{add-zero, sub-zero}
 use lib.Dec.{leb, ltb, eqb}
+use lib.ListN.{getD}
 use borrow.Author.Tests.{ltb-true, ltb-false, leb-true, leb-false, eqb-true, eqb-false, le-leb, ne-eqb}
 use Rattle.effbd.specs.Answers.{refused}
 use Rattle.effbd.specs.Diagrams.{Diagram, and-open, branch, end, function, isKind, it-open, kind, row, rowCount}
 use Rattle.effbd.specs.Counts.{countTotal, gives, takes}
-use Rattle.effbd.specs.Image.{imageMark, readyOrDone, running}
+use Rattle.effbd.specs.Image.{imageMark, readyOrDone}
 use Rattle.effbd.specs.Layout.{Count, P, Place, Q, R, byPlace, placeOf}
 use Rattle.effbd.specs.Moves.{endFunction, enough, isThere, startFunction, stepAs, sumFits, sumsFit}
-use Rattle.effbd.specs.Patterns.{Pattern, atOnce, entryRow, none, nowhere, oneAt, patternsAs}
-use Rattle.effbd.specs.Ranges.{only}
-use Rattle.effbd.specs.States.{State, activate, enter, enteredRow, makeIdle, setCounts, setRunning, countAt}
-use Rattle.ranges.specs.Tests.{cond-same, decide}
+use Rattle.effbd.specs.Patterns.{Pattern, clearsRows, marksP, noPattern, none, oneAt, patternsAs, restoresR}
+use Rattle.effbd.specs.Ranges.{nobody, only}
+use Rattle.effbd.specs.States.{State, enter, entered, enteredRow, killed, makeIdle, setCounts, setRunning, countAt}
+use Rattle.ranges.specs.Tests.{clash, decide}
 use Rattle.ranges.specs.RangeLaws.{all-elim, all-find, only-refl, least-past}
 use Rattle.agreement.specs.Basics.{kind-in, not-kind}
 use Rattle.agreement.specs.Counts.{most-given}
 use Rattle.agreement.specs.Refusals.{lowestCount}
-use Rattle.agreement.specs.Invariant.{Inv, Sound, inv-with, sound-idle, sound-inv}
-use Rattle.agreement.specs.Matching.{Agree, Valid, early, fired, full, goes, stays, RowPlace, ready-le, bit-le, marks-fit-row, clock-kept}
-use Rattle.agreement.specs.Named.{after, enabled, namedImage, namedStepAt, lowestOver}
+use Rattle.agreement.specs.Invariant.{Inv, Sound, inv-idle, inv-with, sound-idle, sound-inv}
+use Rattle.agreement.specs.Matching.{Agree, Passing, Valid, early, fired, full, goes, passing-fires, stays, RowPlace, ready-le, bit-le, marks-fit-row, clock-kept}
+use Rattle.agreement.specs.Named.{after, enabled, namedFire, namedImage, namedStepAt, lowestOver}
 use Rattle.agreement.specs.Structure.{Laws}
-use Rattle.agreement.specs.TokenSteps.{live-zero, sound-one}
+use Rattle.agreement.specs.TokenSteps.{live-zero, sound-enter, sound-one}
 use Rattle.agreement.specs.Tokens.{Real, enabled-yes}
 use Rattle.agreement.specs.Numbering.{place-row, place-I}
+
+-- what may be cleared before something is added
+either-le : (b : Bool) (m n : ℕ) → m + n ≤ 65535 → cond b 0 m + n ≤ 65535
+either-le true m n h = omega arith
+either-le false m n h = h
 
 module _ (d : Diagram) where
   module _ (r : ℕ) (s : State) (i : Inv d s) (k : kind d r ≡ function) where
@@ -39,10 +45,10 @@ module _ (d : Diagram) where
     inside = kind-in d r (not-kind d r k end refl)
 
     t₁ : Pattern
-    t₁ = atOnce (byPlace (oneAt (only r)) none none (takes d r)) nowhere (byPlace none (oneAt (only r)) none none)
+    t₁ = getD (patternsAs d function r) 0 noPattern
 
     t₂ : Pattern
-    t₂ = record { earliest = row d r .first; latest = row d r .second; take = byPlace none (oneAt (only r)) none none; clear = nowhere; give = byPlace (oneAt (entryRow d (suc r))) none none (gives d r) }
+    t₂ = getD (patternsAs d function r) 1 noPattern
 
     -- the start
     begun : State
@@ -86,44 +92,43 @@ module _ (d : Diagram) where
         was x = decide (only r x) (λ e h z. let y : s .activity x ≡ 1 = rw (eqb-true x r e) a in absurd (omega arith)) (λ e. rw e (λ h. h))
 
     -- the end
-    ended : State
-    ended = enter d (suc r) (makeIdle (only r) (setCounts (λ x. s .count x + gives d r x) s))
+    spent : State
+    spent = makeIdle (only r) (setCounts (λ x. s .count x + gives d r x) s)
 
-    module _ (a : s .activity r ≡ 2) (h : (q : ℕ) → only r q ≡ false → only (enteredRow d (suc r)) q ≡ true → s .activity q ≡ 0) where
-      ended-marks : (p : Place) → imageMark d ended p ≡ after t₂ (imageMark d s) p + t₂ .give p
-      unfolding ended t₂
-      ended-marks (P q) = decide (only r q)
-          (λ e. rw (e, eqb-true q r e, a) (mine (only (enteredRow d (suc r)) r) (isKind d branch r)))
-          (λ e. decide (only (enteredRow d (suc r)) q) (λ f. rw (f, h q e f) (mine true (isKind d branch q))) (λ f. rw (f, e) (simp (sub-zero, add-zero))))
+    module _ (L : Laws d) (a : s .activity r ≡ 2) where
+      W : ℕ → Bool
+      W = killed d (suc r)
+
+      sound : Sound d W (entered d (suc r)) (makeIdle (only r) s .activity)
+      unfolding W
+      sound = sound-enter d L (suc r) nobody _ (sound-one d r (enteredRow d (suc r)) nobody s i (L .lands (suc r))
+          (λ x X w y z. L .seq r X (not-kind d r k and-open refl) (not-kind d r k end refl)) (λ z. absurd (omega arith)))
+
+      ended-fires : Valid d spent → namedImage d (enter d (suc r) spent) ≡ namedFire d r 1 t₂ (namedImage d s)
+      unfolding spent t₂ W
+      ended-fires vs = passing-fires d moved
         where
-          mine : (x b : Bool) → readyOrDone (cond x (cond b 3 1) 0) ≡ 0 + cond x 1 0
-          mine true true = refl
-          mine true false = refl
-          mine false b = refl
-      ended-marks (Q q) = decide (only r q)
-          (λ e. rw (e, eqb-true q r e, a, k) (mine (only (enteredRow d (suc r)) r) false))
-          (λ e. rw e (decide (only (enteredRow d (suc r)) q) (λ f. rw (f, h q e f) (both (isKind d it-open q) (isKind d branch q))) (λ f. rw f (simp (sub-zero, add-zero)))))
-        where
-          mine : (x b : Bool) → running (cond x (cond b 3 1) 0) ≡ 0
-          mine true true = refl
-          mine true false = refl
-          mine false b = refl
+          kept : (p : Place) → clearsRows d W p ≡ false → imageMark d spent p + marksP (entered d (suc r)) p ≡ (imageMark d s p - t₂ .take p) + t₂ .give p
+          kept (P q) w = decide (only r q) (λ e. rw (e, eqb-true q r e, a)) (λ e. rw e (simp sub-zero))
+          kept (Q q) w = decide (only r q) (λ e. rw (e, eqb-true q r e, a, k)) (λ e. rw e (simp sub-zero))
+          kept (R q) w = rw w (simp sub-zero)
+          kept (Count x) w = simp (sub-zero, add-zero)
 
-          both : (x b : Bool) → cond x (s .turns q) (running (cond b 3 1)) ≡ cond x (s .turns q) 0 - 0 + 0
-          both true b = simp (sub-zero, add-zero)
-          both false true = refl
-          both false false = refl
-      ended-marks (R q) = simp (sub-zero, add-zero)
-      ended-marks (Count x) = simp sub-zero
+          again : (p : Place) → clearsRows d W p ≡ true → t₂ .give p ≡ byPlace (oneAt (entered d (suc r))) none (restoresR d W) none p
+          again (P q) w = refl
+          again (Q q) w = refl
+          again (R q) w = refl
+          again (Count x) w = clash w refl
 
-      ended-clock : (q : ℕ) → kind d q ≡ function
-          → ended .clock q ≡ cond (only r q && only 1 1) 0 (cond (leb 1 (after t₂ (imageMark d s) (Q q))) (s .clock q) 0)
-      unfolding ended t₂
-      ended-clock q kq = rw (and-true, kq) (decide (only r q)
-          (λ e. rw (e, cond-same))
-          (λ e. rw e (decide (only (enteredRow d (suc r)) q)
-          (λ f. rw (f, h q e f))
-          (λ f. rw f (clock-kept (s .activity q) (s .clock q) (v .still q))))))
+          moved : Passing d r 1 t₂ W (entered d (suc r)) s spent
+          moved = record {
+            clears = λ p. refl;
+            kept = kept;
+            timed = λ q kq w. rw kq (decide (only r q) (λ e. rw e) (λ e. rw e (clock-kept (s .activity q) (s .clock q) (v .still q))));
+            fresh = again;
+            idle = sound-idle d W (entered d (suc r)) (makeIdle (only r) s .activity) sound;
+            valid = vs;
+          }
 
     -- what the FUNCTION's state is
     off : s .activity r ≢ 1 → readyOrDone (s .activity r) ≡ 0
@@ -152,21 +157,15 @@ module _ (d : Diagram) where
         cov e (Count x) l = leb-true (takes d r x) (s .count x) (all-elim (countTotal d) (isThere d r s) e x l)
 
     agree-finish : Laws d → s .activity r ≡ 2 → Agree d (Inv d) s r (endFunction d r s) (namedStepAt d (t₂ ∷ []) 1 r (namedImage d s))
-    unfolding ended t₂
+    unfolding spent t₂
     agree-finish L a = decide (ltb (s .clock r) (row d r .first))
         (λ e. rw (early d t₂ [] r 1 s on (rw k (ltb-true (s .clock r) (row d r .first) e)), e) (refl, rw k))
         (λ e. decide (sumsFit d r s)
-        (λ f. rw (goes d t₂ [] r 1 s ended on (due e) (fired d r 1 t₂ s ended (ended-marks a idle-then) (ended-clock a idle-then)) (inv f .valid), e, f) (refl, inv f))
+        (λ f. rw (goes d t₂ [] r 1 s (enter d (suc r) spent) on (due e) (ended-fires L a (inv-spent f .valid)) (inv f .valid), e, f) (refl, inv f))
         (λ f. let w = all-find (countTotal d) (sumFits d r s) f in
         let l : 65535 < s .count (w .0) + gives d r (w .0) = leb-false (s .count (w .0) + gives d r (w .0)) 65535 (w .2) in
         rw (full d t₂ [] r 1 s (Count (w .0)) on (due e) (w .1) (rw sub-zero l), e, f) (refl, lowest)))
       where
-        sound : Sound d (only r) (only (enteredRow d (suc r))) s
-        sound = sound-one d r (enteredRow d (suc r)) s i (λ z. absurd (omega arith)) (L .lands (suc r)) (λ X. L .seq r X (not-kind d r k and-open refl) (not-kind d r k end refl))
-
-        idle-then : (q : ℕ) → only r q ≡ false → only (enteredRow d (suc r)) q ≡ true → s .activity q ≡ 0
-        idle-then = sound-idle d (only r) (only (enteredRow d (suc r))) s sound
-
         on : enabled d t₂ (imageMark d s) ≡ true
         on = enabled-yes d t₂ (imageMark d s) cov
           where
@@ -181,9 +180,11 @@ module _ (d : Diagram) where
 
         -- only a count can pass 65,535
         fits : (p : Place) → RowPlace d p → after t₂ (imageMark d s) p + t₂ .give p ≤ 65535
-        fits (P q) l = let a = ready-le d (s .activity q) in let b = bit-le (only (enteredRow d (suc r)) q) in omega arith
-        fits (Q q) l = let a = marks-fit-row d s v (Q q) l in omega arith
-        fits (R q) l = let a = marks-fit-row d s v (R q) l in omega arith
+        fits (P q) l = either-le (killed d (suc r) q) _ _ (let a = ready-le d (s .activity q) in let b = bit-le (entered d (suc r) q) in omega arith)
+        fits (Q q) l = either-le (killed d (suc r) q) _ _ (let a = marks-fit-row d s v (Q q) l in omega arith)
+        fits (R q) l = decide (killed d (suc r) q)
+            (λ e. rw e (decide (isKind d it-open q) (λ f. rw f (let b = v .bounded q in omega arith)) (λ f. rw f (omega arith))))
+            (λ e. rw e (let a = marks-fit-row d s v (R q) l in omega arith))
         fits (Count x) l = absurd l
 
         lowest : lowestOver d t₂ (imageMark d s) ≡ countAt d (lowestCount d s r)
@@ -191,10 +192,12 @@ module _ (d : Diagram) where
             (λ p l. rw (le-leb (after t₂ (imageMark d s) (placeOf d p) + t₂ .give (placeOf d p)) 65535 (fits (placeOf d p) (place-row d p l))))
             (λ x l. rw (place-I d x, sub-zero))
 
-        inv : sumsFit d r s ≡ true → Inv d ended
-        inv f = inv-with d (s .turns) (λ x. s .count x + gives d r x) (activate d (only (enteredRow d (suc r))) (makeIdle (only r) s))
-            (sound-inv d (only r) (only (enteredRow d (suc r))) s i sound) (v .turned) (v .spun)
-            (λ x l. most-given d r x (s .count x) (v .counted x l) (leb-true (s .count x + gives d r x) 65535 (all-elim (countTotal d) (sumFits d r s) f x l)))
+        inv-spent : sumsFit d r s ≡ true → Inv d spent
+        inv-spent f = inv-idle d (only r) (setCounts (λ x. s .count x + gives d r x) s) (inv-with d (s .turns) (λ x. s .count x + gives d r x) s i (v .turned) (v .spun)
+            (λ x l. most-given d r x (s .count x) (v .counted x l) (leb-true (s .count x + gives d r x) 65535 (all-elim (countTotal d) (sumFits d r s) f x l))))
+
+        inv : sumsFit d r s ≡ true → Inv d (enter d (suc r) spent)
+        inv f = sound-inv d (killed d (suc r)) (entered d (suc r)) spent (inv-spent f) (unfold W in sound L a)
 
     pub agree-fun : Laws d → Agree d (Inv d) s r (stepAs d function r s) (namedStepAt d (patternsAs d function r) 0 r (namedImage d s))
     unfolding t₁ t₂

@@ -1,29 +1,30 @@
 -- What is kept at each reachable state, and how an answer of the diagram and one of the net agree.
 use Prim.Native.Nat.{ℕ, suc, _+_, _-_, _≤_, _<_, zero-le}
-use mathlib.Core.Path.{_≡_, refl, subst, fun-ext}
+use mathlib.Core.Path.{_≡_, subst, fun-ext, sym, _∙_, ap}
 use mathlib.Core.Logic.{_≢_}
-use mathlib.Core.Bool.{Bool, true, false, cond, _&&_, _||_, and-false}
-use mathlib.Core.List.{List, [], _∷_}
+use mathlib.Core.Bool.{Bool, true, false, cond, _&&_, _||_}
+use mathlib.Core.List.{List, _∷_}
 use native.Mathlib.Omega.{arith}
+use native.Mathlib.Nat.{zero-add}
 use lib.ListN.{getD}
 use lib.Dec.{leb, eqb}
 use borrow.Author.Tests.{leb-true, leb-false, eqb-true, eqb-false, lt-ltb, le-ltb, le-leb, lt-leb}
 use Rattle.effbd.specs.Answers.{Outcome, accepted, refused}
-use Rattle.effbd.specs.Diagrams.{Diagram, and-close, and-open, branch, end, function, isKind, it-open, kind, row, rowCount}
-use Rattle.effbd.specs.Counts.{countTotal, gives, tally}
+use Rattle.effbd.specs.Diagrams.{Diagram, and-close, and-open, branch, end, function, isKind, it-open, kind, row}
+use Rattle.effbd.specs.Counts.{countTotal, tally}
 use Rattle.effbd.specs.Image.{imageMark, readyOrDone, running}
 use Rattle.effbd.specs.Layout.{Count, P, Place, Q, R, byPlace}
 use Rattle.effbd.specs.Nesting.{owner}
-use Rattle.effbd.specs.Patterns.{Pattern, atOnce, entryRow, marksP, noPattern, none, nowhere, oneAt, patterns}
+use Rattle.effbd.specs.Patterns.{Pattern, clearsRows, marksP, noPattern, none, oneAt, patterns, patternsAs, restoresR}
 use Rattle.effbd.specs.Ranges.{only}
-use Rattle.effbd.specs.States.{State, activate, makeIdle}
+use Rattle.effbd.specs.States.{State, activate, clearRows}
 use Rattle.ranges.specs.Tests.{and-left, and-right, clash, cond-same, decide}
 use Rattle.ranges.specs.RangeLaws.{only-refl}
 use Rattle.agreement.specs.Basics.{kind-in, same-eq}
 use Rattle.agreement.specs.Counts.{most-le, mostOf}
 use Rattle.agreement.specs.Refusals.{netNumber, netValue}
 use Rattle.agreement.specs.Named.{lowestOver, NamedState, after, allPlaces, enabled, namedFire, namedImage, namedStepAt}
-use Rattle.agreement.specs.Tokens.{Fits, Real, enabled-no, enabled-yes, moved-marks, places-elim, places-intro}
+use Rattle.agreement.specs.Tokens.{Real, cleared-marks, enabled-no, enabled-yes, kept-marks, places-elim, places-intro}
 
 pub bit-le : (b : Bool) → cond b 1 0 ≤ 1
 bit-le true = omega arith
@@ -82,7 +83,7 @@ module _ (d : Diagram) where
       rw e (enabled-no d t m (Q q) (kind-in d q ne) (rw (only-refl q) l))))
     where
       t : Pattern
-      t = record { earliest = row d q .first; latest = row d q .second; take = byPlace none (oneAt (only q)) none none; clear = nowhere; give = byPlace (oneAt (entryRow d (suc q))) none none (gives d q) }
+      t = getD (patternsAs d function q) 1 noPattern
 
       ne : kind d q ≢ end
       ne e = let z : _≡_ {A = ℕ} 0 1 = cc in omega arith
@@ -141,48 +142,34 @@ module _ (d : Diagram) where
       overflows : allPlaces d f ≡ false
       overflows = decide (allPlaces d f) (λ e. clash (places-elim d f e p l) (lt-leb (after t (imageMark d s) p + t .give p) 65535 h)) (λ e. e)
 
-  pub token-clock : (S E : Bool) (a c : ℕ) → Fits d S E a → (a ≢ 2 → c ≡ 0) → cond E 0 (cond S 0 c) ≡ cond (leb 1 (running a - 0)) c 0
-  token-clock S E a c h g = decide (eqb a 2) (λ e. rw e (on S E (eqb-true a 2 e) h)) (λ e. rw (g (eqb-false a 2 e)) (simp cond-same))
+  -- a step that enters: from s its takes and what it does at its own row lead to m; then the rows W are cleared and the rows E made active
+  pub record Passing (r j : ℕ) (t : Pattern) (W E : ℕ → Bool) (s m : State) : Type 0 where
+    pub clears : (p : Place) → t .clear p ≡ clearsRows d W p
+    -- a place that is not cleared
+    pub kept : (p : Place) → clearsRows d W p ≡ false → imageMark d m p + marksP E p ≡ (imageMark d s p - t .take p) + t .give p
+    pub timed : (q : ℕ) → kind d q ≡ function → W q ≡ false
+        → m .clock q ≡ cond (only r q && only j 1) 0 (cond (leb 1 (imageMark d s (Q q) - t .take (Q q))) (s .clock q) 0)
+    -- a place that is cleared gets what it has in a fresh state
+    pub fresh : (p : Place) → clearsRows d W p ≡ true → t .give p ≡ byPlace (oneAt E) none (restoresR d W) none p
+    -- a row that is made active and not cleared was idle
+    pub idle : (q : ℕ) → W q ≡ false → E q ≡ true → m .activity q ≡ 0
+    pub valid : Valid m
+
+  pub passing-fires : {r j : ℕ} {t : Pattern} {W E : ℕ → Bool} {s m : State} → Passing r j t W E s m
+      → namedImage d (activate d E (clearRows W m)) ≡ namedFire d r j t (namedImage d s)
+  passing-fires {r} {j} {t} {W} {E} {s} {m} h = fired r j t s (activate d E (clearRows W m)) marks clocks
     where
-      on : (S E : Bool) → a ≡ 2 → Fits d S E a → cond E 0 (cond S 0 c) ≡ c
-      on false false e h = refl
-      on false true e h = let z : _≡_ {A = ℕ} 0 2 = cc in absurd (omega arith)
-      on true false e h = let z : _≡_ {A = ℕ} 0 1 = rw e at h in absurd (omega arith)
-      on true true e h = let z : _≡_ {A = ℕ} 0 1 = rw e at h in absurd (omega arith)
+      marks : (p : Place) → imageMark d (activate d E (clearRows W m)) p ≡ after t (imageMark d s) p + t .give p
+      marks p = at-place ∙ ap (λ (b : Bool). cond b 0 (imageMark d s p - t .take p) + t .give p) (sym (h .clears p))
+        where
+          at-place : imageMark d (activate d E (clearRows W m)) p ≡ cond (clearsRows d W p) 0 (imageMark d s p - t .take p) + t .give p
+          at-place = decide (clearsRows d W p)
+              (λ w. rw w (cleared-marks d W E m (h .idle) p w ∙ (sym (h .fresh p w) ∙ sym (zero-add (t .give p)))))
+              (λ w. rw w (kept-marks d W E m (h .idle) p w ∙ h .kept p w))
 
-  pub tokens-fire : (r : ℕ) (S E : ℕ → Bool) (s : State) → Valid s → ((q : ℕ) → Fits d (S q) (E q) (s .activity q))
-      → namedImage d (activate d E (makeIdle S s)) ≡ namedFire d r 0 (atOnce (marksP S) nowhere (marksP E)) (namedImage d s)
-  tokens-fire r S E s v h = fired r 0 (atOnce (marksP S) nowhere (marksP E)) s (activate d E (makeIdle S s)) (moved-marks d S E s h)
-      (λ q k. rw (k, and-false) (token-clock (S q) (E q) (s .activity q) (s .clock q) (h q) (v .still q)))
-
-  covers : (S E : Bool) (a : ℕ) → Fits d S E a → cond S 1 0 ≤ readyOrDone a
-  covers false false a h = zero-le
-  covers false true a h = zero-le
-  covers true false a h = rw h (omega arith)
-  covers true true a h = rw h (omega arith)
-
-  -- a step that moves tokens under one test
-  module _ (K : State → Type 0) (valid : (s : State) → K s → Valid s) where
-    pub agree-tokens : (r : ℕ) (S E : ℕ → Bool) (s : State) (b : Bool) → K s
-        → (b ≡ true → (q : ℕ) → Fits d (S q) (E q) (s .activity q))
-        → (b ≡ true → K (activate d E (makeIdle S s)))
-        → (b ≡ false → (o : ℕ) × (o < rowCount d) × (S o ≡ true) × (readyOrDone (s .activity o) ≡ 0))
-        → Agree K s r (cond b (accepted (activate d E (makeIdle S s))) (refused 22 r))
-        (namedStepAt d (atOnce (marksP S) nowhere (marksP E) ∷ []) 0 r (namedImage d s))
-    agree-tokens r S E s true v h k n = rw (goes t [] r 0 s s′ (enabled-yes d t (imageMark d s) (λ p l. cov p)) zero-le (tokens-fire r S E s (valid s v) (h refl)) (valid s′ (k refl)))
-        (refl, k refl)
-      where
-        t : Pattern
-        t = atOnce (marksP S) nowhere (marksP E)
-
-        s′ : State
-        s′ = activate d E (makeIdle S s)
-
-        cov : (p : Place) → t .take p ≤ imageMark d s p
-        cov (P q) = covers (S q) (E q) (s .activity q) (h refl q)
-        cov (Q q) = zero-le
-        cov (R q) = zero-le
-        cov (Count q) = zero-le
-    agree-tokens r S E s false v h k n = let w = n refl in
-        let l : readyOrDone (s .activity (w .0)) < cond (S (w .0)) 1 0 = rw (w .2, w .3) (omega arith) in
-        rw (stays (atOnce (marksP S) nowhere (marksP E)) [] r 0 s (P (w .0)) (w .1) l) (refl, refl)
+      clocks : (q : ℕ) → kind d q ≡ function → cond (E q) 0 (cond (W q) 0 (m .clock q)) ≡ cond (only r q && only j 1) 0 (cond (leb 1 (after t (imageMark d s) (Q q))) (s .clock q) 0)
+      clocks q k = rw (h .clears (Q q)) (decide (W q)
+          (λ w. rw w (simp cond-same))
+          (λ w. rw w (decide (E q)
+          (λ e. rw e (sym (h .valid .still q (λ z. let y = h .idle q w e in absurd (omega arith))) ∙ h .timed q k w))
+          (λ e. rw e (h .timed q k w)))))

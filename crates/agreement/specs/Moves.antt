@@ -1,21 +1,20 @@
 -- The diagram's steps and the net's agree at every state that keeps the invariant.
 use Prim.Native.Nat.{ℕ, zero, suc, _≤_, zero-le}
-use mathlib.Core.Path.{_≡_, refl, sym, _∙_, fun-ext}
+use mathlib.Core.Path.{_≡_, refl, sym, _∙_, fun-ext, ap}
 use mathlib.Core.Logic.{_≢_}
 use mathlib.Core.Bool.{Bool, true, false, cond, _&&_}
 use native.Mathlib.Omega.{arith}
-use native.Mathlib.Nat.{sub-zero}
 use borrow.Author.Tests.{eqb-true}
 use Rattle.effbd.specs.Diagrams.{Diagram, Kind, and-close, and-open, branch, end, function, isKind, it-close, it-open, item, kind, loop-exit, lp-close, lp-open, or-close, or-open, row}
 use Rattle.effbd.specs.Counts.{initialCount}
-use Rattle.effbd.specs.Image.{imageMark, readyOrDone, running}
+use Rattle.effbd.specs.Image.{imageMark}
 use Rattle.effbd.specs.Layout.{Count, P, Place, Q, R}
 use Rattle.effbd.specs.Moves.{Move, move, no-move, step, step-row, stepAs, wait-ticks}
 use Rattle.effbd.specs.Nesting.{isClose, owner}
 use Rattle.effbd.specs.Patterns.{patternsAs}
-use Rattle.effbd.specs.Ranges.{only}
-use Rattle.effbd.specs.States.{State, enteredRow, fresh}
-use Rattle.ranges.specs.Tests.{clash, decide}
+use Rattle.effbd.specs.Ranges.{nobody, only}
+use Rattle.effbd.specs.States.{State, activate, entered, enteredRow, fresh, killed}
+use Rattle.ranges.specs.Tests.{clash, cond-same, decide}
 use Rattle.agreement.specs.Basics.{kind-in, not-kind, same-eq}
 use Rattle.agreement.specs.Counts.{most-initial}
 use Rattle.agreement.specs.FunctionSteps.{agree-fun}
@@ -26,31 +25,33 @@ use Rattle.agreement.specs.Named.{namedFresh, namedImage, namedMove, nam
 use Rattle.agreement.specs.Nested.{wellNested}
 use Rattle.agreement.specs.NestingLaws.{laws}
 use Rattle.agreement.specs.Structure.{Laws}
-use Rattle.agreement.specs.TokenSteps.{agree-and, agree-close, agree-one}
+use Rattle.agreement.specs.TokenSteps.{agree-and, agree-close, agree-on, agree-one, sound-enter, sound-one}
+use Rattle.agreement.specs.Tokens.{cleared-marks}
 use Rattle.agreement.specs.Waits.{waits-agree}
 
 module _ (d : Diagram) (L : Laws d) (r : ℕ) (s : State) (i : Inv d s) where
   -- a row that hands its token to the next, or back to its open row
   on : kind d r ≢ end → kind d r ≢ branch → kind d r ≢ and-open
       → Agree d (Inv d) s r (stepAs d lp-open r s) (namedStepAt d (patternsAs d lp-open r) 0 r (namedImage d s))
-  on n b o = agree-one d r r (enteredRow d (suc r)) s i (kind-in d r n) b (L .lands (suc r)) (λ X. L .seq r X o n)
+  on n b o = agree-on d L r r (suc r) s i (kind-in d r n) b (λ X. L .seq r X o n)
 
   again : kind d r ≢ end → kind d r ≢ branch → isClose d r ≡ true
       → Agree d (Inv d) s r (stepAs d lp-close r s) (namedStepAt d (patternsAs d lp-close r) 0 r (namedImage d s))
-  again n b c = agree-one d r r (owner d r) s i (kind-in d r n) b ((λ e. clash (L .kin r c) (rw e)), (λ e. clash (L .kin r c) (rw e))) (λ X. L .back r X c)
+  again n b c = agree-one d r r nobody (only (owner d r)) s i (kind-in d r n) b
+      (sound-one d r (owner d r) nobody s i ((λ e. clash (L .kin r c) (rw e)), (λ e. clash (L .kin r c) (rw e))) (λ x X w y z. L .back r X c))
 
   by-kind : (k : Kind) → kind d r ≡ k → Agree d (Inv d) s r (stepAs d k r s) (namedStepAt d (patternsAs d k r) 0 r (namedImage d s))
   by-kind function e = agree-fun d r s i e L
   by-kind and-open e = agree-and d L r s i e
   by-kind branch e = decide (isKind d or-open (owner d r))
       (λ f. let o = same-eq (kind d (owner d r)) or-open f in
-      rw f (agree-one d r (owner d r) (enteredRow d (suc r)) s i (kind-in d (owner d r) (not-kind d (owner d r) o end refl)) (not-kind d (owner d r) o branch refl) (L .lands (suc r))
+      rw f (agree-on d L r (owner d r) (suc r) s i (kind-in d (owner d r) (not-kind d (owner d r) o end refl)) (not-kind d (owner d r) o branch refl)
       (λ X. L .seq r X (not-kind d r e and-open refl) (not-kind d r e end refl) ∙ L .orIn r X e o)))
       (λ f. rw f (refl, refl))
   by-kind and-close e = agree-close d L r s i e
   by-kind or-open e = (refl, refl)
   by-kind or-close e = on (not-kind d r e end refl) (not-kind d r e branch refl) (not-kind d r e and-open refl)
-  by-kind it-open e = agree-it d r s i e L
+  by-kind it-open e = agree-it d L r s i e
   by-kind it-close e = again (not-kind d r e end refl) (not-kind d r e branch refl) (rw e)
   by-kind lp-open e = on (not-kind d r e end refl) (not-kind d r e branch refl) (not-kind d r e and-open refl)
   by-kind lp-close e = again (not-kind d r e end refl) (not-kind d r e branch refl) (rw e)
@@ -77,7 +78,7 @@ module _ (d : Diagram) (acc : wellNested d ≡ true) (w : Words d) where
 
   pub fresh-inv : Inv d (fresh d)
   unfolding nothing
-  fresh-inv = sound-inv d (λ q. false) (only (enteredRow d 0)) nothing
+  fresh-inv = sound-inv d (killed d 0) (entered d 0) nothing
       (record {
         valid = record {
           small = λ q. zero-le;
@@ -95,31 +96,32 @@ module _ (d : Diagram) (acc : wellNested d ≡ true) (w : Words d) where
         };
         apart = λ r q a b n. absurd (a refl);
       })
-      (record {
+      (sound-enter d (laws d acc) 0 nobody _ (record {
         clear = λ t x e f a. absurd (a refl);
         lands = λ t e. rw (eqb-true t (enteredRow d 0) e) (laws d acc .lands 0);
         pair = λ t u e f n. absurd (n (eqb-true t (enteredRow d 0) e ∙ sym (eqb-true u (enteredRow d 0) f)));
-      })
+      }))
 
-  fresh-mark : (p : Place) → imageMark d (fresh d) p ≡ namedFresh d .mark p
-  fresh-mark (P q) = go (only (enteredRow d 0) q) (isKind d branch q)
-    where
-      go : (e b : Bool) → readyOrDone (cond e (cond b 3 1) 0) ≡ cond e 1 0
-      go true true = refl
-      go true false = refl
-      go false b = refl
-  fresh-mark (Q q) = go (isKind d it-open q) (only (enteredRow d 0) q) (isKind d branch q)
-    where
-      go : (i e b : Bool) → cond i 0 (running (cond e (cond b 3 1) 0)) ≡ 0
-      go true e b = refl
-      go false true true = refl
-      go false true false = refl
-      go false false b = refl
-  fresh-mark (R q) = simp sub-zero
+  -- where nothing is, nothing is cleared
+  fresh-is : fresh d ≡ activate d (entered d 0) nothing
+  unfolding nothing
+  fresh-is = λ j. record {
+    activity = λ q. cond (entered d 0 q) (cond (isKind d branch q) 3 1) (cond-same (killed d 0 q) 0 j);
+    turns = λ q. cond-same (killed d 0 q) 0 j;
+    clock = λ q. cond (entered d 0 q) 0 (cond-same (killed d 0 q) 0 j);
+    count = initialCount d;
+  }
+
+  fresh-mark : (p : Place) → imageMark d (activate d (entered d 0) nothing) p ≡ namedFresh d .mark p
+  unfolding nothing
+  fresh-mark (P q) = cleared-marks d (λ x. true) (entered d 0) nothing (λ x w. clash refl w) (P q) refl
+  fresh-mark (Q q) = cleared-marks d (λ x. true) (entered d 0) nothing (λ x w. clash refl w) (Q q) refl
+  fresh-mark (R q) = cleared-marks d (λ x. true) (entered d 0) nothing (λ x w. clash refl w) (R q) refl
   fresh-mark (Count k) = refl
 
   pub fresh-image : namedImage d (fresh d) ≡ namedFresh d
-  fresh-image = λ j. record { mark = fun-ext fresh-mark j; clock = λ q i. go (isKind d function q && only 1 i) (only (enteredRow d 0) q) j }
+  unfolding nothing
+  fresh-image = ap (namedImage d) fresh-is ∙ (λ j. record { mark = fun-ext fresh-mark j; clock = λ q i. go (isKind d function q && only 1 i) (entered d 0 q) j })
     where
       go : (b e : Bool) → _≡_ {A = ℕ} (cond b (cond e 0 0) 0) 0
       go true true = refl

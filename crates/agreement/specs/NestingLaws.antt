@@ -2,16 +2,16 @@
 use Prim.Native.Nat.{ℕ, zero, suc, _+_, _-_, _≤_, _<_}
 use mathlib.Core.Path.{_≡_, refl, sym, _∙_, ap, subst}
 use mathlib.Core.Logic.{_≢_, _⊎_, inl, inr}
-use mathlib.Core.Bool.{Bool, true, false, not, _&&_, _||_}
+use mathlib.Core.Bool.{Bool, true, false, not, _&&_, _||_, and-false}
 use mathlib.Core.List.{List, [], _∷_}
 use native.Mathlib.Omega.{arith}
 use native.Mathlib.Nat.{add-zero, add-suc}
 use lib.Dec.{leb, ltb, eqb}
-use borrow.Author.Tests.{ltb-true, leb-true, leb-false, eqb-true, le-leb, eq-eqb, ne-eqb}
+use borrow.Author.Tests.{ltb-true, leb-true, leb-false, eqb-true, le-leb, eq-eqb, ne-eqb, lt-ltb}
 use Rattle.effbd.specs.Diagrams.{Diagram, Kind, and-close, and-open, branch, end, function, isKind, it-close, it-open, kind, loop-exit, lp-close, lp-open, or-close, or-open, rowCount, sameKind}
 use Rattle.effbd.specs.Nesting.{Frame, branchOf, close, inAndOr, inLoop, innermost, innermostIs, innermostOpen, isClose, latestBranch, loop, noneOpen, owner, passing, pop, push, someOpen, stack, turnTo, twoBranches}
-use Rattle.effbd.specs.Ranges.{allBelow, only}
-use Rattle.effbd.specs.States.{enteredAs, enteredRow}
+use Rattle.effbd.specs.Ranges.{allBelow, between, only}
+use Rattle.effbd.specs.States.{endsKiller, enteredAs, enteredRow}
 use Rattle.ranges.specs.Tests.{and-intro, and-left, and-right, clash, decide, or-false-left, or-false-right, or-left, or-neither, or-right, or-split}
 use Rattle.ranges.specs.RangeLaws.{all-elim, least-found, only-refl}
 use Rattle.agreement.specs.Basics.{eq-same, kind-in, ne-same, not-kind, same-eq}
@@ -111,7 +111,7 @@ module _ (d : Diagram) where
     has X [] = false
     has X (f ∷ fs) = only X (f .opened) || has X fs
 
-    has-below : (q X : ℕ) (fs : List Frame) → Good q fs → has X fs ≡ true → X < q
+    pub has-below : (q X : ℕ) (fs : List Frame) → Good q fs → has X fs ≡ true → X < q
     unfolding has
     has-below q X [] g h = clash h refl
     has-below q X (f ∷ fs) g h = or-split (only X (f .opened)) (has X fs) h
@@ -208,27 +208,25 @@ module _ (d : Diagram) where
         (λ e. l (shutting r lp-close lp-open e (λ fs. refl) (ruled r lp-close e refl)))
 
     -- a BRANCH
-    pub record Branched (b : ℕ) : Type 0 where
-      pub fork : (isKind d and-open (owner d b) || isKind d or-open (owner d b)) ≡ true
-      pub opener : opens d (owner d b) ≡ true
-      pub earlier : owner d b < b
-      pub after : stack d (suc b) ≡ record { opened = owner d b; latest = b } ∷ stack d (owner d b)
-
-    branched : (b : ℕ) → kind d b ≡ branch → Branched b
-    unfolding stack
-    branched b e = record {
-      fork = rw (owner-top b t) (subst (λ fs. inAndOr d fs ≡ true) (t .here) (ruled b branch e refl));
-      opener = rw (owner-top b t) (t .ok .opener);
-      earlier = rw (owner-top b t) (t .ok .below);
-      after = rw (e, owner-top b t) (ap (turnTo b) (t .here) ∙ ap (λ fs. record { opened = t .frame .opened; latest = b } ∷ fs) (t .ok .tail));
-    }
+    forked : (q : ℕ) → kind d q ≡ branch → noneOpen d (stack d q) ≡ false
+    forked q e = go (stack d q) (and-left (inAndOr d (stack d q)) _ (ruled q branch e refl))
       where
         go : (fs : List Frame) → inAndOr d fs ≡ true → noneOpen d fs ≡ false
         go [] h = clash h refl
         go (f ∷ fs) h = refl
 
-        t : Top b
-        t = top b (go (stack d b) (ruled b branch e refl))
+    pub record Branched (b : ℕ) : Type 0 where
+      pub opener : opens d (owner d b) ≡ true
+      pub earlier : owner d b < b
+      pub after : stack d (suc b) ≡ record { opened = owner d b; latest = b } ∷ stack d (owner d b)
+
+    pub branched : (b : ℕ) → kind d b ≡ branch → Branched b
+    unfolding stack
+    branched b e = let t = top b (forked b e) in record {
+      opener = rw (owner-top b t) (t .ok .opener);
+      earlier = rw (owner-top b t) (t .ok .below);
+      after = rw (e, owner-top b t) (ap (turnTo b) (t .here) ∙ ap (λ fs. record { opened = t .frame .opened; latest = b } ∷ fs) (t .ok .tail));
+    }
 
     -- how membership changes at a row
     has-pop : (o : ℕ) (fs : List Frame) → has o fs ≡ true → has o (pop fs) ≡ false → innermostOpen fs ≡ o
@@ -351,7 +349,7 @@ module _ (d : Diagram) where
             (and-intro (w .2) (eq-eqb (owner d (w .0)) o (w .3))) .0
 
     -- what is open at q closes at q or later
-    until : (X q : ℕ) → opens d X ≡ true → has X (stack d q) ≡ true → q ≤ close d X
+    pub until : (X q : ℕ) → opens d X ≡ true → has X (stack d q) ≡ true → q ≤ close d X
     until X q o h = decide (leb q c) (λ e. leb-true q c e)
         (λ e. let l : c < q = leb-false q c e in
         let b : suc c + (q - suc c) ≡ q = omega arith in
@@ -411,13 +409,6 @@ module _ (d : Diagram) where
     at-close : (q X : ℕ) (c o : Kind) → Shut q c o → isClose d q ≡ true → sameKind o and-open ≡ false → noneOpen d (stack d q) ≡ false → side d X q ≡ sideIn d X (stack d q)
     at-close q X c o s h n e = closed-side q X h ∙ (sym (drop-frame X (owner d q) (top q e .frame .latest) (rw (s .own) n)) ∙ ap (sideIn d X) (sym (top-stack q (top q e))))
 
-    forked : (q : ℕ) → inAndOr d (stack d q) ≡ true → noneOpen d (stack d q) ≡ false
-    forked q = go (stack d q)
-      where
-        go : (fs : List Frame) → inAndOr d fs ≡ true → noneOpen d fs ≡ false
-        go [] h = clash h refl
-        go (f ∷ fs) h = refl
-
     landedAs : (k : Kind) (q X : ℕ) → kind d q ≡ k → side d X (enteredAs d k (isKind d and-open (owner d q)) q) ≡ sideIn d X (stack d q)
     unfolding stack
     landedAs function q X e = still q X (not-open q e refl) (rw e)
@@ -425,7 +416,7 @@ module _ (d : Diagram) where
     landedAs branch q X e = go (isKind d and-open (owner d q)) refl
       where
         t : Top q
-        t = top q (forked q (ruled q branch e refl))
+        t = top q (forked q e)
 
         go : (x : Bool) → isKind d and-open (owner d q) ≡ x → side d X (enteredAs d branch x q) ≡ sideIn d X (stack d q)
         go true f = in-branch q X t (same-eq (kind d (owner d q)) and-open f)
@@ -464,7 +455,7 @@ module _ (d : Diagram) where
     landsAs branch q e = go (isKind d and-open (owner d q)) refl
       where
         go : (x : Bool) → isKind d and-open (owner d q) ≡ x → Fine d (enteredAs d branch x q)
-        go true f = side-fine q (top q (forked q (ruled q branch e refl))) f
+        go true f = side-fine q (top q (forked q e)) f
         go false f = let s = shut (owner d q) (branched q e .opener) in (
           (λ h. let m = topIs-owner (close d (owner d q)) and-open (and-left (innermostIs d and-open (stack d (close d (owner d q)))) (twoBranches d (stack d (close d (owner d q)))) (ruled (close d (owner d q)) and-close h refl)) .1 in
               clash (eq-same (kind d (owner d q)) and-open (rw (s .1) at m)) f),
@@ -495,6 +486,10 @@ module _ (d : Diagram) where
     next-owner : (o : ℕ) → opens d o ≡ true → owner d (suc o) ≡ o
     unfolding owner
     next-owner o h = rw (opened-stack o h)
+
+    quiet : (o : ℕ) → opens d o ≡ true → kind d o ≢ and-open → endsKiller d (suc o) ≡ false
+    unfolding endsKiller
+    quiet o h n = rw (next-owner o h, ne-same (kind d o) and-open n, and-false)
 
     branch-side : (b X : ℕ) → kind d b ≡ branch → side d X b ≡ sideIn d X (record { opened = owner d b; latest = b } ∷ stack d (owner d b))
     branch-side b X e = side-else b X (not-open b e refl) ∙ ap (sideIn d X) (branched b e .after)
@@ -531,6 +526,23 @@ module _ (d : Diagram) where
     orFirst : (o : ℕ) → kind d o ≡ or-open → (kind d (suc o) ≡ branch) × (owner d (suc o) ≡ o)
     orFirst o k = (same-eq (kind d (suc o)) branch (ruled o or-open k refl), next-owner o (rw k))
 
+    killer : (q : ℕ) → endsKiller d q ≡ true → (kind d (owner d q) ≡ and-open) × (branchOf d (owner d q) (enteredRow d q) ≡ true)
+    unfolding endsKiller enteredRow
+    killer q h = (
+      same-eq (kind d (owner d q)) and-open a,
+      or-split (isKind d branch q) (isKind d and-close q) (and-left (isKind d branch q || isKind d and-close q) _ h)
+          (λ e. let k = same-eq (kind d q) branch e in rw (k, a) (ended (top q (forked q k))))
+          (λ n e. let k = same-eq (kind d q) and-close e in
+          rw k (ended (top q (topIs-owner q and-open (and-left (innermostIs d and-open (stack d q)) (twoBranches d (stack d q)) (ruled q and-close k refl)) .0)))),
+    )
+      where
+        a : isKind d and-open (owner d q) ≡ true
+        a = and-left (isKind d and-open (owner d q)) _ (and-right (isKind d branch q || isKind d and-close q) _ h)
+
+        ended : Top q → branchOf d (owner d q) (latestBranch (stack d q)) ≡ true
+        ended t = let w = t .ok .sided (rw (owner-top q t) at a) in
+            rw (t .here) (branchOf-join (owner d q) (t .frame .latest) (w .0) (w .1 ∙ sym (owner-top q t)))
+
     mine : (r : ℕ) → kind d r ≡ and-close → kind d (owner d r) ≡ and-open
     mine r k = topIs-owner r and-open (and-left (innermostIs d and-open (stack d r)) (twoBranches d (stack d r)) (ruled r and-close k refl)) .1
 
@@ -555,6 +567,21 @@ module _ (d : Diagram) where
     sided : (o x : ℕ) → side d o x ≢ 0 → branchOf d o (side d o x) ≡ true
     sided o x h = let q = around-bound x .0 in let n : sideIn d o (stack d q) ≢ 0 = λ z. h (side-at x o ∙ z) in
         rw (side-at x o) (sidedAs o q (stack d q) (good q) (side-fork o (stack d q) n) n)
+
+    within : (o x : ℕ) → side d o x ≢ 0 → between o (close d o) x ≡ true
+    within o x h =
+        let q = around-bound x .0 in
+        let n : sideIn d o (stack d q) ≢ 0 = λ z. h (side-at x o ∙ z) in
+        let k = side-fork o (stack d q) n in
+        let s = shut o (rw k) in
+        let gone-by : sideIn d o (stack d o) ≡ 0 = side-absent o (stack d o) (absent o o (omega arith)) in
+        let l = around-bound x .2 in
+        let u = around-bound x .3 in
+        let a = has-below q o (stack d q) (good q) (side-has o (stack d q) n) in
+        let b = until o q (rw k) (side-has o (stack d q) n) in
+        let ne : o ≢ x = λ z. h (ap (side d o) (sym z) ∙ self o k) in
+        let nc : x ≢ close d o = λ z. h (ap (side d o) z ∙ (closed-side (close d o) o (s .0) ∙ (ap (λ y. sideIn d o (stack d y)) (s .1) ∙ gone-by))) in
+        and-intro (lt-ltb o x (omega arith)) (lt-ltb x (close d o) (omega arith))
 
     -- Y around o, o around a row: the row is in o's branch of Y
     nestAs : (o Y q : ℕ) (fs : List Frame) → Good q fs → has o fs ≡ true → has Y (stack d o) ≡ true → sideIn d Y fs ≡ sideIn d Y (stack d o)
@@ -593,79 +620,6 @@ module _ (d : Diagram) where
         let a : loop d r < r = has-below r (loop d r) (stack d r) (good r) (w .1) in
         let b = until (loop d r) r (rw (w .0)) (w .1) in
         (w .0, and-intro (le-leb (loop d r) r (omega arith)) (le-leb r (close d (loop d r)) b))
-
-    -- the row that entering the row after a loop changes is not in the loop
-    top-has : (q : ℕ) → (t : Top q) → has (owner d q) (stack d q) ≡ true
-    unfolding has
-    top-has q t = rw (owner-top q t, t .here) (or-left (has (t .frame .opened) (t .rest)) (only-refl (t .frame .opened)))
-
-    side-before : (X : ℕ) → kind d X ≡ lp-open → (t : Top X) → kind d (t .frame .opened) ≡ and-open → latestBranch (stack d X) < X
-    side-before X k t a = let w = t .ok .sided (eq-same (kind d (t .frame .opened)) and-open a) in
-        let l : t .frame .latest ≤ X = w .3 in
-        let n : t .frame .latest ≢ X = λ e. not-kind d X k branch refl (subst (λ x. kind d x ≡ branch) e (w .0)) in
-        rw (t .here) (omega arith)
-
-    beyondAs : (k : Kind) (q X : ℕ) → kind d q ≡ k → stack d q ≡ stack d X → kind d X ≡ lp-open
-        → (enteredAs d k (isKind d and-open (owner d q)) q < X) ⊎ (q ≤ enteredAs d k (isKind d and-open (owner d q)) q)
-    unfolding owner
-    beyondAs function q X e s l = inr (omega arith)
-    beyondAs and-open q X e s l = inr (omega arith)
-    beyondAs branch q X e s l = go (isKind d and-open (owner d q)) refl
-      where
-        t : Top q
-        t = top q (forked q (ruled q branch e refl))
-
-        u : Top X
-        u = top X (subst (λ fs. noneOpen d fs ≡ false) s (forked q (ruled q branch e refl)))
-
-        go : (x : Bool) → isKind d and-open (owner d q) ≡ x → (enteredAs d branch x q < X) ⊎ (q ≤ enteredAs d branch x q)
-        go true f = inl (rw s (side-before X l u (same-eq (kind d (u .frame .opened)) and-open (rw (s, u .here) at f))))
-        go false f = inr (until (owner d q) q (branched q e .opener) (top-has q t))
-    beyondAs and-close q X e s l = inl (rw s (side-before X l u (rw (u .here) at w .1)))
-      where
-        w : (noneOpen d (stack d X) ≡ false) × (kind d (innermostOpen (stack d X)) ≡ and-open)
-        w = subst (λ fs. (noneOpen d fs ≡ false) × (kind d (innermostOpen fs) ≡ and-open)) s
-            (topIs-owner q and-open (and-left (innermostIs d and-open (stack d q)) (twoBranches d (stack d q)) (ruled q and-close e refl)))
-
-        u : Top X
-        u = top X (w .0)
-    beyondAs or-open q X e s l = inr (omega arith)
-    beyondAs or-close q X e s l = inr (omega arith)
-    beyondAs it-open q X e s l = inr (omega arith)
-    beyondAs it-close q X e s l = inr (omega arith)
-    beyondAs lp-open q X e s l = inr (omega arith)
-    beyondAs lp-close q X e s l = inr (omega arith)
-    beyondAs loop-exit q X e s l = inr (omega arith)
-    beyondAs end q X e s l = inr (omega arith)
-
-    leaves : (r : ℕ) → kind d r ≡ loop-exit → inLoop d r (enteredRow d (suc (close d (loop d r)))) ≡ false
-    unfolding enteredRow
-    leaves r k = decide (inLoop d r t)
-        (λ e. let a = leb-true X t (and-left (leb X t) (leb t c) e) in let b = leb-true t c (and-right (leb X t) (leb t c) e) in
-        absurd (no (beyondAs (kind d (suc c)) (suc c) X refl after kx) a b))
-        (λ e. e)
-      where
-        X : ℕ
-        X = loop d r
-
-        c : ℕ
-        c = close d X
-
-        t : ℕ
-        t = enteredRow d (suc c)
-
-        kx : kind d X ≡ lp-open
-        kx = le-loop r k .0
-
-        s : (isClose d c ≡ true) × (owner d c ≡ X)
-        s = shut X (rw kx)
-
-        after : stack d (suc c) ≡ stack d X
-        after = shut-cases c (s .0) (λ x. x .after) (λ x. x .after) (λ x. x .after) (λ x. x .after) ∙ ap (stack d) (s .1)
-
-        no : (t < X) ⊎ (suc c ≤ t) → X ≤ t → t ≤ c → ⊥
-        no (inl l) a b = omega arith
-        no (inr l) a b = omega arith
 
     -- an AND around the LE is around its loop, or in it
     exitAs : (Y q : ℕ) (fs : List Frame) → Good q fs → someOpen d lp-open fs ≡ true
@@ -729,7 +683,9 @@ module _ (d : Diagram) where
       mine = mine;
       sided = sided;
       nest = nest;
+      within = within;
+      quiet = quiet;
+      killer = killer;
       looped = looped;
-      leaves = leaves;
       exit = exit;
     }

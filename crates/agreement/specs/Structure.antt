@@ -6,8 +6,8 @@ use mathlib.Core.Bool.{Bool, true, false, cond, _||_}
 use mathlib.Core.List.{List, [], _∷_}
 use Rattle.effbd.specs.Diagrams.{Diagram, and-close, and-open, branch, end, isKind, it-open, kind, loop-exit, lp-open, or-open}
 use Rattle.effbd.specs.Nesting.{Frame, branchOf, close, inLoop, isClose, loop, owner, stack}
-use Rattle.effbd.specs.Ranges.{only}
-use Rattle.effbd.specs.States.{enteredRow}
+use Rattle.effbd.specs.Ranges.{between, only}
+use Rattle.effbd.specs.States.{endsKiller, enteredRow}
 
 module _ (d : Diagram) where
   abbrev pub opens : ℕ → Bool
@@ -61,7 +61,12 @@ module _ (d : Diagram) where
     pub mine : (r : ℕ) → kind d r ≡ and-close → kind d (owner d r) ≡ and-open
     pub sided : (o x : ℕ) → side o x ≢ 0 → branchOf d o (side o x) ≡ true
     pub nest : (o x Y : ℕ) → side o x ≢ 0 → side Y o ≢ 0 → side Y x ≡ side Y o
+    -- a row in a branch stands between its AND's open and close
+    pub within : (o x : ℕ) → side o x ≢ 0 → between o (close d o) x ≡ true
+    -- what follows an open row is inside: entering it ends no branch
+    pub quiet : (o : ℕ) → opens o ≡ true → kind d o ≢ and-open → endsKiller d (suc o) ≡ false
+    -- a branch that kills is ended by its AND's next BRANCH or close
+    pub killer : (q : ℕ) → endsKiller d q ≡ true → (kind d (owner d q) ≡ and-open) × (branchOf d (owner d q) (enteredRow d q) ≡ true)
     -- loops
     pub looped : (r : ℕ) → kind d r ≡ loop-exit → (kind d (loop d r) ≡ lp-open) × (inLoop d r r ≡ true)
-    pub leaves : (r : ℕ) → kind d r ≡ loop-exit → inLoop d r (enteredRow d (suc (close d (loop d r)))) ≡ false
     pub exit : (r x Y : ℕ) → kind d r ≡ loop-exit → inLoop d r x ≡ false → side Y r ≢ 0 → side Y x ≢ 0 → side Y r ≡ side Y (loop d r)

@@ -1,19 +1,19 @@
--- The image of a step that moves tokens: rows S lose theirs, rows E get one. And which transitions are enabled at an image.
-use Prim.Native.Nat.{ℕ, _+_, _-_, _≤_, _<_}
-use mathlib.Core.Path.{_≡_}
+-- The image of a state after rows are cleared and rows made active. And which transitions are enabled at an image.
+use Prim.Native.Nat.{ℕ, _+_, _≤_, _<_}
+use mathlib.Core.Path.{_≡_, refl}
 use mathlib.Core.Bool.{Bool, true, false, cond, _&&_}
 use native.Mathlib.Omega.{arith}
 use native.Mathlib.Nat.{add-zero, sub-zero}
-use lib.Dec.{leb, eqb}
-use borrow.Author.Tests.{leb-true, eqb-true, le-leb}
+use lib.Dec.{leb}
+use borrow.Author.Tests.{leb-true, le-leb}
 use Rattle.effbd.specs.Diagrams.{Diagram, branch, isKind, it-open, rowCount}
 use Rattle.effbd.specs.Counts.{countTotal}
 use Rattle.effbd.specs.Image.{imageMark, readyOrDone, running}
-use Rattle.effbd.specs.Layout.{Count, P, Place, Q, R}
-use Rattle.effbd.specs.Patterns.{Pattern, marksP}
+use Rattle.effbd.specs.Layout.{Count, P, Place, Q, R, byPlace}
+use Rattle.effbd.specs.Patterns.{Pattern, clearsRows, marksP, none, oneAt, restoresR}
 use Rattle.effbd.specs.Ranges.{allBelow}
-use Rattle.effbd.specs.States.{State, activate, makeIdle}
-use Rattle.ranges.specs.Tests.{and-intro, and-left, and-right, decide}
+use Rattle.effbd.specs.States.{State, activate, clearRows}
+use Rattle.ranges.specs.Tests.{and-intro, and-left, and-right, clash, decide}
 use Rattle.ranges.specs.RangeLaws.{all-elim, all-intro}
 use Rattle.agreement.specs.Named.{allPlaces, enabled}
 
@@ -57,41 +57,40 @@ module _ (d : Diagram) where
   enabled-no t m p l h = decide (enabled d t m)
       (λ e. let f : t .take p ≤ m p = leb-true (t .take p) (m p) (places-elim (λ x. leb (t .take x) (m x)) e p l) in absurd (omega arith)) (λ e. e)
 
-  -- the law of tokens at one row: a its activity, S whether it is taken from, E whether it is entered
-  abbrev pub Fits : Bool → Bool → ℕ → Type 0
-  Fits false false a = Unit {0}
-  Fits false true a = a ≡ 0
-  Fits true false a = readyOrDone a ≡ 1
-  Fits true true a = readyOrDone a ≡ 1
+  -- what rows W being cleared and rows E made active does to the image of a state m in which no other row of E is active
+  module _ (W E : ℕ → Bool) (m : State) (idle : (q : ℕ) → W q ≡ false → E q ≡ true → m .activity q ≡ 0) where
+    -- at a place that is not cleared a mark is added where a row is made active
+    pub kept-marks : (p : Place) → clearsRows d W p ≡ false → imageMark d (activate d E (clearRows W m)) p ≡ imageMark d m p + marksP E p
+    kept-marks (P q) w = rw w (go (E q) (isKind d branch q) (m .activity q) (idle q w))
+      where
+        go : (e b : Bool) (a : ℕ) → (e ≡ true → a ≡ 0) → readyOrDone (cond e (cond b 3 1) a) ≡ readyOrDone a + cond e 1 0
+        go true true a h = rw (h refl)
+        go true false a h = rw (h refl)
+        go false b a h = simp add-zero
+    kept-marks (Q q) w = rw w (go (isKind d it-open q) (E q) (isKind d branch q) (m .activity q) (idle q w))
+      where
+        go : (i e b : Bool) (a : ℕ) → (e ≡ true → a ≡ 0) → cond i (m .turns q) (running (cond e (cond b 3 1) a)) ≡ cond i (m .turns q) (running a) + 0
+        go true e b a h = simp add-zero
+        go false true true a h = rw (h refl)
+        go false true false a h = rw (h refl)
+        go false false b a h = simp add-zero
+    kept-marks (R q) w = rw w (simp add-zero)
+    kept-marks (Count k) w = simp add-zero
 
-  pub token : (S E b : Bool) (a : ℕ) → Fits S E a → readyOrDone (cond E (cond b 3 1) (cond S 0 a)) ≡ (readyOrDone a - cond S 1 0) + cond E 1 0
-  token false false b a h = simp (sub-zero, add-zero)
-  token false true true a h = rw h
-  token false true false a h = rw h
-  token true false b a h = rw h
-  token true true true a h = rw h
-  token true true false a h = rw h
-
-  not-running : (a : ℕ) → readyOrDone a ≡ 1 → running a ≡ 0
-  not-running a h = decide (eqb a 2) (λ e. absurd (no2 a (eqb-true a 2 e) h)) (λ e. rw e)
-    where
-      no2 : (a : ℕ) → a ≡ 2 → readyOrDone a ≡ 1 → ⊥
-      no2 a e h = let z : _≡_ {A = ℕ} 0 1 = (rw e at h) in omega arith
-
-  pub token-run : (S E b : Bool) (a : ℕ) → Fits S E a → running (cond E (cond b 3 1) (cond S 0 a)) ≡ (running a - 0) + 0
-  token-run false false b a h = simp (sub-zero, add-zero)
-  token-run false true true a h = rw h
-  token-run false true false a h = rw h
-  token-run true false b a h = rw (not-running a h)
-  token-run true true true a h = rw (not-running a h)
-  token-run true true false a h = rw (not-running a h)
-
-  -- the marks after a move of tokens
-  pub moved-marks : (S E : ℕ → Bool) (s : State) → ((q : ℕ) → Fits (S q) (E q) (s .activity q))
-      → (p : Place) → imageMark d (activate d E (makeIdle S s)) p ≡ (imageMark d s p - marksP S p) + marksP E p
-  moved-marks S E s h (P q) = token (S q) (E q) (isKind d branch q) (s .activity q) (h q)
-  moved-marks S E s h (Q q) = decide (isKind d it-open q)
-      (λ e. rw e (simp (sub-zero, add-zero)))
-      (λ e. rw e (token-run (S q) (E q) (isKind d branch q) (s .activity q) (h q)))
-  moved-marks S E s h (R q) = simp (sub-zero, add-zero)
-  moved-marks S E s h (Count k) = simp (sub-zero, add-zero)
+    -- a place that is cleared is as a fresh state has it
+    pub cleared-marks : (p : Place) → clearsRows d W p ≡ true → imageMark d (activate d E (clearRows W m)) p ≡ byPlace (oneAt E) none (restoresR d W) none p
+    cleared-marks (P q) w = rw w (go (E q) (isKind d branch q))
+      where
+        go : (e b : Bool) → readyOrDone (cond e (cond b 3 1) 0) ≡ cond e 1 0
+        go true true = refl
+        go true false = refl
+        go false b = refl
+    cleared-marks (Q q) w = rw w (go (isKind d it-open q) (E q) (isKind d branch q))
+      where
+        go : (i e b : Bool) → cond i 0 (running (cond e (cond b 3 1) 0)) ≡ 0
+        go true e b = refl
+        go false true true = refl
+        go false true false = refl
+        go false false b = refl
+    cleared-marks (R q) w = rw w (simp sub-zero)
+    cleared-marks (Count k) w = clash w refl

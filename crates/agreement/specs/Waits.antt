@@ -10,13 +10,13 @@ use lib.ListN.{getD, length}
 use lib.Dec.{leb, ltb, eqb}
 use borrow.Author.Tests.{ltb-true, ltb-false, leb-true, eqb-true, eqb-false, lt-ltb, le-leb, ne-eqb}
 use Rattle.effbd.specs.Diagrams.{Diagram, Kind, and-close, and-open, branch, end, function, isKind, it-close, it-open, kind, loop-exit, lp-close, lp-open, or-close, or-open, row, rowCount, sameKind}
-use Rattle.effbd.specs.Counts.{countTotal, gives, takes}
+use Rattle.effbd.specs.Counts.{countTotal, takes}
 use Rattle.effbd.specs.Image.{imageMark, readyOrDone}
 use Rattle.effbd.specs.Layout.{Count, P, Place, Q, R, byPlace}
 use Rattle.effbd.specs.Moves.{allDone, enough, holdsAs, isThere, passTicks, wait}
-use Rattle.effbd.specs.Nesting.{branchOf, close, owner}
-use Rattle.effbd.specs.Patterns.{Pattern, atOnce, entryRow, marksP, noPattern, none, nowhere, oneAt, patterns, patternsAs}
-use Rattle.effbd.specs.Ranges.{allBelow, only}
+use Rattle.effbd.specs.Nesting.{branchOf, owner}
+use Rattle.effbd.specs.Patterns.{Pattern, atOnce, marksP, noPattern, none, oneAt, passesTo, patterns, patternsAs}
+use Rattle.effbd.specs.Ranges.{allBelow, nobody, only}
 use Rattle.effbd.specs.States.{State}
 use Rattle.ranges.specs.Tests.{and-intro, and-left, and-right, clash, decide, not-false, not-true, or-left, or-right, or-split}
 use Rattle.ranges.specs.RangeLaws.{all-elim, all-fail, all-find, all-intro, only-refl}
@@ -98,8 +98,9 @@ module _ (d : Diagram) where
     let-later : (t : Pattern) (ts : List Pattern) (j q : ℕ) → namedLets d ts (suc j) q n m ≡ false → namedLets d (t ∷ ts) j q n m ≡ false
     let-later t ts j q h = rw (h, and-false)
 
-    start-on : (q : ℕ) → s .activity q ≡ 1 → enough d q s ≡ true → (g : Place → ℕ) → enabled d (atOnce (byPlace (oneAt (only q)) none none (takes d q)) nowhere g) (imageMark d s) ≡ true
-    start-on q a e g = enabled-yes d (atOnce (byPlace (oneAt (only q)) none none (takes d q)) nowhere g) (imageMark d s) cov
+    start-on : (q : ℕ) → s .activity q ≡ 1 → enough d q s ≡ true → enabled d (hd function q) (imageMark d s) ≡ true
+    unfolding hd
+    start-on q a e = enabled-yes d (hd function q) (imageMark d s) cov
       where
         cov : (p : Place) → Real d p → byPlace (oneAt (only q)) none none (takes d q) p ≤ imageMark d s p
         cov (P x) l = decide (only q x) (λ f. rw (f, one q a x f) (omega arith)) (λ f. rw f zero-le)
@@ -108,8 +109,8 @@ module _ (d : Diagram) where
         cov (Count x) l = leb-true (takes d q x) (s .count x) (all-elim (countTotal d) (isThere d q s) e x l)
 
     turn-on : (q w u : ℕ) → kind d q ≡ it-open → s .activity q ≡ 1 → w ≤ s .turns q → u ≤ row d q .first - s .turns q → (tq tr : ℕ → ℕ) → ((x : ℕ) → tq x ≤ cond (only q x) w 0) → ((x : ℕ) → tr x ≤ cond (only q x) u 0)
-        → (g : Place → ℕ) → enabled d (atOnce (byPlace (oneAt (only q)) tq tr none) nowhere g) (imageMark d s) ≡ true
-    turn-on q w u k a lw lu tq tr hq hr g = enabled-yes d (atOnce (byPlace (oneAt (only q)) tq tr none) nowhere g) (imageMark d s) cov
+        → (c : Place → Bool) (g : Place → ℕ) → enabled d (atOnce (byPlace (oneAt (only q)) tq tr none) c g) (imageMark d s) ≡ true
+    turn-on q w u k a lw lu tq tr hq hr c g = enabled-yes d (atOnce (byPlace (oneAt (only q)) tq tr none) c g) (imageMark d s) cov
       where
         cov : (p : Place) → Real d p → byPlace (oneAt (only q)) tq tr none p ≤ imageMark d s p
         cov (P x) l = decide (only q x) (λ f. rw (f, one q a x f) (omega arith)) (λ f. rw f zero-le)
@@ -125,16 +126,16 @@ module _ (d : Diagram) where
     le-self x = omega arith
 
     timed : ℕ → Pattern
-    timed q = record { earliest = row d q .first; latest = row d q .second; take = byPlace none (oneAt (only q)) none none; clear = nowhere; give = byPlace (oneAt (entryRow d (suc q))) none none (gives d q) }
+    timed q = nx function q
 
     timed-on : (q : ℕ) → kind d q ≡ function → s .activity q ≡ 2 → enabled d (timed q) (imageMark d s) ≡ true
-    unfolding timed
+    unfolding timed nx
     timed-on q e a = (rw e at (second-enabled d q e (imageMark d s))) ∙ rw a
 
     stops : (k : Kind) (q : ℕ) → kind d q ≡ k → holdsAs d k q n s ≡ true → Stopped
     unfolding m timed hd nx
     stops function q e h = stop function q e refl (or-split (eqb (s .activity q) 1 && enough d q s) (eqb (s .activity q) 2 && ltb (row d q .second) (s .clock q + n)) h
-        (λ x. atOnce-no (hd function q) (timed q ∷ []) 0 q refl (start-on q (eqb-true (s .activity q) 1 (and-left (eqb (s .activity q) 1) (enough d q s) x)) (and-right (eqb (s .activity q) 1) (enough d q s) x) (hd function q .give)))
+        (λ x. atOnce-no (hd function q) (timed q ∷ []) 0 q refl (start-on q (eqb-true (s .activity q) 1 (and-left (eqb (s .activity q) 1) (enough d q s) x)) (and-right (eqb (s .activity q) 1) (enough d q s) x)))
         (λ y x. let a = eqb-true (s .activity q) 2 (and-left (eqb (s .activity q) 2) (ltb (row d q .second) (s .clock q + n)) x) in
         let l = ltb-true (row d q .second) (s .clock q + n) (and-right (eqb (s .activity q) 2) (ltb (row d q .second) (s .clock q + n)) x) in
         let-later (hd function q) (timed q ∷ []) 0 q (let-no (timed q) [] 1 q (timed-on q e a) (rw e l))))
@@ -145,13 +146,13 @@ module _ (d : Diagram) where
         (λ y x. token-stop and-close q e refl (hd and-close q) refl refl (branchOf d (owner d q)) (λ p. refl) (λ b f.
         rw (eqb-true (s .activity b) 3 (rw f at (all-elim (rowCount d) (λ z. not (branchOf d (owner d q) z) || eqb (s .activity z) 3) x b (branch-in d (owner d q) b f))))))
     stops or-open q e h = let w = L .orFirst q e in
-        token-stop branch (suc q) (w .0) refl (atOnce (marksP (only q)) nowhere (marksP (entryRow d (suc (suc q))))) (rw (w .1, e)) refl (only q) (λ p. refl) (one q (eqb-true (s .activity q) 1 h))
+        token-stop branch (suc q) (w .0) refl (passesTo d (only q) nobody (suc (suc q))) (rw (w .1, e)) refl (only q) (λ p. refl) (one q (eqb-true (s .activity q) 1 h))
     stops or-close q e h = token-stop or-close q e refl (hd or-close q) refl refl (only q) (λ p. refl) (one q (eqb-true (s .activity q) 1 h))
     stops it-open q e h = stop it-open q e refl (decide (ltb (s .turns q) (row d q .first))
         (λ f. let l = ltb-true (s .turns q) (row d q .first) f in
-        atOnce-no (hd it-open q) (nx it-open q ∷ []) 0 q refl (turn-on q 0 1 e (eqb-true (s .activity q) 1 h) zero-le (omega arith) none (oneAt (only q)) (λ x. zero-le) (λ x. le-self (cond (only q x) 1 0)) (hd it-open q .give)))
+        atOnce-no (hd it-open q) (nx it-open q ∷ []) 0 q refl (turn-on q 0 1 e (eqb-true (s .activity q) 1 h) zero-le (omega arith) none (oneAt (only q)) (λ x. zero-le) (λ x. le-self (cond (only q x) 1 0)) (hd it-open q .clear) (hd it-open q .give)))
         (λ f. let l = ltb-false (s .turns q) (row d q .first) f in
-        let-later (hd it-open q) (nx it-open q ∷ []) 0 q (atOnce-no (nx it-open q) [] 1 q refl (turn-on q (row d q .first) 0 e (eqb-true (s .activity q) 1 h) l zero-le (λ x. cond (only q x) (row d q .first) 0) none (λ x. le-self (cond (only q x) (row d q .first) 0)) (λ x. zero-le) (nx it-open q .give)))))
+        let-later (hd it-open q) (nx it-open q ∷ []) 0 q (atOnce-no (nx it-open q) [] 1 q refl (turn-on q (row d q .first) 0 e (eqb-true (s .activity q) 1 h) l zero-le (λ x. cond (only q x) (row d q .first) 0) none (λ x. le-self (cond (only q x) (row d q .first) 0)) (λ x. zero-le) (nx it-open q .clear) (nx it-open q .give)))))
     stops it-close q e h = token-stop it-close q e refl (hd it-close q) refl refl (only q) (λ p. refl) (one q (eqb-true (s .activity q) 1 h))
     stops lp-open q e h = token-stop lp-open q e refl (hd lp-open q) refl refl (only q) (λ p. refl) (one q (eqb-true (s .activity q) 1 h))
     stops lp-close q e h = token-stop lp-close q e refl (hd lp-close q) refl refl (only q) (λ p. refl) (one q (eqb-true (s .activity q) 1 h))
@@ -182,7 +183,7 @@ module _ (d : Diagram) where
         (λ f l. or-right (eqb (s .activity q) 1 && enough d q s) (and-intro (runs f) (lt-ltb (row d q .second) (s .clock q + n) (rw e at l)))) (λ z. clash refl z)))
       where
         t₁ : Pattern
-        t₁ = atOnce (byPlace (oneAt (only q)) none none (takes d q)) nowhere (byPlace none (oneAt (only q)) none none)
+        t₁ = hd function q
 
         inside : q < rowCount d
         inside = kind-in d q (not-kind d q e end refl)
@@ -193,8 +194,8 @@ module _ (d : Diagram) where
     holds and-open q e h = hold and-open q e refl (single q (hd and-open q) refl (not-kind d q e end refl) (not-kind d q e branch refl) h)
     holds branch q e h = decide (isKind d or-open (owner d q))
         (λ f. let k = same-eq (kind d (owner d q)) or-open f in
-        let-yes (atOnce (marksP (only (owner d q))) nowhere (marksP (entryRow d (suc q)))) [] 0 q (rw f at h)
-        (λ x l. hold or-open (owner d q) k refl (ready-by (atOnce (marksP (only (owner d q))) nowhere (marksP (entryRow d (suc q)))) (owner d q)
+        let-yes (passesTo d (only (owner d q)) nobody (suc q)) [] 0 q (rw f at h)
+        (λ x l. hold or-open (owner d q) k refl (ready-by (passesTo d (only (owner d q)) nobody (suc q)) (owner d q)
         (kind-in d (owner d q) (not-kind d (owner d q) k end refl)) (not-kind d (owner d q) k branch refl) refl x))
         (λ z. clash refl z))
         (λ f. clash refl (rw f at h))
@@ -204,7 +205,7 @@ module _ (d : Diagram) where
         S = branchOf d (owner d q)
 
         t : Pattern
-        t = atOnce (marksP S) nowhere (marksP (entryRow d (suc q)))
+        t = hd and-close q
 
         done : (b : ℕ) → b < rowCount d → enabled d t (imageMark d s) ≡ true → (not (S b) || eqb (s .activity b) 3) ≡ true
         done b l f = decide (S b)
@@ -218,10 +219,10 @@ module _ (d : Diagram) where
         (λ h₂. let-yes t₂ [] 1 q h₂ (λ f l. ready-by t₂ q inside nb refl f) (λ z. clash refl z)))
       where
         t₁ : Pattern
-        t₁ = atOnce (byPlace (oneAt (only q)) none (oneAt (only q)) none) nowhere (byPlace (oneAt (entryRow d (suc q))) (oneAt (only q)) none none)
+        t₁ = hd it-open q
 
         t₂ : Pattern
-        t₂ = atOnce (byPlace (oneAt (only q)) (λ x. cond (only q x) (row d q .first) 0) none none) nowhere (byPlace (oneAt (entryRow d (suc (close d q)))) none (λ x. cond (only q x) (row d q .first) 0) none)
+        t₂ = nx it-open q
 
         inside : q < rowCount d
         inside = kind-in d q (not-kind d q e end refl)
@@ -270,7 +271,7 @@ module _ (d : Diagram) where
     prompt and-open q (suc x) h = refl
     prompt branch q x h = go (isKind d or-open (owner d q)) x
       where
-        go : (b : Bool) (x : ℕ) → getD (cond b (atOnce (marksP (only (owner d q))) nowhere (marksP (entryRow d (suc q))) ∷ []) []) x noPattern .latest ≡ 0
+        go : (b : Bool) (x : ℕ) → getD (cond b (passesTo d (only (owner d q)) nobody (suc q) ∷ []) []) x noPattern .latest ≡ 0
         go true zero = refl
         go true (suc x) = refl
         go false x = refl

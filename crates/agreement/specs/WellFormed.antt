@@ -12,9 +12,9 @@ use Rattle.effbd.specs.Counts.{Tally, copy, giveOf, gives, givesAs, initialCoun
 use Rattle.effbd.specs.Layout.{Count, P, Place, Q, R, byPlace, placeOf, places}
 use Rattle.effbd.specs.Nesting.{branchOf, close, inLoop, loop, owner}
 use Rattle.effbd.specs.Nets.{Arc, Transition, mostPlaces, transitionFine}
-use Rattle.effbd.specs.Patterns.{Name, Pattern, arcsOf, atOnce, entryRow, names, netOf, noPattern, none, nowhere, oneAt, patterns, patternsAs, transitionOf, patternOf, freshMark, rangesFrom}
-use Rattle.effbd.specs.Ranges.{only, tabulate}
-use Rattle.effbd.specs.States.{branchEntries}
+use Rattle.effbd.specs.Patterns.{Name, Pattern, arcsOf, names, netOf, noPattern, none, oneAt, passes, patterns, patternsAs, restoresR, transitionOf, patternOf, freshMark, rangesFrom}
+use Rattle.effbd.specs.Ranges.{either, nobody, only, tabulate}
+use Rattle.effbd.specs.States.{branchEntries, entered, killed}
 use Rattle.agreement.specs.AcceptedFiles.{AllOf, Held, all-at}
 use Rattle.agreement.specs.Counts.{counts-few, most-initial, most-le}
 use Rattle.ranges.specs.Tests.{and-intro, and-left, and-right, decide}
@@ -78,8 +78,12 @@ module _ (d : Diagram) (h : Held d) where
   nil : (x : ℕ) → none x ≤ 65535
   nil x = zero-le
 
-  light-tokens : (S E : ℕ → Bool) (c : Place → Bool) → Light (atOnce (byPlace (oneAt S) none none none) c (byPlace (oneAt E) none none none))
-  light-tokens S E c = record { takes = at-small (oneAt S) none none none (unit-small S) nil nil nil; gives = at-small (oneAt E) none none none (unit-small E) nil nil nil; order = zero-le; last = zero-le }
+  -- R given back at a set of rows; a transition that enters gives that, P of the rows it makes active, and maybe counts or one Q
+  back-small : (W : ℕ → Bool) (q : ℕ) → restoresR d W q ≤ 65535
+  back-small W q = cond-small (W q && isKind d it-open q) (row d q .first) (h .each q .first)
+
+  light-passes : (S W E : ℕ → Bool) → Light (passes d S W E)
+  light-passes S W E = record { takes = at-small (oneAt S) none none none (unit-small S) nil nil nil; gives = at-small (oneAt E) none (restoresR d W) none (unit-small E) nil (back-small W) nil; order = zero-le; last = zero-le }
 
   ordered : (r : ℕ) → kind d r ≡ function → row d r .first ≤ row d r .second
   ordered r e = leb-true (row d r .first) (row d r .second) (and-left (leb (row d r .first) (row d r .second)) _ fine)
@@ -91,39 +95,31 @@ module _ (d : Diagram) (h : Held d) where
   lights r function e = (
     record { takes = at-small _ _ _ _ (unit-small (only r)) nil nil (takes-fit r); gives = at-small _ _ _ _ nil (unit-small (only r)) nil nil; order = zero-le; last = zero-le },
     (
-      record { takes = at-small _ _ _ _ nil (unit-small (only r)) nil nil; gives = at-small _ _ _ _ (unit-small (entryRow d (suc r))) nil nil (gives-fit r); order = ordered r e; last = h .each r .second },
+      record { takes = at-small _ _ _ _ nil (unit-small (only r)) nil nil; gives = at-small _ _ _ _ (unit-small (entered d (suc r))) nil (back-small (killed d (suc r))) (gives-fit r); order = ordered r e; last = h .each r .second },
       tt,
     ),
   )
-  lights r and-open e = (light-tokens (only r) (branchEntries d r) nowhere, tt)
-  lights r branch e = decide (isKind d or-open (owner d r)) (λ z. rw z (light-tokens (only (owner d r)) (entryRow d (suc r)) nowhere, tt)) (λ z. rw z tt)
-  lights r and-close e = (light-tokens (branchOf d (owner d r)) (entryRow d (suc r)) nowhere, tt)
+  lights r and-open e = (light-passes (only r) nobody (branchEntries d r), tt)
+  lights r branch e = decide (isKind d or-open (owner d r)) (λ z. rw z (light-passes (only (owner d r)) (killed d (suc r)) (entered d (suc r)), tt)) (λ z. rw z tt)
+  lights r and-close e = (light-passes (branchOf d (owner d r)) (killed d (suc r)) (entered d (suc r)), tt)
   lights r or-open e = tt
-  lights r or-close e = (light-tokens (only r) (entryRow d (suc r)) nowhere, tt)
+  lights r or-close e = (light-passes (only r) (killed d (suc r)) (entered d (suc r)), tt)
   lights r it-open e = (
-    record { takes = at-small _ _ _ _ (unit-small (only r)) nil (unit-small (only r)) nil; gives = at-small _ _ _ _ (unit-small (entryRow d (suc r))) (unit-small (only r)) nil nil; order = zero-le; last = zero-le },
+    record { takes = at-small _ _ _ _ (unit-small (only r)) nil (unit-small (only r)) nil; gives = at-small _ _ _ _ (unit-small (entered d (suc r))) (unit-small (only r)) (back-small (killed d (suc r))) nil; order = zero-le; last = zero-le },
     (
       record {
         takes = at-small _ _ _ _ (unit-small (only r)) (λ q. cond-small (only r q) (row d r .first) (h .each r .first)) nil nil;
-        gives = at-small _ _ _ _ (unit-small (entryRow d (suc (close d r)))) nil (λ q. cond-small (only r q) (row d r .first) (h .each r .first)) nil;
+        gives = at-small _ _ _ _ (unit-small (entered d (suc (close d r)))) nil (back-small (either (only r) (killed d (suc (close d r))))) nil;
         order = zero-le;
         last = zero-le;
       },
       tt,
     ),
   )
-  lights r it-close e = (light-tokens (only r) (only (owner d r)) nowhere, tt)
-  lights r lp-open e = (light-tokens (only r) (entryRow d (suc r)) nowhere, tt)
-  lights r lp-close e = (light-tokens (only r) (only (owner d r)) nowhere, tt)
-  lights r loop-exit e = (
-    record {
-      takes = at-small _ _ _ _ (unit-small (only r)) nil nil nil;
-      gives = at-small _ _ _ _ (unit-small (entryRow d (suc (close d (loop d r))))) nil (λ q. cond-small (inLoop d r q && isKind d it-open q) (row d q .first) (h .each q .first)) nil;
-      order = zero-le;
-      last = zero-le;
-    },
-    tt,
-  )
+  lights r it-close e = (light-passes (only r) nobody (only (owner d r)), tt)
+  lights r lp-open e = (light-passes (only r) (killed d (suc r)) (entered d (suc r)), tt)
+  lights r lp-close e = (light-passes (only r) nobody (only (owner d r)), tt)
+  lights r loop-exit e = (light-passes (only r) (either (inLoop d r) (killed d (suc (close d (loop d r))))) (entered d (suc (close d (loop d r)))), tt)
   lights r end e = tt
 
   never-light : Light noPattern
@@ -218,8 +214,8 @@ module _ (d : Diagram) (h : Held d) where
   marks-made (suc n) f m = and-intro (le-leb (f zero) 65535 (m zero)) (marks-made n (λ i. f (suc i)) (λ i. m (suc i)))
 
   fresh-small : (p : Place) → freshMark d p ≤ 65535
-  fresh-small = at-small (oneAt (entryRow d 0)) none (λ q. cond (isKind d it-open q) (row d q .first) 0) (initialCount d)
-      (unit-small (entryRow d 0)) nil (λ q. cond-small (isKind d it-open q) (row d q .first) (h .each q .first)) starts-fit
+  fresh-small = at-small (oneAt (entered d 0)) none (restoresR d (λ q. true)) (initialCount d)
+      (unit-small (entered d 0)) nil (back-small (λ q. true)) starts-fit
 
   -- THEOREM: the net of an accepted diagram is well-formed
   pub well-made : wellFormed (netOf d) ≡ true

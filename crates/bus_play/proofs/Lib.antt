@@ -1,3 +1,3 @@
 pub mod LineLengths
 pub mod ListReading
-pub mod WrittenTexts
+pub mod WrittenCalls

@@ -1,6 +1,6 @@
 -- How long the lines are; the columns of a line.
 use Prim.Native.Nat.{ℕ, zero, suc, _+_, _-_, _*_, _≤_}
-use mathlib.Core.Path.{_≡_, refl, sym, _∙_, ap, ap₂}
+use mathlib.Core.Path.{_≡_, refl, _∙_, ap, ap₂}
 use mathlib.Core.List.{List, [], _∷_, _++_, append-assoc}
 use native.Mathlib.Omega.{arith}
 use lib.ListN.{length, length-append}
@@ -9,16 +9,15 @@ use Rattle.effbd.specs.Answers.{Outcome, accepted, refused}
 use Rattle.effbd.specs.BusEnds.{isTelegram, numberAt, stationAt}
 use Rattle.effbd.specs.History.{Call, offer, hand}
 use Rattle.effbd.specs.Annex.{number, numbers, line, refusedLetters}
-use Rattle.play.specs.ReadyEnds.{leaderRoom, followerRoom}
+use Rattle.ends.specs.ReadyEnds.{leaderRoom, followerRoom}
 use Rattle.ranges.specs.Tests.{decide}
-use Rattle.play.specs.CallList.{callOf}
-use Rattle.play.specs.Played.{Live, liveAnswer, liveAfter, Called}
-use Rattle.play.proofs.Turns.{live-is}
+use Rattle.calls.specs.CallList.{callOf}
+use Rattle.calls.specs.LiveEnds.{Live, liveAnswer, liveAfter, Called}
+use Rattle.calls.proofs.Turns.{live-is}
 use Rattle.text.specs.Laid.{Laid}
 use Rattle.text.specs.LaidLaws.{and-then, same, laid-size}
-use Rattle.text.specs.Letters.{letters}
 use Rattle.text.specs.NumberLengths.{number-short}
-use Rattle.bus_play.specs.Lines.{moveText, bytesText, callText, reason, answerText, wordsText, endsText, spaces, gap, upTo, lineText, headText, closingText}
+use Rattle.call_lines.specs.Lines.{moveText, bytesText, callText, reason, answerText, wordsText, endsText, spaces, gap, upTo, lineText, headText, closingText}
 
 move-short : (code argument : ℕ) → length (moveText code argument) ≤ 46
 unfolding moveText

@@ -8,8 +8,8 @@ use native.Mathlib.Omega.{arith}
 use lib.ListN.{length, take, length-take}
 use Rattle.effbd.specs.Records.{lengthAt}
 use Rattle.ranges.specs.Tests.{decide}
-use Rattle.play.specs.CallList.{isCall}
-use Rattle.play.proofs.Turns.{sized}
+use Rattle.calls.specs.CallList.{isCall}
+use Rattle.calls.proofs.Turns.{sized}
 
 -- the next call of a list is no longer than what was read
 pub call-fits : (bytes : List ℕ) (k n : ℕ) → n ≡ cond (isCall (take k bytes)) (lengthAt (take k bytes)) 0 → n ≤ k

@@ -1,5 +1,5 @@
 // Plays a list of calls on a diagram and its net, call by call, and prints what each call was answered and both ends after it; at the end
-// which telegrams were lost. The first argument names the diagram's file, the second the list's: records as `play` has them.
+// which telegrams were lost. The first argument names the diagram's file, the second the list's: records as crate calls has them.
 
 mod lines;
 
@@ -7,16 +7,16 @@ ghost use Prim.Native.Nat.{_≤_};
 ghost use lib.ListN.{length};
 ghost use Rattle.effbd.specs.Answers.{said};
 ghost use Rattle.effbd.specs.Moves.{mostWord};
-ghost use Rattle.play.specs.ReadyEnds.{leaderRoom, followerRoom};
-ghost use Rattle.play.specs.CallList.{callOf};
-ghost use Rattle.play.specs.Played.{liveAnswer, liveAfter, Called};
+ghost use Rattle.ends.specs.ReadyEnds.{leaderRoom, followerRoom};
+ghost use Rattle.calls.specs.CallList.{callOf};
+ghost use Rattle.calls.specs.LiveEnds.{liveAnswer, liveAfter, Called};
 ghost use Rattle.text.specs.Laid.{Laid};
-ghost use Rattle.bus_play.specs.Lines.{lineText};
+ghost use Rattle.call_lines.specs.Lines.{lineText};
+use calls::CallResult;
+use calls::Counts;
 use effbd::Answer;
+use ends::StateSizes;
 use libc::STDOUT_FILENO;
-use play::CallResult;
-use play::Counts;
-use play::StateSizes;
 
 // The station of both ends.
 const STATION: u16 = 7;
@@ -49,11 +49,11 @@ fn play_call(
     ensures { λ r. ⌜ Laid (now (text .entry)) 0 (now (text .exit)) (r .size) (lineText (callOf (now (call .entry))) (liveAnswer (now (file .entry)) (now (net .entry)) station (record { leader = now (leader .entry); sent = counts .sent; follower = now (follower .entry); taken = counts .taken }) (callOf (now (call .entry)))) (liveAfter (now (file .entry)) (now (net .entry)) station (record { leader = now (leader .entry); sent = counts .sent; follower = now (follower .entry); taken = counts .taken }) (callOf (now (call .entry))))) ⌝ }
 {
     let behind_call = lines::put_call(text, 0, call);
-    let result = play::make_call(file, net, leader, follower, station, counts, call);
+    let result = calls::make_call(file, net, leader, follower, station, counts, call);
     let answer = result.answer;
-    let behind_answer = lines::put_answer_column(text, behind_call, answer);
+    let behind_answer = call_lines::put_answer_column(text, behind_call, answer);
     let after = result.counts;
-    let size = lines::put_ends_column(text, behind_answer, after, leader, follower);
+    let size = call_lines::put_ends_column(text, behind_answer, after, leader, follower);
     Shown {
         result: result,
         size: size,
@@ -126,7 +126,7 @@ fn show_calls(
     let mut left = u64::MAX;
     while left > 0 {
         let read = read_record(list, call);
-        let size = play::call_length(&call[0..read]);
+        let size = calls::call_length(&call[0..read]);
         if size == 0 {
             return Ended {
                 counts: counts,
@@ -156,7 +156,7 @@ fn show_head(bytes: usize, station: u16, states: StateSizes)
     requires { ⌜ bytes ≤ 8192 ⌝ }
 {
     let mut text = [0u8; 128];
-    let size = lines::put_head(
+    let size = call_lines::put_head(
         &mut text,
         bytes as u32,
         station,
@@ -180,7 +180,7 @@ fn show_end(ended: Ended) {
     }
     let mut text = [0u8; 128];
     let counts = ended.counts;
-    let size = lines::put_closing(&mut text, counts);
+    let size = call_lines::put_closing(&mut text, counts);
     io::write_all(STDOUT_FILENO, &text[..size]);
 }
 
@@ -188,10 +188,10 @@ fn show_end(ended: Ended) {
 fn show_list(list: i32, file: &[u8], station: u16)
     requires { ⌜ length (now file) ≤ 8192 ⌝ }
 {
-    let mut net = [0u8; play::NET_BYTES];
-    let mut leader = [0u16; play::LEADER_WORDS];
-    let mut follower = [0u16; play::FOLLOWER_WORDS];
-    let ready = play::ready(file, &mut net, &mut leader, &mut follower);
+    let mut net = [0u8; ends::NET_BYTES];
+    let mut leader = [0u16; ends::LEADER_WORDS];
+    let mut follower = [0u16; ends::FOLLOWER_WORDS];
+    let ready = ends::ready(file, &mut net, &mut leader, &mut follower);
     let answer = ready.answer;
     match answer {
         Answer::Refused(number, value) => show_refusal(number, value),

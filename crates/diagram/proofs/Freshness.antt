@@ -10,12 +10,12 @@ use lib.Seq.{getD-set-same, getD-set-other}
 use lib.Dec.{ltb, eqb}
 use borrow.Author.Tests.{ltb-true, ltb-false, lt-ltb, le-ltb, eqb-true, eqb-false, eq-eqb, ne-eqb}
 use Rattle.effbd.specs.Answers.{accepted}
-use Rattle.effbd.specs.Ranges.{only, tabulate}
+use Rattle.effbd.specs.Ranges.{tabulate}
 use Rattle.effbd.specs.Diagrams.{Kind, function, and-open, branch, and-close, or-open, or-close, it-open, it-close, lp-open, lp-close, loop-exit, end, numberOf, sameKind, Diagram, rowCount, itemTotal, item, isTrigger, kind, isKind}
 use Rattle.effbd.specs.Counts.{initialCount}
 use Rattle.effbd.specs.Nesting.{stack, owner, nested}
 use Rattle.effbd.specs.Layout.{byPlace, places, placeOf}
-use Rattle.effbd.specs.States.{stateWords, enteredAs, enteredRow, fresh, freshWords}
+use Rattle.effbd.specs.States.{stateWords, enteredAs, enteredRow, endsKiller, killed, entered, fresh, freshWords}
 use Rattle.ranges.specs.RangeLaws.{getD-tab}
 use Rattle.ranges.specs.Tests.{decide, clash, and-left, and-right}
 use Rattle.nesting.specs.Runs.{partOf}
@@ -58,38 +58,50 @@ counts-at rows (suc k) table l j h n = decide (eqb j k)
     getD-set-other (countsPut rows k table l) (3 * rows + k) (3 * rows + j) (sharedIn table k) 0 (λ y. z (omega arith)) ∙ counts-at rows k table l j (omega arith) (omega arith))
 
 module _ (d : Diagram) (acc : nested d ≡ accepted d) (some : 0 < rowCount d) where
-  -- row 0 is neither BRANCH nor close, so that entering it makes it ready itself
-  first-as : (k : Kind) (ofAnd : Bool) → ending (partOf (numberOf k)) ≡ false → (enteredAs d k ofAnd 0 ≡ 0) × (sameKind k branch ≡ false)
+  -- row 0 is neither BRANCH nor close, so that entering it makes it ready itself, and ends no branch that kills
+  first-as : (k : Kind) (ofAnd : Bool) → ending (partOf (numberOf k)) ≡ false → (enteredAs d k ofAnd 0 ≡ 0) × (sameKind k branch ≡ false) × (sameKind k and-close ≡ false)
   unfolding partOf
-  first-as function ofAnd h = (refl, refl)
-  first-as and-open ofAnd h = (refl, refl)
+  first-as function ofAnd h = (refl, refl, refl)
+  first-as and-open ofAnd h = (refl, refl, refl)
   first-as branch ofAnd h = clash refl h
   first-as and-close ofAnd h = clash refl h
-  first-as or-open ofAnd h = (refl, refl)
+  first-as or-open ofAnd h = (refl, refl, refl)
   first-as or-close ofAnd h = clash refl h
-  first-as it-open ofAnd h = (refl, refl)
+  first-as it-open ofAnd h = (refl, refl, refl)
   first-as it-close ofAnd h = clash refl h
-  first-as lp-open ofAnd h = (refl, refl)
+  first-as lp-open ofAnd h = (refl, refl, refl)
   first-as lp-close ofAnd h = clash refl h
-  first-as loop-exit ofAnd h = (refl, refl)
-  first-as end ofAnd h = (refl, refl)
+  first-as loop-exit ofAnd h = (refl, refl, refl)
+  first-as end ofAnd h = (refl, refl, refl)
 
-  first : (enteredRow d 0 ≡ 0) × (isKind d branch 0 ≡ false)
+  first : (enteredRow d 0 ≡ 0) × (isKind d branch 0 ≡ false) × (isKind d and-close 0 ≡ false)
   unfolding enteredRow
   first = first-as (kind d 0) (isKind d and-open (owner d 0))
       (decide (ending (does d 0)) (λ e. absurd (held d acc 0 some e (unfold stack in refl))) (λ e. e))
+
+  quiet : endsKiller d 0 ≡ false
+  unfolding endsKiller
+  quiet = rw (first .1, first .2)
+
+  entered-is : (q : ℕ) → entered d 0 q ≡ eqb q 0
+  unfolding entered
+  entered-is q = rw (quiet, first .0)
+
+  killed-none : (q : ℕ) → killed d 0 q ≡ false
+  unfolding killed
+  killed-none q = rw quiet
 
   -- a word of the fresh state
   fresh-word : ℕ → ℕ
   fresh-word p = byPlace (fresh d .activity) (fresh d .turns) (fresh d .clock) (fresh d .count) (placeOf d p)
 
   activity-is : (q : ℕ) → fresh d .activity q ≡ cond (eqb q 0) 1 0
-  activity-is q = decide (eqb q 0)
-      (λ e. let z = eqb-true q 0 e in rw (z, first .0, first .1))
-      (λ e. rw (first .0, e))
+  activity-is q = rw (entered-is q, killed-none q) (decide (eqb q 0)
+      (λ e. rw (eqb-true q 0 e, first .1))
+      (λ e. rw e))
 
   clock-is : (q : ℕ) → fresh d .clock q ≡ 0
-  clock-is q = go (only (enteredRow d 0) q)
+  clock-is q = rw (killed-none q) (go (entered d 0 q))
     where
       go : (b : Bool) → _≡_ {A = ℕ} (cond b 0 0) 0
       go true = refl
@@ -100,7 +112,7 @@ module _ (d : Diagram) (acc : nested d ≡ accepted d) (some : 0 < rowCount d) w
   word-row p l = rw (lt-ltb p (3 * rowCount d) l) (decide (eqb (p % 3) 0)
       (λ e. let z = eqb-true (p % 3) 0 e in rw e (activity-is (p / 3) ∙ same-test z))
       (λ e. let z : p % 3 ≢ 0 = eqb-false (p % 3) 0 e in let ne : p ≢ 0 = λ y. z (omega arith) in
-      rw (e, ne-eqb p 0 ne) (decide (eqb (p % 3) 1) (λ f. rw f refl) (λ f. rw f (clock-is (p / 3))))))
+      rw (e, ne-eqb p 0 ne) (decide (eqb (p % 3) 1) (λ f. rw (f, killed-none (p / 3))) (λ f. rw f (clock-is (p / 3))))))
     where
       same-test : p % 3 ≡ 0 → _≡_ {A = ℕ} (cond (eqb (p / 3) 0) 1 0) (cond (eqb p 0) 1 0)
       same-test z = decide (eqb p 0)

@@ -1,1 +1,2 @@
 pub mod CountsChanged
+mod BranchWalks

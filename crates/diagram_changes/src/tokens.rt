@@ -1,6 +1,11 @@
-// Tokens on rows: entering, passing on, the branches of an AND, the rows of a loop.
+// Tokens on rows: entering, killing, passing on, the branches of an AND, the rows of a loop.
 ghost use mathlib.Core.Path.{_≡_};
-ghost use Rattle.diagram_moves.specs.Changes.{rowSet, entered, tokenPassed, branchTurn, branchesTurned, clearTurn, rowsCleared};
+ghost use Prim.Native.Nat.{_≤_};
+ghost use lib.ListN.{length};
+ghost use Rattle.diagram_moves.specs.Changes.{rowSet, wordsCleared, branchesSet, rowsKilled, entered, tokenPassed, branchesEntered, rowsCleared};
+use diagram_table::BRANCH_ENDED;
+use diagram_table::CLOSE;
+use diagram_table::OWNER;
 use words::kinds;
 
 // Activity of a row, clock 0.
@@ -11,11 +16,61 @@ pub fn set_row(state: &mut [u16], row: u32, activity: u16)
     words::put(state, 3 * row as usize + 2, 0);
 }
 
+// The words from `first` on, up to but not including `end`, all of which stand.
+fn clear_standing(state: &mut [u16], first: usize, end: usize)
+    requires { ⌜ end ≤ length (now state) ⌝ }
+    ensures { λ _. ⌜ now (state .exit) ≡ wordsCleared first end (now (state .entry)) ⌝ }
+{
+    for at in first..end {
+        state[at] = 0;
+    }
+}
+
+// The same as far as the state has them: one look at its length serves all.
+fn clear_words(state: &mut [u16], first: usize, end: usize)
+    ensures { λ _. ⌜ now (state .exit) ≡ wordsCleared first end (now (state .entry)) ⌝ }
+{
+    let size = state.len();
+    if end <= size {
+        clear_standing(state, first, end);
+    } else {
+        clear_standing(state, first, size);
+    }
+}
+
+// All BRANCH rows of an AND, the last of which is `last`, get an activity: each has the one before it for the branch that it ends, the first
+// itself.
+pub fn set_branches(table: &[u16], state: &mut [u16], last: u32, activity: u16)
+    ensures { λ _. ⌜ now (state .exit) ≡ branchesSet (now (table .entry)) activity last (now (state .entry)) ⌝ }
+{
+    let mut row = last;
+    set_row(state, row, activity);
+    let mut before = diagram_table::cell(table, BRANCH_ENDED, row) as u32;
+    while before < row {
+        row = before;
+        set_row(state, row, activity);
+        before = diagram_table::cell(table, BRANCH_ENDED, row) as u32;
+    }
+}
+
+// A branch of the AND that row `owner` opens kills: the rows strictly inside are cleared, then all its BRANCH rows are done.
+fn kill_rows(table: &[u16], state: &mut [u16], owner: u16)
+    ensures { λ _. ⌜ now (state .exit) ≡ rowsKilled (now (table .entry)) owner (now (state .entry)) ⌝ }
+{
+    let close = diagram_table::cell(table, CLOSE, owner as u32);
+    let last = diagram_table::cell(table, BRANCH_ENDED, close as u32);
+    clear_words(state, 3 * (owner as usize + 1), 3 * close as usize);
+    set_branches(table, state, last as u32, 3);
+}
+
 pub fn enter(table: &[u16], state: &mut [u16], row: u32)
     ensures { λ _. ⌜ now (state .exit) ≡ entered (now (table .entry)) row (now (state .entry)) ⌝ }
 {
     let changed = diagram_table::entered_row(table, row);
-    if diagram_table::kind(table, changed) == kinds::BRANCH {
+    if diagram_table::kills(table, changed) {
+        let owner = diagram_table::cell(table, OWNER, row);
+        kill_rows(table, state, owner);
+    } else if diagram_table::kind(table, changed) == kinds::BRANCH {
         set_row(state, changed, 3);
     } else {
         set_row(state, changed, 1);
@@ -30,39 +85,23 @@ pub fn pass_token(table: &[u16], state: &mut [u16], from: u32, to: u32)
     enter(table, state, to);
 }
 
-fn turn_branch(table: &[u16], state: &mut [u16], entering: bool, owner: u16, row: u16)
-    ensures { λ _. ⌜ now (state .exit) ≡ branchTurn (now (table .entry)) entering owner row (now (state .entry)) ⌝ }
+// All branches of an AND are entered, `last` being its last BRANCH row.
+pub fn enter_branches(table: &[u16], state: &mut [u16], last: u16)
+    ensures { λ _. ⌜ now (state .exit) ≡ branchesEntered (now (table .entry)) last (now (state .entry)) ⌝ }
 {
-    if diagram_table::is_branch(table, owner as u32, row as u32) {
-        if entering {
-            enter(table, state, row as u32 + 1);
-        } else {
-            set_row(state, row as u32, 0);
-        }
+    let mut row = last;
+    enter(table, state, row as u32 + 1);
+    let mut before = diagram_table::cell(table, BRANCH_ENDED, row as u32);
+    while before < row {
+        row = before;
+        enter(table, state, row as u32 + 1);
+        before = diagram_table::cell(table, BRANCH_ENDED, row as u32);
     }
-}
-
-// Each BRANCH row that stands before row `end` in the construct that row `owner` opens has its branch entered, or goes idle.
-pub fn turn_branches(table: &[u16], state: &mut [u16], entering: bool, owner: u16, end: u16)
-    ensures { λ _. ⌜ now (state .exit) ≡ branchesTurned (now (table .entry)) entering owner end (now (state .entry)) ⌝ }
-{
-    for row in owner..end {
-        turn_branch(table, state, entering, owner, row);
-    }
-}
-
-fn clear_row(state: &mut [u16], row: u32)
-    ensures { λ _. ⌜ now (state .exit) ≡ clearTurn row (now (state .entry)) ⌝ }
-{
-    set_row(state, row, 0);
-    words::put(state, 3 * row as usize + 1, 0);
 }
 
 // The rows from `first` to `last` get activity, turns and clock 0.
 pub fn clear_rows(state: &mut [u16], first: u16, last: u16)
     ensures { λ _. ⌜ now (state .exit) ≡ rowsCleared first last (now (state .entry)) ⌝ }
 {
-    for row in first as u32..last as u32 + 1 {
-        clear_row(state, row);
-    }
+    clear_words(state, 3 * first as usize, 3 * (last as usize + 1));
 }

@@ -1,34 +1,31 @@
 // What a step is told: 22 to 25.
 ghost use mathlib.Core.Path.{_≡_};
 ghost use Rattle.effbd.specs.Answers.{said};
-ghost use Rattle.diagram_moves.specs.Decisions.{doneAt, allDoneTo, readyVerdict, startVerdict, endVerdict, functionVerdict, branchVerdict, closeVerdict, rowVerdict};
+ghost use Rattle.diagram_moves.specs.Decisions.{branchesDone, readyVerdict, startVerdict, endVerdict, functionVerdict, branchVerdict, closeVerdict, rowVerdict};
 use crate::uses;
 use diagram_state::cells;
+use diagram_table::BRANCH_ENDED;
 use diagram_table::FIRST;
 use diagram_table::OWNER;
 use effbd::Answer;
 use effbd::refusals;
 use words::kinds;
 
-fn done_at(table: &[u16], state: &[u16], owner: u32, row: u32) -> bool
-    ensures { λ r. ⌜ r ≡ doneAt (now (table .entry)) (now (state .entry)) owner row ⌝ }
+// All BRANCH rows of an AND are done, the last of which is `last`: each has the one before it for the branch that it ends, the first itself.
+pub(crate) fn all_done(table: &[u16], state: &[u16], last: u32) -> bool
+    ensures { λ r. ⌜ r ≡ branchesDone (now (table .entry)) (now (state .entry)) last ⌝ }
 {
-    if diagram_table::is_branch(table, owner, row) {
-        return cells::activity(state, row) == 3;
-    }
-    true
-}
-
-// The BRANCH rows of the construct that row `owner` opens are done, all that stand before row `end`.
-pub(crate) fn all_done(table: &[u16], state: &[u16], owner: u32, end: u32) -> bool
-    ensures { λ r. ⌜ r ≡ allDoneTo (now (table .entry)) (now (state .entry)) owner end ⌝ }
-{
-    for row in owner..end {
-        if !done_at(table, state, owner, row) {
+    let mut row = last;
+    loop {
+        if cells::activity(state, row) != 3 {
             return false;
         }
+        let before = diagram_table::cell(table, BRANCH_ENDED, row) as u32;
+        if row <= before {
+            return true;
+        }
+        row = before;
     }
-    true
 }
 
 // The step of row `row` stands if row `at` is ready.
@@ -95,8 +92,8 @@ fn branch(table: &[u16], state: &[u16], row: u32) -> Answer
 fn and_close(table: &[u16], state: &[u16], row: u32) -> Answer
     ensures { λ r. ⌜ said r ≡ closeVerdict (now (table .entry)) (now (state .entry)) row ⌝ }
 {
-    let owner = diagram_table::cell(table, OWNER, row) as u32;
-    if all_done(table, state, owner, row) {
+    let last = diagram_table::cell(table, BRANCH_ENDED, row) as u32;
+    if all_done(table, state, last) {
         return Answer::Accepted(0);
     }
     Answer::Refused(refusals::NOT_STANDING, row)

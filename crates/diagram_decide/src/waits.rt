@@ -6,6 +6,7 @@ ghost use Rattle.diagram_moves.specs.Decisions.{andDone, functionHolds, rowHold
 use crate::steps;
 use crate::uses;
 use diagram_state::cells;
+use diagram_table::BRANCH_ENDED;
 use diagram_table::CLOSE;
 use diagram_table::OWNER;
 use diagram_table::SECOND;
@@ -47,7 +48,8 @@ fn and_done(table: &[u16], state: &[u16], row: u32) -> bool
         return false;
     }
     let close = diagram_table::cell(table, CLOSE, owner) as u32;
-    steps::all_done(table, state, owner, close)
+    let last = diagram_table::cell(table, BRANCH_ENDED, close) as u32;
+    steps::all_done(table, state, last)
 }
 
 // Any other row but END holds it if it is ready. An AND close that could step is seen at the first BRANCH row of its AND, which is done.

@@ -33,17 +33,18 @@ pub uses-none : (items from : ℕ) (bytes : List ℕ) → _≡_ {A = Bool} true 
 unfolding usesFine usesAt
 uses-none items from bytes = refl
 
-other : (a b c e f i j k m : Bool) (items : ℕ) (r : Row) → rowFineAs (cond a and-open (cond b branch (cond c and-close (cond e or-open (cond f or-close (cond false it-open (cond i it-close (cond j lp-open (cond k lp-close (cond m loop-exit end)))))))))) items r ≡ true
-other true b c e f i j k m items r = refl
-other false true c e f i j k m items r = refl
-other false false true e f i j k m items r = refl
-other false false false true f i j k m items r = refl
-other false false false false true i j k m items r = refl
-other false false false false false true j k m items r = refl
-other false false false false false false true k m items r = refl
-other false false false false false false false true m items r = refl
-other false false false false false false false false true items r = refl
-other false false false false false false false false false items r = refl
+other : (a b c e f i j k m n : Bool) (items : ℕ) (r : Row) → rowFineAs (cond a and-open (cond b branch (cond c and-close (cond e or-open (cond f or-close (cond false it-open (cond i it-close (cond j lp-open (cond k lp-close (cond m loop-exit (cond n branch end))))))))))) items r ≡ true
+other true b c e f i j k m n items r = refl
+other false true c e f i j k m n items r = refl
+other false false true e f i j k m n items r = refl
+other false false false true f i j k m n items r = refl
+other false false false false true i j k m n items r = refl
+other false false false false false true j k m n items r = refl
+other false false false false false false true k m n items r = refl
+other false false false false false false false true m n items r = refl
+other false false false false false false false false true n items r = refl
+other false false false false false false false false false true items r = refl
+other false false false false false false false false false false items r = refl
 
 -- the table of kinds at a FUNCTION: where its fields end is where its uses begin, at the length that its kind gives
 pub function-base : lengthOf 16 ≡ 8
@@ -85,7 +86,7 @@ module _ (items : ℕ) (bytes : List ℕ) where
 
   fine-other : kindAt bytes ≢ 16 → kindAt bytes ≢ 22 → true ≡ rowFine items (rowAt bytes)
   unfolding rowFine rowAt kindOf
-  fine-other p q = rw (ne-eqb (kindAt bytes) 16 p, ne-eqb (kindAt bytes) 22 q) (sym (other (eqb (kindAt bytes) 17) (eqb (kindAt bytes) 18) (eqb (kindAt bytes) 19) (eqb (kindAt bytes) 20) (eqb (kindAt bytes) 21) (eqb (kindAt bytes) 23) (eqb (kindAt bytes) 24) (eqb (kindAt bytes) 25) (eqb (kindAt bytes) 26) items _))
+  fine-other p q = rw (ne-eqb (kindAt bytes) 16 p, ne-eqb (kindAt bytes) 22 q) (sym (other (eqb (kindAt bytes) 17) (eqb (kindAt bytes) 18) (eqb (kindAt bytes) 19) (eqb (kindAt bytes) 20) (eqb (kindAt bytes) 21) (eqb (kindAt bytes) 23) (eqb (kindAt bytes) 24) (eqb (kindAt bytes) 25) (eqb (kindAt bytes) 26) (eqb (kindAt bytes) 28) items _))
 
   module _ (base behind : ℕ) where
     -- where a FUNCTION is cut short its fields are not asked for
@@ -128,9 +129,13 @@ module _ (row at : ℕ) (bytes table : List ℕ) {kind fields first second : ℕ
   unfolding fillRow column usesFrom
   function-row e ez eb en eh f = let k : kindAt bytes ≡ 16 = sym ek ∙ e in f ∙ rw (e1, e2, ef, en, ez, eb, eh, e, k)
 
-  pub other-row : {next : List ℕ} → kind ≢ 16 → next ≡ putRow row kind first second 0 0 table → next ≡ fillRow row at bytes table
+  pub killer-row : {next : List ℕ} → kind ≡ 28 → next ≡ putRow row 18 1 second 0 0 table → next ≡ fillRow row at bytes table
   unfolding fillRow column usesFrom
-  other-row p f = f ∙ rw (e1, e2, ef, ek, ne-eqb (kindAt bytes) 16 (λ x. p (ek ∙ x)))
+  killer-row e f = let k : kindAt bytes ≡ 28 = sym ek ∙ e in f ∙ rw (e2, ef, e, k)
+
+  pub other-row : {next : List ℕ} → kind ≢ 16 → kind ≢ 28 → next ≡ putRow row kind first second 0 0 table → next ≡ fillRow row at bytes table
+  unfolding fillRow column usesFrom
+  other-row p q f = f ∙ rw (e1, e2, ef, ek, ne-eqb (kindAt bytes) 16 (λ x. p (ek ∙ x)), ne-eqb (kindAt bytes) 28 (λ x. q (ek ∙ x)))
 
 module _ (items : ℕ) (bytes : List ℕ) where
   pub uses-stop : (from left item took gave : ℕ) → 0 < left → item ≡ word bytes 0 → took ≡ word bytes 2 → gave ≡ word bytes 4 → useFine items from item took gave ≡ false

@@ -15,8 +15,7 @@ use Rattle.effbd.specs.Records.{word, lengthAt, kindAt, kindTable, entryIn, len
 use Rattle.effbd.specs.Diagrams.{mostRows, mostItems, function, end, numberOf, sameKind, kindOf, Use, Row, Item, plain, noItem, Diagram, rowCount, row, isKind, headFault, itemFault, itemAt, usesAt, usesFine, rowAt, rowRight, rowFine, rowFault, triggersFine, rowFaultIn}
 use Rattle.effbd.specs.Nesting.{nested, afterRows, afterItems, readDiagram, skip, fromRow}
 use Rattle.ranges.specs.Tests.{decide, and-left, and-right}
-use Rattle.ranges.specs.RangeLaws.{all-elim}
-use Rattle.agreement.specs.ByteLaws.{Clean, none-clean}
+use Rattle.agreement.specs.ByteLaws.{none-clean}
 use Rattle.diagram_file.specs.declared.records.Reached.{Reached}
 use Rattle.diagram_table.specs.Cells.{cellOf, itemCell, someTriggerCell, triggerIn, someTriggerIn}
 use Rattle.diagram_table.specs.Held.{Tabulated}
@@ -24,7 +23,7 @@ use Rattle.diagram_file.specs.Fields.{fieldOf}
 use Rattle.diagram_file.specs.Reading.{useFits, triggersFit, triggerFault, tableFault, Stopped, ItemsRead, RowsRead, endReached, usesFrom, column, recordRows, recordItems, readRecords, TabledUses, Recorded}
 use Rattle.ranges.specs.Outcomes.{unless-refused, unless-then, andThen-twice}
 use Rattle.diagram_file.proofs.Fields.{function-base, function-behind}
-use Rattle.diagram_file.proofs.RecordsRead.{row-fine}
+use Rattle.diagram_file.proofs.RecordsRead.{row-whole, of-kind, row-fine}
 
 -- n records that were read: their values, their faults, the rest
 pub record Many (A : Type 0) (fault : List ℕ → ℕ) (value : List ℕ → A) (n : ℕ) (start : List ℕ) (g : Got (List A)) : Type 0 where
@@ -128,16 +127,13 @@ unfolding readRecords
 head-bad file t k e ne = refused-is file t k 0 ne (omega arith)
     (ap (λ f. unless f 0 (andThen (readMany itemFault itemAt (length file) (word file 8) (drop 10 file)) (recordItems file))) (sym e) ∙ unless-refused k 0 _ ne)
 
--- kinds by their numbers
-numbers : allBelow 12 (λ j. eqb (16 + j) (numberOf (kindOf (16 + j)))) ≡ true
+-- kinds by their numbers: one computed test
+abbrev storedKind : ℕ → ℕ
+storedKind k = cond (eqb k 28) 18 k
+
+numbers : allBelow 13 (λ j. eqb (storedKind (16 + j)) (numberOf (kindOf (16 + j)))) ≡ true
 unfolding kindOf
 numbers = refl
-
-number-of : (k : ℕ) → 16 ≤ k → k ≤ 27 → k ≡ numberOf (kindOf k)
-number-of k a b =
-    let z : 16 + (k - 16) ≡ k = omega arith in
-    let w = eqb-true (16 + (k - 16)) (numberOf (kindOf (16 + (k - 16)))) (all-elim 12 (λ j. eqb (16 + j) (numberOf (kindOf (16 + j)))) numbers (k - 16) (omega arith)) in
-    rw z at w
 
 uses-length : (u : ℕ) (l : List ℕ) → length (usesAt u l) ≡ u
 unfolding usesAt
@@ -148,39 +144,29 @@ uses-length (suc u) l = ap suc (uses-length u (drop 6 l))
 abbrev fieldsDue : ℕ → ℕ
 fieldsDue k = cond (eqb k 16) 2 (cond (eqb k 22) 1 0)
 
-fields-right : allBelow 12 (λ j. eqb (fieldsOf (16 + j)) (fieldsDue (16 + j))) ≡ true
+fields-right : allBelow 13 (λ j. eqb (fieldsOf (16 + j)) (fieldsDue (16 + j))) ≡ true
 unfolding fieldsOf entryIn kindTable
 fields-right = refl
 
-fields-of : (k : ℕ) → 16 ≤ k → k ≤ 27 → fieldsOf k ≡ fieldsDue k
-fields-of k a b =
-    let z : 16 + (k - 16) ≡ k = omega arith in
-    let w = eqb-true (fieldsOf (16 + (k - 16))) (fieldsDue (16 + (k - 16))) (all-elim 12 (λ j. eqb (fieldsOf (16 + j)) (fieldsDue (16 + j))) fields-right (k - 16) (omega arith)) in
-    rw z at w
-
 -- one row's record without fault, which begins at byte `at` of the file
 module _ (items at : ℕ) (file l : List ℕ) (clean : rowFault items l ≡ 0) where
-  whole : Clean l (leb 16 (kindAt l) && leb (kindAt l) 27) (rowRight items l) (rowFine items (rowAt l))
-  unfolding rowFault
-  whole = none-clean l (leb 16 (kindAt l) && leb (kindAt l) 27) (rowRight items l) (rowFine items (rowAt l)) 4 clean
-
-  row-low : 16 ≤ kindAt l
-  row-low = leb-true 16 (kindAt l) (and-left (leb 16 (kindAt l)) _ (whole .isDue))
-
-  row-high : kindAt l ≤ 27
-  row-high = leb-true (kindAt l) 27 (and-right (leb 16 (kindAt l)) _ (whole .isDue))
-
-  row-kind : kindAt l ≡ numberOf (rowAt l .kind)
-  unfolding rowAt
-  row-kind = number-of (kindAt l) row-low row-high
+  row-kind : column at 0 l ≡ numberOf (rowAt l .kind)
+  unfolding column rowAt
+  row-kind = eqb-true (storedKind (kindAt l)) (numberOf (kindOf (kindAt l))) (of-kind items l clean (λ k. eqb (storedKind k) (numberOf (kindOf k))) numbers)
 
   row-function : eqb (kindAt l) 16 ≡ sameKind (rowAt l .kind) function
-  row-function = ap (λ x. eqb x 16) row-kind
+  row-function = stored ∙ ap (λ x. eqb x 16) row-kind
+    where
+      stored : eqb (kindAt l) 16 ≡ eqb (column at 0 l) 16
+      stored = unfold column in (decide (eqb (kindAt l) 28) (λ e. rw (eqb-true (kindAt l) 28 e)) (λ e. rw e))
 
   -- the fields that its kind has are those that the row is made of
+  row-fields : fieldsOf (kindAt l) ≡ fieldsDue (kindAt l)
+  row-fields = eqb-true (fieldsOf (kindAt l)) (fieldsDue (kindAt l)) (of-kind items l clean (λ k. eqb (fieldsOf k) (fieldsDue k)) fields-right)
+
   row-first : column at 1 l ≡ rowAt l .first
   unfolding column fieldOf rowAt
-  row-first = rw (fields-of (kindAt l) row-low row-high) (go (eqb (kindAt l) 16) (eqb (kindAt l) 22))
+  row-first = rw row-fields (decide (eqb (kindAt l) 28) (λ e. rw (eqb-true (kindAt l) 28 e)) (λ e. rw e (go (eqb (kindAt l) 16) (eqb (kindAt l) 22))))
     where
       go : (a b : Bool) → cond (leb 1 (cond a 2 (cond b 1 0))) (word l 4) 0 ≡ cond (a || b) (word l 4) 0
       go true b = refl
@@ -189,7 +175,7 @@ module _ (items at : ℕ) (file l : List ℕ) (clean : rowFault items l ≡ 0) w
 
   row-second : column at 2 l ≡ rowAt l .second
   unfolding column fieldOf rowAt
-  row-second = rw (fields-of (kindAt l) row-low row-high) (go (eqb (kindAt l) 16) (eqb (kindAt l) 22))
+  row-second = rw row-fields (go (eqb (kindAt l) 16) (eqb (kindAt l) 22))
     where
       go : (a b : Bool) → cond (leb 2 (cond a 2 (cond b 1 0))) (word l 6) 0 ≡ cond a (word l 6) 0
       go true b = refl
@@ -221,7 +207,7 @@ module _ (items at : ℕ) (file l : List ℕ) (clean : rowFault items l ≡ 0) w
 
   row-size : (6 * column at 4 l ≡ cond (eqb (kindAt l) 16) (lengthAt l - 8) 0) × (at + length l ≤ length file → column at 3 l + 6 * column at 4 l ≤ length file)
   unfolding column rowRight
-  row-size = rw (row-offset, row-count) (go (eqb (kindAt l) 16) (whole .isRight) (whole .whole))
+  row-size = rw (row-offset, row-count) (go (eqb (kindAt l) 16) (row-whole items l clean .isRight) (row-whole items l clean .whole))
     where
       go : (b : Bool) → cond b (leb 8 (lengthAt l) && (eqb ((lengthAt l - 8) % 6) 0 && leb ((lengthAt l - 8) / 6) items)) (eqb (lengthAt l) (lengthOf (kindAt l))) ≡ true
           → lengthAt l ≤ length l → (6 * cond b ((lengthAt l - 8) / 6) 0 ≡ cond b (lengthAt l - 8) 0)
@@ -259,7 +245,7 @@ module _ (items : List Item) (t : List ℕ) where
   uses-clean : (l : List ℕ) → rowFault (length items) l ≡ 0 → usesFine (length items) 0 (rowAt l .uses) ≡ true
   unfolding rowAt kindOf rowFine
   uses-clean l e = decide (eqb (kindAt l) 16)
-      (λ z. let f = whole (length items) 0 l l e .isFine in rw z (and-right (leb (word l 4) (word l 6)) _ (rw z at f)))
+      (λ z. let f = row-whole (length items) l e .isFine in rw z (and-right (leb (word l 4) (word l 6)) _ (rw z at f)))
       (λ z. rw z (unfold usesFine in refl))
 
   faults-are : ((k : ℕ) → k < length items → triggerIn t k ≡ cond (getD items k noItem .trigger) 1 0) → (someTriggerIn t ≡ 0 → (k : ℕ) → k < length items → getD items k noItem .trigger ≡ false)

@@ -85,7 +85,7 @@ module _ {file t : List ℕ} (w : Tabled file t) where
   some-row = w .tabulated .someRow
 
   kinds-in : Kinds dia (word file 6) t
-  kinds-in = record { count = w .tabulated .rowsAre; cell = w .tabulated .kinds }
+  kinds-in = record { count = w .tabulated .rowsAre; cell = w .tabulated .kinds; first = w .tabulated .firsts }
 
   read-nested : readDiagram file ≡ nested dia
   read-nested = two-parts file ∙ ap (λ x. andThen x nested) (w .read)

@@ -79,17 +79,41 @@ unfolding itemFault
 item-clean l e = let c = none-clean l (eqb (kindAt l) 2 || eqb (kindAt l) 3) (eqb (lengthAt l) (lengthOf (kindAt l))) true 4 e in
     let z = eqb-true (lengthAt l) (lengthOf (kindAt l)) (c .isRight) in (z ∙ six (kindAt l) (c .isDue), c .whole)
 
-pub row-clean : (items : ℕ) (l : List ℕ) → items ≤ 16 → rowFault items l ≡ 0 → (lengthAt l ≤ 104) × (lengthAt l ≤ length l)
-unfolding rowFault rowRight
-row-clean items l m e =
-    let c = none-clean l (leb 16 (kindAt l) && leb (kindAt l) 27) (rowRight items l) (rowFine items (rowAt l)) 4 e in
-    (go (eqb (kindAt l) 16) (c .isRight), c .whole)
-  where
-    go : (b : Bool) → cond b (leb 8 (lengthAt l) && (eqb ((lengthAt l - 8) % 6) 0 && leb ((lengthAt l - 8) / 6) items)) (eqb (lengthAt l) (lengthOf (kindAt l))) ≡ true → lengthAt l ≤ 104
-    go true h = let a = and-right (leb 8 (lengthAt l)) _ h in
-        let x = eqb-true ((lengthAt l - 8) % 6) 0 (and-left (eqb ((lengthAt l - 8) % 6) 0) _ a) in
-        let y = leb-true ((lengthAt l - 8) / 6) items (and-right (eqb ((lengthAt l - 8) % 6) 0) _ a) in omega arith
-    go false h = let z = eqb-true (lengthAt l) (lengthOf (kindAt l)) h in let s = short (kindAt l) in omega arith
+-- one row's record without fault
+module _ (items : ℕ) (l : List ℕ) (clean : rowFault items l ≡ 0) where
+  pub row-whole : Clean l (leb 16 (kindAt l) && leb (kindAt l) 28) (rowRight items l) (rowFine items (rowAt l))
+  unfolding rowFault
+  row-whole = none-clean l (leb 16 (kindAt l) && leb (kindAt l) 28) (rowRight items l) (rowFine items (rowAt l)) 4 clean
+
+  -- its kind passes a test that every kind of row passes
+  pub of-kind : (test : ℕ → Bool) → allBelow 13 (λ j. test (16 + j)) ≡ true → test (kindAt l) ≡ true
+  of-kind test all =
+      let low = leb-true 16 (kindAt l) (and-left (leb 16 (kindAt l)) _ (row-whole .isDue)) in
+      let high = leb-true (kindAt l) 28 (and-right (leb 16 (kindAt l)) _ (row-whole .isDue)) in
+      let z : 16 + (kindAt l - 16) ≡ kindAt l = omega arith in
+      subst (λ (k : ℕ). test k ≡ true) z (all-elim 13 (λ j. test (16 + j)) all (kindAt l - 16) (omega arith))
+
+  pub row-clean : items ≤ 16 → (lengthAt l ≤ 104) × (lengthAt l ≤ length l)
+  unfolding rowRight
+  row-clean m = (go (eqb (kindAt l) 16) (row-whole .isRight), row-whole .whole)
+    where
+      go : (b : Bool) → cond b (leb 8 (lengthAt l) && (eqb ((lengthAt l - 8) % 6) 0 && leb ((lengthAt l - 8) / 6) items)) (eqb (lengthAt l) (lengthOf (kindAt l))) ≡ true → lengthAt l ≤ 104
+      go true h = let a = and-right (leb 8 (lengthAt l)) _ h in
+          let x = eqb-true ((lengthAt l - 8) % 6) 0 (and-left (eqb ((lengthAt l - 8) % 6) 0) _ a) in
+          let y = leb-true ((lengthAt l - 8) / 6) items (and-right (eqb ((lengthAt l - 8) % 6) 0) _ a) in omega arith
+      go false h = let z = eqb-true (lengthAt l) (lengthOf (kindAt l)) h in let s = short (kindAt l) in omega arith
+
+  -- it has a length
+  some-length : 4 ≤ lengthAt l
+  unfolding rowRight
+  some-length = go (eqb (kindAt l) 16) (row-whole .isRight)
+    where
+      long : allBelow 13 (λ j. leb 4 (lengthOf (16 + j))) ≡ true
+      long = unfold lengthOf entryIn kindTable in refl
+
+      go : (b : Bool) → cond b (leb 8 (lengthAt l) && (eqb ((lengthAt l - 8) % 6) 0 && leb ((lengthAt l - 8) / 6) items)) (eqb (lengthAt l) (lengthOf (kindAt l))) ≡ true → 4 ≤ lengthAt l
+      go true h = let x = leb-true 8 (lengthAt l) (and-left (leb 8 (lengthAt l)) _ h) in omega arith
+      go false h = let x = eqb-true (lengthAt l) (lengthOf (kindAt l)) h in let y = leb-true 4 (lengthOf (kindAt l)) (of-kind (λ k. leb 4 (lengthOf k)) long) in omega arith
 
 -- the table: a row's cells, and the others
 module _ (r at : ℕ) (l t : List ℕ) (h : r < mostRows) (n : length t ≡ cellTotal) where
@@ -149,7 +173,7 @@ module _ (from : ℕ) (start : List ℕ) (items i at : ℕ) (rest t₀ t : List 
   pub rows-turn : (size : ℕ) (more t′ : List ℕ) → i < mostRows → items ≤ mostItems → rowFault items rest ≡ 0 → size ≡ word rest 0 → more ≡ drop size rest → t′ ≡ fillRow i at rest t
       → RowsState from start items (i + 1) more (at + size) t₀ t′
   rows-turn size more t′ h m f es em et =
-      let c = row-clean items rest m f in
+      let c = row-clean items rest f m in
       rw et (record {
         reading = reading-turn (rowFault items) from start i at size rest more (s .reading) f (c .1) es em;
         filled = fill-filled i at rest t h (s .long) (from + length start) start (let z = s .reading .sum in omega arith) (s .reading .here) (s .filled);
@@ -203,29 +227,6 @@ skip-shorter (suc n) i start =
 skip-mono : (i j : ℕ) (start : List ℕ) → i ≤ j → length (skip j start) ≤ length (skip i start)
 skip-mono i j start l = let z : j - i + i ≡ j = omega arith in subst (λ (k : ℕ). length (skip k start) ≤ length (skip i start)) z (skip-shorter (j - i) i start)
 
--- a row's record has a length
-long-kinds : allBelow 12 (λ j. leb 4 (lengthOf (16 + j))) ≡ true
-unfolding lengthOf entryIn kindTable
-long-kinds = refl
-
-some-length : (items : ℕ) (l : List ℕ) → rowFault items l ≡ 0 → 4 ≤ lengthAt l
-unfolding rowFault rowRight
-some-length items l e = go (eqb (kindAt l) 16) (c .isRight)
-  where
-    c : Clean l (leb 16 (kindAt l) && leb (kindAt l) 27) (rowRight items l) (rowFine items (rowAt l))
-    c = none-clean l (leb 16 (kindAt l) && leb (kindAt l) 27) (rowRight items l) (rowFine items (rowAt l)) 4 e
-
-    by-kind : 4 ≤ lengthOf (kindAt l)
-    by-kind =
-        let low = leb-true 16 (kindAt l) (and-left (leb 16 (kindAt l)) _ (c .isDue)) in
-        let high = leb-true (kindAt l) 27 (and-right (leb 16 (kindAt l)) _ (c .isDue)) in
-        let z : 16 + (kindAt l - 16) ≡ kindAt l = omega arith in
-        subst (λ (k : ℕ). 4 ≤ lengthOf k) z (leb-true 4 _ (all-elim 12 (λ j. leb 4 (lengthOf (16 + j))) long-kinds (kindAt l - 16) (omega arith)))
-
-    go : (b : Bool) → cond b (leb 8 (lengthAt l) && (eqb ((lengthAt l - 8) % 6) 0 && leb ((lengthAt l - 8) / 6) items)) (eqb (lengthAt l) (lengthOf (kindAt l))) ≡ true → 4 ≤ lengthAt l
-    go true h = let x = leb-true 8 (lengthAt l) (and-left (leb 8 (lengthAt l)) _ h) in omega arith
-    go false h = let x = eqb-true (lengthAt l) (lengthOf (kindAt l)) h in let y = by-kind in omega arith
-
 module _ (items from : ℕ) (start : List ℕ) (due : ℕ) (t : List ℕ) (reached : Reached) where
   -- where the reading stopped
   stop-at : {fault : List ℕ → ℕ} {before : List ℕ} {r : Reached} (w : RowsRead fault from start due before t r) → r .at ≡ w .line .at
@@ -250,14 +251,11 @@ module _ (items from : ℕ) (start : List ℕ) (due : ℕ) (t : List ℕ) (reach
       let h = leb-false (w .stopped .count) j e in
       let c = w .stopped .reached .clean j (omega arith) in
       let long = some-length items (skip j start) c in
-      let whole = none-long c in
+      let whole = row-whole items (skip j start) c .whole in
       let m = skip-mono (suc j) (w .stopped .count) start (omega arith) in
       let n = ap length (skip-next j start) ∙ length-drop (lengthAt (skip j start)) (skip j start) in
       omega (arith, m, n, l, stop-at w, r .sum, w .stopped .reached .sum, ap length (r .here), long, whole)
       ))
-    where
-      none-long : rowFault items (skip j start) ≡ 0 → lengthAt (skip j start) ≤ length (skip j start)
-      none-long c = unfold rowFault in (none-clean (skip j start) _ (rowRight items (skip j start)) (rowFine items (rowAt (skip j start))) 4 c .whole)
 
   -- THEOREM: no 43 up to there leaves the verdict as it was
   pub refine-none : (j at : ℕ) (rest : List ℕ) → Reading (tableFault items t) from start j rest at → ((before : List ℕ) (w : RowsRead (rowFault items) from start due before t reached) → w .stopped .count ≤ j)
@@ -321,7 +319,7 @@ module _ (items from : ℕ) (start : List ℕ) (due : ℕ) (t : List ℕ) (reach
   unfolding tableFault
   refine-turn some j at size k rest more m r low e z es em =
       let f = clean-before (some .read) j at rest r low in
-      reading-turn (tableFault items t) from start j at size rest more r (clean f) (row-clean items rest m f .1) es em
+      reading-turn (tableFault items t) from start j at size rest more r (clean f) (row-clean items rest f m .1) es em
     where
       clean : rowFault items rest ≡ 0 → orElse (rowFault items rest) (cond (eqb (someTriggerIn t) 0) 0 (triggerFault t rest)) ≡ 0
       clean f = rw (f, ← e, z) (decide (eqb (someTriggerIn t) 0) (λ y. rw y) (λ y. rw y))

@@ -18,7 +18,7 @@ unfoldable pub isItem : ℕ → Bool
 isItem kind = eqb kind 2 || eqb kind 3
 
 unfoldable pub isRow : ℕ → Bool
-isRow kind = leb 16 kind && leb kind 27
+isRow kind = leb 16 kind && leb kind 28
 
 unfoldable pub functionRight : (size base items : ℕ) → Bool
 functionRight size base items = leb base size && (eqb ((size - base) % 6) 0 && leb ((size - base) / 6) items)

@@ -20,10 +20,10 @@ use Rattle.diagram_file.specs.declared.records.Reached.{Reached}
 unfoldable pub usesFrom : (at : ℕ) → List ℕ → ℕ
 usesFrom at bytes = cond (eqb (kindAt bytes) 16) (at + (4 + 2 * fieldsOf (kindAt bytes))) 0
 
--- the columns of a row whose record begins `bytes` at byte `at`, from its kind to the number of its uses
+-- the columns of a row whose record begins `bytes` at byte `at`, from its kind to the number of its uses; a 28 is an 18 whose first field is 1
 unfoldable pub column : (at number : ℕ) → List ℕ → ℕ
-column at zero bytes = kindAt bytes
-column at (suc zero) bytes = fieldOf (fieldsOf (kindAt bytes)) 1 bytes
+column at zero bytes = cond (eqb (kindAt bytes) 28) 18 (kindAt bytes)
+column at (suc zero) bytes = cond (eqb (kindAt bytes) 28) 1 (fieldOf (fieldsOf (kindAt bytes)) 1 bytes)
 column at (suc (suc zero)) bytes = fieldOf (fieldsOf (kindAt bytes)) 2 bytes
 column at (suc (suc (suc zero))) bytes = usesFrom at bytes
 column at (suc (suc (suc (suc c)))) bytes = cond (eqb (kindAt bytes) 16) ((lengthAt bytes - lengthOf (kindAt bytes)) / 6) 0

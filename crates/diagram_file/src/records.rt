@@ -78,7 +78,7 @@ fn use_count(size: u16, base: u16) -> u16
 fn is_row(kind: u16) -> bool
     ensures { λ r. ⌜ r ≡ isRow kind ⌝ }
 {
-    kinds::FUNCTION <= kind && kind <= kinds::END
+    kinds::FUNCTION <= kind && kind <= kinds::KILLING_BRANCH
 }
 
 fn function_right(size: u16, base: u16, items: u16) -> bool
@@ -284,7 +284,8 @@ fn field(bytes: &[u8], fields: u16, number: u16) -> u16
 }
 
 // The columns of a row whose record begins `bytes`, at byte `at` of the file: its fields (α and β of a FUNCTION, the count of an IT open), and of
-// a FUNCTION where its uses begin and how many they are.
+// a FUNCTION where its uses begin and how many they are. A BRANCH that kills is a BRANCH whose first field is 1, so that whoever asks for a BRANCH
+// finds it.
 fn fill_row(table: &mut [u16], row: usize, bytes: &[u8], entries: &[u8], at: usize)
     requires { ⌜ (row < mostRows) × (at < 60000) ⌝ }
     requires { ⌜ length (now table) ≡ cellTotal ⌝ }
@@ -299,6 +300,8 @@ fn fill_row(table: &mut [u16], row: usize, bytes: &[u8], entries: &[u8], at: usi
         let number = use_count(words::word(bytes, 0), kinds::base_length(entries, kind));
         let offset = at + kinds::behind_fields(entries, kind) as usize;
         put_row(table, row, kind, first, second, offset as u16, number);
+    } else if kind == kinds::KILLING_BRANCH {
+        put_row(table, row, kinds::BRANCH, 1, second, 0, 0);
     } else {
         put_row(table, row, kind, first, second, 0, 0);
     }

@@ -1,5 +1,5 @@
 -- What a move that stands writes: over the table and the state's words, in the order of the program's stores. Assumes nothing.
-use Prim.Native.Nat.{ℕ, zero, suc, _+_}
+use Prim.Native.Nat.{ℕ, zero, suc, _+_, _*_}
 use mathlib.Core.Bool.{Bool, true, false, cond}
 use mathlib.Core.List.{List, [], _∷_}
 use lib.ListN.{length, getD, set, take}
@@ -8,7 +8,7 @@ use Rattle.words.specs.Stores.{copied}
 use Rattle.effbd.specs.Answers.{Outcome, accepted, refused}
 use Rattle.effbd.specs.Diagrams.{Use}
 use Rattle.effbd.specs.States.{activityAt, turnsAt, clockAt}
-use Rattle.diagram_table.specs.Cells.{kindIn, firstIn, ownerIn, closeIn, loopIn, runFirst, runLength, usesIn, isBranch, enteredIn}
+use Rattle.diagram_table.specs.Cells.{kindIn, firstIn, ownerIn, branchIn, closeIn, loopIn, runFirst, runLength, usesIn, killsIn, enteredIn}
 use Rattle.words.specs.Sums.{added}
 use Rattle.diagram_moves.specs.Decisions.{countPlace, amountOf, changed, stateAllowed, moveVerdict}
 
@@ -28,11 +28,15 @@ rowSet r a words = set (set words (activityAt r) a) (clockAt r) 0
 unfoldable pub countTurn : (giving : Bool) (rows first amount i : ℕ) → List ℕ → List ℕ
 countTurn giving rows first amount i words = set words (countPlace rows (first + i)) (changed giving (getD words (countPlace rows (first + i)) 0) amount)
 
-unfoldable pub clearTurn : ℕ → List ℕ → List ℕ
-clearTurn r words = set (rowSet r 0 words) (turnsAt r) 0
+-- the words from a on, up to but not including b, are 0; all words of the rows from `first` to `last`
+unfoldable pub clearWord : ℕ → List ℕ → List ℕ
+clearWord i words = set words i 0
+
+unfoldable pub wordsCleared : (a b : ℕ) → List ℕ → List ℕ
+wordsCleared a b words = fold b (startingAt a clearWord) words
 
 unfoldable pub rowsCleared : (first last : ℕ) → List ℕ → List ℕ
-rowsCleared first last words = fold (last + 1) (startingAt first clearTurn) words
+rowsCleared first last words = wordsCleared (3 * first) (3 * (last + 1)) words
 
 unfoldable pub tickTurn : (n r : ℕ) → List ℕ → List ℕ
 tickTurn n r words = cond (eqb (getD words (activityAt r) 0) 2) (set words (clockAt r) (added (getD words (clockAt r) 0) n)) words
@@ -47,20 +51,33 @@ module _ (table : List ℕ) where
   countsChanged giving rows r j [] words = words
   countsChanged giving rows r j (u ∷ us) words = countsChanged giving rows r (j + 1) us (useChanged giving rows r j (u .item) (amountOf giving u) words)
 
+  -- `turn` at the BRANCH row b of an AND and at those before it: each has the one before it for the branch that it ends, the first itself; n turns,
+  -- which are enough where b is below n
+  unfoldable pub branchesBack : (turn : ℕ → List ℕ → List ℕ) (n b : ℕ) → List ℕ → List ℕ
+  branchesBack turn zero b words = words
+  branchesBack turn (suc n) b words = let turned = turn b words in cond (ltb (branchIn table b) b) (branchesBack turn n (branchIn table b) turned) turned
+
+  -- activity a of all BRANCH rows of an AND, of which b is the last
+  unfoldable pub branchesSet : (a b : ℕ) → List ℕ → List ℕ
+  branchesSet a b words = branchesBack (λ q. rowSet q a) (b + 1) b words
+
+  -- a branch of the AND that row o opens kills: the rows strictly inside are cleared, then its BRANCH rows are done
+  unfoldable pub rowsKilled : ℕ → List ℕ → List ℕ
+  rowsKilled o words = let c = closeIn table o in branchesSet 3 (branchIn table c) (wordsCleared (3 * (o + 1)) (3 * c) words)
+
   -- row r is entered
   unfoldable pub entered : ℕ → List ℕ → List ℕ
-  entered r words = rowSet (enteredIn table r) (cond (eqb (kindIn table (enteredIn table r)) 18) 3 1) words
+  entered r words = cond (killsIn table (enteredIn table r))
+      (rowsKilled (ownerIn table r) words)
+      (rowSet (enteredIn table r) (cond (eqb (kindIn table (enteredIn table r)) 18) 3 1) words)
 
   -- row `from` goes idle, row `to` is entered
   unfoldable pub tokenPassed : (from to : ℕ) → List ℕ → List ℕ
   tokenPassed from to words = entered to (rowSet from 0 words)
 
-  -- each BRANCH row of o, from o to below row e, has its branch entered or goes idle
-  unfoldable pub branchTurn : (entering : Bool) (o b : ℕ) → List ℕ → List ℕ
-  branchTurn entering o b words = cond (isBranch table o b) (cond entering (entered (b + 1) words) (rowSet b 0 words)) words
-
-  unfoldable pub branchesTurned : (entering : Bool) (o e : ℕ) → List ℕ → List ℕ
-  branchesTurned entering o e words = fold e (startingAt o (branchTurn entering o)) words
+  -- all branches of an AND are entered, b being its last BRANCH row
+  unfoldable pub branchesEntered : ℕ → List ℕ → List ℕ
+  branchesEntered b words = branchesBack (λ q. entered (q + 1)) (b + 1) b words
 
   unfoldable pub itOpenChange : ℕ → List ℕ → List ℕ
   itOpenChange r words = cond (ltb (getD words (turnsAt r) 0) (firstIn table r))
@@ -78,9 +95,9 @@ module _ (table : List ℕ) where
 
     unfoldable pub rowChange : ℕ → List ℕ → List ℕ
     rowChange r words = cond (eqb (kindIn table r) 16) (functionChange r words)
-        (cond (eqb (kindIn table r) 17) (branchesTurned true r (closeIn table r) (rowSet r 0 words))
+        (cond (eqb (kindIn table r) 17) (branchesEntered (branchIn table (closeIn table r)) (rowSet r 0 words))
         (cond (eqb (kindIn table r) 18) (tokenPassed (ownerIn table r) (r + 1) words)
-        (cond (eqb (kindIn table r) 19) (entered (r + 1) (branchesTurned false (ownerIn table r) r words))
+        (cond (eqb (kindIn table r) 19) (entered (r + 1) (branchesSet 0 (branchIn table r) words))
         (cond (eqb (kindIn table r) 22) (itOpenChange r words)
         (cond (eqb (kindIn table r) 23) (tokenPassed r (ownerIn table r) words)
         (cond (eqb (kindIn table r) 25) (tokenPassed r (ownerIn table r) words)

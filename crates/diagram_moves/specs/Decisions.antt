@@ -1,6 +1,6 @@
 -- What a move is told before anything is written: over the table and the state's words, in the program's order. Assumes nothing.
 use Prim.Native.Nat.{ℕ, zero, suc, _+_, _-_, _*_}
-use mathlib.Core.Bool.{Bool, true, false, not, cond, _&&_, _||_}
+use mathlib.Core.Bool.{Bool, true, false, not, cond, _&&_}
 use mathlib.Core.List.{List, [], _∷_}
 use lib.ListN.{length, getD}
 use lib.Dec.{leb, ltb, eqb}
@@ -10,7 +10,7 @@ use Rattle.effbd.specs.Diagrams.{Use}
 use Rattle.effbd.specs.States.{activityAt, turnsAt, clockAt}
 use Rattle.effbd.specs.Moves.{mostWord}
 use Rattle.words.specs.Sums.{added}
-use Rattle.diagram_table.specs.Cells.{kindIn, firstIn, secondIn, ownerIn, closeIn, triggerIn, someTriggerIn, countsIn, runFirst, runLength, usesIn, isBranch}
+use Rattle.diagram_table.specs.Cells.{kindIn, firstIn, secondIn, ownerIn, branchIn, closeIn, triggerIn, someTriggerIn, countsIn, runFirst, runLength, usesIn}
 
 -- where count k stands in a state of so many rows
 abbrev pub countPlace : ℕ → ℕ → ℕ
@@ -78,19 +78,19 @@ module _ (table : List ℕ) where
   unfoldable pub stateAllowed : (rows items : ℕ) → List ℕ → Bool
   stateAllowed rows items words = eqb (length words) (3 * rows + countsIn table items) && (allBelow rows (rowAllowed words) && sharedAllowed rows items words)
 
-  -- the BRANCH rows of o are done, all that stand from o to below row e
-  unfoldable pub doneAt : List ℕ → ℕ → ℕ → Bool
-  doneAt words o b = not (isBranch table o b) || eqb (getD words (activityAt b) 0) 3
+  -- the BRANCH row b of an AND and those before it are done: each has the one before it for the branch that it ends, the first itself; n turns, which
+  -- are enough where b is below n
+  unfoldable pub doneBack : List ℕ → (n b : ℕ) → Bool
+  doneBack words zero b = true
+  doneBack words (suc n) b = eqb (getD words (activityAt b) 0) 3 && cond (ltb (branchIn table b) b) (doneBack words n (branchIn table b)) true
 
-  unfoldable pub doneFrom : List ℕ → ℕ → ℕ → Bool
-  doneFrom words o b = ltb b o || doneAt words o b
-
-  unfoldable pub allDoneTo : List ℕ → ℕ → ℕ → Bool
-  allDoneTo words o e = allBelow e (doneFrom words o)
+  -- all BRANCH rows of an AND are done, of which b is the last
+  unfoldable pub branchesDone : List ℕ → ℕ → Bool
+  branchesDone words b = doneBack words (b + 1) b
 
   -- r is the first BRANCH row of an AND whose BRANCH rows are all done: its close could step
   unfoldable pub andDone : List ℕ → ℕ → Bool
-  andDone words r = eqb (ownerIn table r + 1) r && allDoneTo words (ownerIn table r) (closeIn table (ownerIn table r))
+  andDone words r = eqb (ownerIn table r + 1) r && branchesDone words (branchIn table (closeIn table (ownerIn table r)))
 
 -- the first row from row `from` on that is not idle, or the number of rows
 unfoldable pub nextBusy : List ℕ → (from rows : ℕ) → ℕ
@@ -104,7 +104,7 @@ unfoldable pub branchVerdict : (table words : List ℕ) → ℕ → Outcome ℕ
 branchVerdict table words r = cond (eqb (kindIn table (ownerIn table r)) 20) (readyVerdict words (ownerIn table r) r) (refused 22 r)
 
 unfoldable pub closeVerdict : (table words : List ℕ) → ℕ → Outcome ℕ
-closeVerdict table words r = cond (allDoneTo table words (ownerIn table r) r) (accepted 0) (refused 22 r)
+closeVerdict table words r = cond (branchesDone table words (branchIn table r)) (accepted 0) (refused 22 r)
 
 module _ (table : List ℕ) (rows items : ℕ) (file words : List ℕ) where
   unfoldable pub startVerdict : ℕ → Outcome ℕ

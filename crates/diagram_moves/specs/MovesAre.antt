@@ -14,7 +14,7 @@ use Rattle.effbd.specs.Diagrams.{Diagram, Kind, Row, function, and-open, branch
 use Rattle.effbd.specs.Counts.{Tally, copy, countTotal, itemOf, shared, tally}
 use Rattle.effbd.specs.Nesting.{owner, close, branchOf, loop, isClose}
 use Rattle.effbd.specs.Layout.{places}
-use Rattle.effbd.specs.States.{State, turnsAt, stateOf, enteredAs, enteredRow, activate, enter, branchEntries, makeIdle, clearRows, setTurns, activityFine, rowPasses, countPasses, statePasses}
+use Rattle.effbd.specs.States.{State, turnsAt, stateOf, enteredAs, enteredRow, endsKiller, activate, enter, branchEntries, makeIdle, clearRows, setTurns, activityFine, rowPasses, countPasses, statePasses}
 use Rattle.effbd.specs.Moves.{mostWord, moveOf, passTicks, enough, allDone, ifReady, stepAs, step, holdsAs, wait, move, wordsOutcome, moveWords, checkedMove}
 use Rattle.diagram_table.specs.Held.{Holds, HoldsCopies, HoldsRanks, HoldsUses}
 use Rattle.diagram_table.proofs.HeldCells.{owner-in}
@@ -23,18 +23,19 @@ use Rattle.ranges.specs.RangeLaws.{all-intro, all-elim, all-ext, all-fail, all-
 use Rattle.agreement.specs.Basics.{kind-in, not-kind, same-eq}
 use Rattle.agreement.specs.Structure.{opens, Laws}
 use Rattle.agreement.specs.NestingLaws.{laws}
+use Rattle.agreement.specs.TokenSteps.{branch-kind, branch-owner}
 use Rattle.agreement.specs.AcceptedFiles.{Held}
 use Rattle.agreement.specs.Sources.{item-in, item-shared, known, numbers}
 use Rattle.agreement.specs.Sources.{numberOf as tallyNumber}
-use Rattle.diagram_table.specs.Cells.{kindIn, ownerIn, closeIn, someTriggerIn}
+use Rattle.diagram_table.specs.Cells.{kindIn, ownerIn, branchIn, closeIn, someTriggerIn}
 use Rattle.words.specs.Sums.{added}
 use Rattle.words.proofs.PlainSums.{whole-sum}
 use Rattle.diagram_moves.specs.Decisions.{activityAllowed, turnsAllowed, clockAllowed, rowAllowed, countAllowed, sharedAllowed, stateAllowed, andDone, readyVerdict, branchVerdict, closeVerdict, rowVerdict, functionHolds, rowHolds, rowFree, waitVerdict, moveVerdict}
-use Rattle.diagram_moves.specs.Changes.{fold, rowSet, tickTurn, tokenPassed, branchesTurned, itOpenChange, exitChange, entered, rowChange, moveChange, outcomeOf, tableMove, checkedTableMove}
+use Rattle.diagram_moves.specs.Changes.{fold, rowSet, tickTurn, tokenPassed, branchesSet, branchesEntered, itOpenChange, exitChange, entered, rowChange, moveChange, outcomeOf, tableMove, checkedTableMove}
 use Rattle.diagram_moves.specs.Stores.{Reads, like, reads-words, words-read, set-turns}
 use Rattle.diagram_moves.specs.RowStores.{tick-fold}
 use Rattle.agreement.specs.Reach.{next-in, close-in, opened-by, and-closed}
-use Rattle.diagram_moves.specs.TokenMoves.{number-is, idle-reads, enter-reads, pass-reads, ready-is, all-done-is, idle-branches, open-branches, clear-reads}
+use Rattle.diagram_moves.specs.TokenMoves.{number-is, idle-reads, enter-by, enter-reads, pass-reads, ready-is, all-done-is, set-branches, open-branches, clear-reads}
 use Rattle.diagram_moves.specs.FunctionMoves.{Small, SmallCounts, small-counts, enough-is, function-is}
 
 or-nil : (e : Bool) → e ≡ e || false
@@ -87,14 +88,6 @@ done-only d lp-open ofAnd h = clash h refl
 done-only d lp-close ofAnd h = clash h refl
 done-only d loop-exit ofAnd h = clash h refl
 done-only d end ofAnd h = clash h refl
-
-branch-kind : (d : Diagram) (o b : ℕ) → branchOf d o b ≡ true → kind d b ≡ branch
-unfolding branchOf
-branch-kind d o b y = same-eq (kind d b) branch (and-left (isKind d branch b) (only o (owner d b)) y)
-
-branch-owner : (d : Diagram) (o b : ℕ) → branchOf d o b ≡ true → owner d b ≡ o
-unfolding branchOf
-branch-owner d o b y = eqb-true (owner d b) o (and-right (isKind d branch b) (only o (owner d b)) y)
 
 -- where all BRANCH rows of o are done, each is
 done-at : (d : Diagram) (o : ℕ) (s : State) (b : ℕ) → branchOf d o b ≡ true → b < rowCount d → allDone d o s ≡ true → eqb (s .activity b) 3 ≡ true
@@ -204,7 +197,7 @@ module _ (d : Diagram) (H : Held d) (table : List ℕ) (h : Holds d (rowCount d)
           a,
           h .owners q b,
           h .closes (owner d q) own,
-          all-done-is d (H .acc) table h (owner d q) (close d (owner d q)) (shut .0) (shut .1) (omega arith) l s e,
+          all-done-is d (H .acc) table h (owner d q) o l s e (close d (owner d q)) (shut .0) (shut .1) (omega arith),
         )
 
     unheld : Bool
@@ -333,21 +326,23 @@ module _ (d : Diagram) (H : Held d) (table : List ℕ) (h : Holds d (rowCount d)
     on k f n = rw (add-one r) (ready-is d (H .acc) table h l _ s (enter d (suc r) (makeIdle (only r) s)) r r b e
         (pass-reads d (H .acc) table h l s r (suc r) b (next k f n) e))
 
-    -- IT close, LP close: "their open becomes ready", which is entering it
-    back : (k : Kind) → kind d (owner d r) ≡ k → enteredAs d k (isKind d and-open (owner d (owner d r))) (owner d r) ≡ owner d r
+    -- IT close, LP close: "their open becomes ready", which is entering it: it ends no branch
+    back : (k : Kind) → kind d (owner d r) ≡ k → enteredAs d k (isKind d and-open (owner d (owner d r))) (owner d r) ≡ owner d r → (sameKind k branch || sameKind k and-close) ≡ false
         → outcomeOf (readyVerdict l r r) (tokenPassed table r (ownerIn table r) l) ≡ wordsOutcome d (ifReady d r r s (activate d (only (owner d r)) (makeIdle (only r) s)))
-    back k f same = rw (h .owners r b) (ready-is d (H .acc) table h l _ s (enter d (owner d r) (makeIdle (only r) s)) r r b e
+    back k f same n = rw (h .owners r b) (ready-is d (H .acc) table h l _ s (enter d (owner d r) (makeIdle (only r) s)) r r b e
         (pass-reads d (H .acc) table h l s r (owner d r) b (owner-in d (rowCount d) (itemTotal d) table h r b) e)
-        ∙ ap (λ (q : ℕ). wordsOutcome d (ifReady d r r s (activate d (only q) (makeIdle (only r) s)))) itself)
+        ∙ ap (λ (t : State). wordsOutcome d (ifReady d r r s t)) (enter-by d (owner d r) (makeIdle (only r) s) quiet ∙ ap (λ (q : ℕ). activate d (only q) (makeIdle (only r) s)) itself))
       where
         itself : enteredRow d (owner d r) ≡ owner d r
         itself = unfold enteredRow in ap (λ (j : Kind). enteredAs d j (isKind d and-open (owner d (owner d r))) (owner d r)) f ∙ same
 
-    and-open-is : kind d r ≡ and-open → outcomeOf (readyVerdict l r r) (branchesTurned table true r (closeIn table r) (rowSet r 0 l)) ≡ wordsOutcome d (stepAs d and-open r s)
+        quiet : endsKiller d (owner d r) ≡ false
+        quiet = unfold endsKiller in rw (f, n)
+
+    and-open-is : kind d r ≡ and-open → outcomeOf (readyVerdict l r r) (branchesEntered table (branchIn table (closeIn table r)) (rowSet r 0 l)) ≡ wordsOutcome d (stepAs d and-open r s)
     and-open-is f =
-        let o = opening r and-open f refl in let w = law .shut r o in let p = past r o in
         rw (h .closes r b) (ready-is d (H .acc) table h l _ s (activate d (branchEntries d r) (makeIdle (only r) s)) r r b e
-        (open-branches d (H .acc) table h r (close d r) (w .0) (w .1) (omega arith) (rowSet r 0 l) (makeIdle (only r) s) (idle-reads d (H .acc) table h l s r b e)))
+        (open-branches d (H .acc) table h r f (rowSet r 0 l) (makeIdle (only r) s) (idle-reads d (H .acc) table h l s r b e)))
 
     branch-step-is : kind d r ≡ branch → outcomeOf (branchVerdict table l r) (tokenPassed table (ownerIn table r) (r + 1) l) ≡ wordsOutcome d (stepAs d branch r s)
     unfolding branchVerdict wordsOutcome
@@ -357,12 +352,12 @@ module _ (d : Diagram) (H : Held d) (table : List ℕ) (h : Holds d (rowCount d)
         (pass-reads d (H .acc) table h l s (owner d r) (suc r) o (next branch f refl) e)))
         (λ y. rw y))
 
-    and-close-is : kind d r ≡ and-close → outcomeOf (closeVerdict table l r) (entered table (r + 1) (branchesTurned table false (ownerIn table r) r l)) ≡ wordsOutcome d (stepAs d and-close r s)
+    and-close-is : kind d r ≡ and-close → outcomeOf (closeVerdict table l r) (entered table (r + 1) (branchesSet table 0 (branchIn table r) l)) ≡ wordsOutcome d (stepAs d and-close r s)
     unfolding closeVerdict wordsOutcome
-    and-close-is f = rw (h .owners r b, all-done-is d (H .acc) table h (owner d r) r (closing r f) refl b l s e, add-one r) (decide (allDone d (owner d r) s)
+    and-close-is f = rw (all-done-is d (H .acc) table h (owner d r) (law .mine r f) l s e r (closing r f) refl b, add-one r) (decide (allDone d (owner d r) s)
         (λ y. rw y (ap accepted (reads-words d _ (enter d (suc r) (makeIdle (branchOf d (owner d r)) s))
         (enter-reads d (H .acc) table h _ (makeIdle (branchOf d (owner d r)) s) (suc r) (next and-close f refl)
-        (idle-branches d (H .acc) table h (owner d r) r (closing r f) refl b l s e)))))
+        (set-branches d (H .acc) table h (owner d r) (law .mine r f) r (closing r f) refl b 0 l s e)))))
         (λ y. rw y))
 
     it-open-is : kind d r ≡ it-open → outcomeOf (readyVerdict l r r) (itOpenChange table r l) ≡ wordsOutcome d (stepAs d it-open r s)
@@ -395,9 +390,9 @@ module _ (d : Diagram) (H : Held d) (table : List ℕ) (h : Holds d (rowCount d)
     row-as or-open f = rw (number or-open f)
     row-as or-close f = rw (number or-close f) (on or-close f refl)
     row-as it-open f = rw (number it-open f) (it-open-is f)
-    row-as it-close f = rw (number it-close f) (back it-open (opened-by d (H .acc) it-close it-open r f refl refl) refl)
+    row-as it-close f = rw (number it-close f) (back it-open (opened-by d (H .acc) it-close it-open r f refl refl) refl refl)
     row-as lp-open f = rw (number lp-open f) (on lp-open f refl)
-    row-as lp-close f = rw (number lp-close f) (back lp-open (opened-by d (H .acc) lp-close lp-open r f refl refl) refl)
+    row-as lp-close f = rw (number lp-close f) (back lp-open (opened-by d (H .acc) lp-close lp-open r f refl refl) refl refl)
     row-as loop-exit f = rw (number loop-exit f) (exit-is f)
     row-as end f = rw (number end f)
 

@@ -1,21 +1,22 @@
 -- Loops of stores over rows: the state that they leave.
-use Prim.Native.Nat.{ℕ, zero, suc, _+_, _-_, _≤_, _<_}
+use Prim.Native.Nat.{ℕ, zero, suc, _+_, _-_, _*_, _≤_, _<_}
 use mathlib.Core.Path.{_≡_, refl, sym, _∙_, ap}
 use mathlib.Core.Logic.{_≢_}
-use mathlib.Core.Bool.{Bool, true, false, cond, _&&_}
+use mathlib.Core.Bool.{Bool, true, false, cond, _&&_, and-false}
 use mathlib.Core.List.{List}
 use native.Mathlib.Omega.{arith}
 use native.Mathlib.Numerals.{add-one}
-use lib.ListN.{getD, set}
-use lib.Dec.{ltb, eqb}
-use borrow.Author.Tests.{ltb-true, ltb-false, lt-ltb, le-ltb, eqb-true, eqb-false, le-leb, lt-leb}
+use lib.ListN.{length, getD, set, length-set, List·getD-eq-default}
+use lib.Seq.{getD-set-same, getD-set-other, ext-getD}
+use lib.Dec.{leb, ltb, eqb}
+use borrow.Author.Tests.{ltb-true, ltb-false, lt-ltb, le-ltb, eqb-true, eqb-false, le-leb, lt-leb, leb-true, leb-false}
 use Rattle.effbd.specs.Ranges.{allBelow, only}
 use Rattle.effbd.specs.Diagrams.{Diagram, rowCount}
-use Rattle.effbd.specs.States.{State, activityAt, clockAt, makeIdle, clearRows}
+use Rattle.effbd.specs.States.{State, activityAt, turnsAt, clockAt, countAt, clearRows}
 use Rattle.ranges.specs.Tests.{decide, and-intro}
 use Rattle.ranges.specs.RangeLaws.{only-refl, all-elim, all-intro}
-use Rattle.diagram_moves.specs.Changes.{fold, startingAt, rowSet, clearTurn}
-use Rattle.diagram_moves.specs.Stores.{Reads, like, set-row, set-turns, set-clock}
+use Rattle.diagram_moves.specs.Changes.{fold, startingAt, clearWord, wordsCleared}
+use Rattle.diagram_moves.specs.Stores.{Reads, like, set-clock}
 
 -- one turn more of a loop of stores, and its end
 pub fold-more : (f : ℕ → List ℕ → List ℕ) (i : ℕ) (l m n : List ℕ) → m ≡ fold i f l → n ≡ f i m → n ≡ fold (i + 1) f l
@@ -68,55 +69,60 @@ grow S n q v x = decide (only n q)
 none : (S : ℕ → Bool) (q v x : ℕ) → x ≡ cond (ltb q 0 && S q) v x
 none S q v x = rw (le-ltb q 0 (omega arith))
 
-pub and-false : (t : Bool) → (t && false) ≡ false
-and-false true = refl
-and-false false = refl
-
 every : (S : ℕ → Bool) (n q v x : ℕ) → (S q ≡ true → q < n) → cond (ltb q n && S q) v x ≡ cond (S q) v x
 every S n q v x b = decide (S q) (λ e. rw (e, lt-ltb q n (b e))) (λ e. rw (e, and-false (ltb q n)))
 
-module _ (d : Diagram) (S : ℕ → Bool) (l : List ℕ) (s : State) (h : Reads d l s) where
-  below : ℕ → ℕ → Bool
-  below n q = ltb q n && S q
+-- words that are cleared, read back
+clear-turn : (a n i : ℕ) (m : List ℕ) → getD (startingAt a clearWord n m) i 0 ≡ cond (leb a n && only n i) 0 (getD m i 0)
+unfolding startingAt clearWord
+clear-turn a n i m = decide (leb a n)
+    (λ e. rw e (decide (only n i) (λ z. rw (z, eqb-true i n z) zero-there) (λ z. rw z (getD-set-other m n i 0 0 (eqb-false i n z)))))
+    (λ e. rw e)
+  where
+    zero-there : getD (set m n 0) n 0 ≡ 0
+    zero-there = decide (ltb n (length m)) (λ l. getD-set-same m n 0 0 (ltb-true n (length m) l))
+        (λ l. List·getD-eq-default (set m n 0) 0 {n = n} (rw (length-set m n 0) (ltb-false n (length m) l)))
 
-  -- the rows that S has go idle
-  module _ (g : ℕ → List ℕ → List ℕ) (turn : (b : ℕ) (m : List ℕ) → b < rowCount d → g b m ≡ cond (S b) (rowSet b 0 m) m) where
-    idle-turn : (n : ℕ) (m : List ℕ) (u : State) → n < rowCount d → Reads d m u → Reads d (g n m) (makeIdle (λ q. S n && only n q) u)
-    idle-turn n m u b k = rw (turn n m b) (decide (S n) (λ e. rw e (set-row d (λ q. 0) m u n b k)) (λ e. rw e k))
+cleared-at : (a b i : ℕ) (l : List ℕ) → getD (wordsCleared a b l) i 0 ≡ cond (ltb i b && leb a i) 0 (getD l i 0)
+unfolding wordsCleared
+cleared-at a zero i l = none (leb a) i 0 (getD l i 0)
+cleared-at a (suc n) i l = clear-turn a n i (fold n (startingAt a clearWord) l)
+    ∙ (ap (λ (x : ℕ). cond (leb a n && only n i) 0 x) (unfold wordsCleared in cleared-at a n i l) ∙ grow (leb a) n i 0 (getD l i 0))
 
-    idle-upto : (n : ℕ) → n ≤ rowCount d → Reads d (fold n g l) (makeIdle (below n) s)
-    unfolding below
-    idle-upto zero b = like d h (record { activity = λ q c. none S q 0 (s .activity q); turns = λ q c. refl; clock = λ q c. none S q 0 (s .clock q); count = λ k c. refl })
-    idle-upto (suc n) b = like d (idle-turn n (fold n g l) (makeIdle (below n) s) (omega arith) (idle-upto n (omega arith)))
-        (record { activity = λ q c. grow S n q 0 (s .activity q); turns = λ q c. refl; clock = λ q c. grow S n q 0 (s .clock q); count = λ k c. refl })
+cleared-long : (a b : ℕ) (l : List ℕ) → length (wordsCleared a b l) ≡ length l
+unfolding wordsCleared startingAt clearWord
+cleared-long a zero l = refl
+cleared-long a (suc n) l = decide (leb a n)
+    (λ e. rw e (length-set (fold n (startingAt a clearWord) l) n 0 ∙ (unfold wordsCleared in cleared-long a n l)))
+    (λ e. rw e (unfold wordsCleared in cleared-long a n l))
 
-    pub idle-fold : (n : ℕ) → n ≤ rowCount d → ((q : ℕ) → q < rowCount d → S q ≡ true → q < n) → Reads d (fold n g l) (makeIdle S s)
-    unfolding below
-    idle-fold n b in-it = like d (idle-upto n b)
-        (record { activity = λ q c. every S n q 0 (s .activity q) (in-it q c); turns = λ q c. refl; clock = λ q c. every S n q 0 (s .clock q) (in-it q c); count = λ k c. refl })
+-- words past the list's end need no clearing
+pub cleared-short : (a b : ℕ) (l : List ℕ) → length l ≤ b → wordsCleared a (length l) l ≡ wordsCleared a b l
+cleared-short a b l m = ext-getD 0 (wordsCleared a (length l) l) (wordsCleared a b l) (cleared-long a (length l) l ∙ sym (cleared-long a b l))
+    (λ i j. let k = cleared-long a (length l) l in
+    cleared-at a (length l) i l ∙ (rw (lt-ltb i (length l) (omega arith), lt-ltb i b (omega arith)) refl ∙ sym (cleared-at a b i l)))
 
-  -- the rows that S has are cleared
-  module _ (g : ℕ → List ℕ → List ℕ) (turn : (b : ℕ) (m : List ℕ) → b < rowCount d → g b m ≡ cond (S b) (clearTurn b m) m) where
-    clear-turn : (n : ℕ) (m : List ℕ) (u : State) → n < rowCount d → Reads d m u → Reads d (g n m) (clearRows (λ q. S n && only n q) u)
-    unfolding clearTurn
-    clear-turn n m u b k = rw (turn n m b) (decide (S n)
-        (λ e. rw e (set-turns d 0 (rowSet n 0 m) (makeIdle (only n) u) n b (set-row d (λ q. 0) m u n b k))) (λ e. rw e k))
+-- a word of a row stands among those of the rows from a to below b exactly if the row does
+row-word : (a b q p : ℕ) → 3 * q ≤ p → p < 3 * q + 3 → (ltb p (3 * b) && leb (3 * a) p) ≡ (ltb q b && leb a q)
+row-word a b q p l m = rw (high, low)
+  where
+    high : ltb p (3 * b) ≡ ltb q b
+    high = decide (ltb q b) (λ e. let z = ltb-true q b e in rw e (lt-ltb p (3 * b) (omega arith))) (λ e. let z = ltb-false q b e in rw e (le-ltb p (3 * b) (omega arith)))
 
-    clear-upto : (n : ℕ) → n ≤ rowCount d → Reads d (fold n g l) (clearRows (below n) s)
-    unfolding below
-    clear-upto zero b = like d h (record { activity = λ q c. none S q 0 (s .activity q); turns = λ q c. none S q 0 (s .turns q); clock = λ q c. none S q 0 (s .clock q); count = λ k c. refl })
-    clear-upto (suc n) b = like d (clear-turn n (fold n g l) (clearRows (below n) s) (omega arith) (clear-upto n (omega arith)))
-        (record { activity = λ q c. grow S n q 0 (s .activity q); turns = λ q c. grow S n q 0 (s .turns q); clock = λ q c. grow S n q 0 (s .clock q); count = λ k c. refl })
+    low : leb (3 * a) p ≡ leb a q
+    low = decide (leb a q) (λ e. let z = leb-true a q e in rw e (le-leb (3 * a) p (omega arith))) (λ e. let z = leb-false a q e in rw e (lt-leb (3 * a) p (omega arith)))
 
-    pub clear-fold : (n : ℕ) (T : ℕ → Bool) → n ≤ rowCount d → ((q : ℕ) → (ltb q n && S q) ≡ T q) → Reads d (fold n g l) (clearRows T s)
-    unfolding below
-    clear-fold n T b same = like d (clear-upto n b)
-        (record {
-          activity = λ q c. ap (λ (x : Bool). cond x 0 (s .activity q)) (same q);
-          turns = λ q c. ap (λ (x : Bool). cond x 0 (s .turns q)) (same q);
-          clock = λ q c. ap (λ (x : Bool). cond x 0 (s .clock q)) (same q);
-          count = λ k c. refl;
-        })
+pub cleared-reads : (d : Diagram) (l : List ℕ) (s : State) (a b : ℕ) → b ≤ rowCount d → Reads d l s → Reads d (wordsCleared (3 * a) (3 * b) l) (clearRows (λ q. ltb q b && leb a q) s)
+cleared-reads d l s a b i h = record {
+  sized = cleared-long (3 * a) (3 * b) l ∙ h .sized;
+  activity = λ q c. at q (activityAt q) (omega arith) (omega arith) (s .activity q) (h .activity q c);
+  turns = λ q c. at q (turnsAt q) (omega arith) (omega arith) (s .turns q) (h .turns q c);
+  clock = λ q c. at q (clockAt q) (omega arith) (omega arith) (s .clock q) (h .clock q c);
+  count = λ k c. cleared-at (3 * a) (3 * b) (countAt d k) l ∙ rw (le-ltb (countAt d k) (3 * b) (omega arith)) (h .count k c);
+}
+  where
+    at : (q p : ℕ) → 3 * q ≤ p → p < 3 * q + 3 → (x : ℕ) → getD l p 0 ≡ x → getD (wordsCleared (3 * a) (3 * b) l) p 0 ≡ cond (ltb q b && leb a q) 0 x
+    at q p l′ m x e = cleared-at (3 * a) (3 * b) p l ∙ rw (row-word a b q p l′ m, e)
 
 -- every running clock becomes F of itself
 module _ (d : Diagram) (F : ℕ → ℕ) (l : List ℕ) (s : State) (h : Reads d l s)

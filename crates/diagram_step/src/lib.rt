@@ -5,14 +5,15 @@ ghost use Rattle.effbd.specs.Answers.{said, returningZero, afterwards};
 ghost use Rattle.effbd.specs.Moves.{stepDiagram, freshDiagram};
 ghost use Prim.Native.Nat.{_+_, _≤_};
 ghost use lib.ListN.{length};
-ghost use Rattle.diagram_table.specs.Cells.{ownerIn, closeIn, someTriggerIn};
+ghost use Rattle.diagram_table.specs.Cells.{branchIn, closeIn, someTriggerIn};
 ghost use Rattle.diagram_table.specs.Held.{HoldsFile};
-ghost use Rattle.diagram_moves.specs.Changes.{rowSet, entered, branchesTurned, itOpenChange, exitChange, functionChange, rowChange, moveChange, tableMove, checkedTableMove, freshPlaced};
+ghost use Rattle.diagram_moves.specs.Changes.{rowSet, entered, branchesSet, branchesEntered, itOpenChange, exitChange, functionChange, rowChange, moveChange, tableMove, checkedTableMove, freshPlaced};
 use diagram::Diagram;
 use diagram_changes::counts;
 use diagram_changes::tokens;
 use diagram_state::cells;
 use diagram_state::check;
+use diagram_table::BRANCH_ENDED;
 use diagram_table::CLOSE;
 use diagram_table::FIRST;
 use diagram_table::LOOP;
@@ -64,18 +65,19 @@ fn step_function(table: &[u16], rows: u32, file: &[u8], state: &mut [u16], row: 
 }
 
 fn open_branches(table: &[u16], state: &mut [u16], row: u16)
-    ensures { λ _. ⌜ now (state .exit) ≡ branchesTurned (now (table .entry)) true row (closeIn (now (table .entry)) row) (rowSet row 0 (now (state .entry))) ⌝ }
+    ensures { λ _. ⌜ now (state .exit) ≡ branchesEntered (now (table .entry)) (branchIn (now (table .entry)) (closeIn (now (table .entry)) row)) (rowSet row 0 (now (state .entry))) ⌝ }
 {
     let close = diagram_table::cell(table, CLOSE, row as u32);
+    let last = diagram_table::cell(table, BRANCH_ENDED, close as u32);
     tokens::set_row(state, row as u32, 0);
-    tokens::turn_branches(table, state, true, row, close);
+    tokens::enter_branches(table, state, last);
 }
 
 fn close_branches(table: &[u16], state: &mut [u16], row: u16)
-    ensures { λ _. ⌜ now (state .exit) ≡ entered (now (table .entry)) (row + 1) (branchesTurned (now (table .entry)) false (ownerIn (now (table .entry)) row) row (now (state .entry))) ⌝ }
+    ensures { λ _. ⌜ now (state .exit) ≡ entered (now (table .entry)) (row + 1) (branchesSet (now (table .entry)) 0 (branchIn (now (table .entry)) row) (now (state .entry))) ⌝ }
 {
-    let owner = diagram_table::cell(table, OWNER, row as u32);
-    tokens::turn_branches(table, state, false, owner, row);
+    let last = diagram_table::cell(table, BRANCH_ENDED, row as u32);
+    tokens::set_branches(table, state, last as u32, 0);
     tokens::enter(table, state, row as u32 + 1);
 }
 

@@ -1,14 +1,14 @@
 -- What a table's cells say of the diagram that it holds: its rows' kinds, owners and closes, its BRANCH rows, the row that entering a row changes.
 use Prim.Native.Nat.{ℕ, _<_}
 use mathlib.Core.Path.{_≡_, refl, ap, _∙_}
-use mathlib.Core.Bool.{Bool, true, false, cond}
+use mathlib.Core.Bool.{Bool, true, false, cond, _&&_}
 use mathlib.Core.List.{List}
 use native.Mathlib.Omega.{arith}
 use lib.Dec.{eqb}
-use Rattle.effbd.specs.Diagrams.{Kind, function, and-open, branch, and-close, or-open, or-close, it-open, it-close, lp-open, lp-close, loop-exit, end, Diagram, numberOf, rowCount, kind, isKind}
+use Rattle.effbd.specs.Diagrams.{Kind, function, and-open, branch, and-close, or-open, or-close, it-open, it-close, lp-open, lp-close, loop-exit, end, Diagram, numberOf, rowCount, kind, isKind, row, kills}
 use Rattle.effbd.specs.Nesting.{owner, branchEnded, close, branchOf}
 use Rattle.effbd.specs.States.{enteredAs, enteredRow}
-use Rattle.diagram_table.specs.Cells.{kindIn, ownerIn, closeIn, isBranch, enteredIn}
+use Rattle.diagram_table.specs.Cells.{kindIn, ownerIn, closeIn, firstIn, isBranch, killsIn, enteredIn}
 use Rattle.diagram_table.specs.Held.{Holds}
 
 module _ (d : Diagram) (rows items : ℕ) (table : List ℕ) (h : Holds d rows items table) where
@@ -54,3 +54,10 @@ module _ (d : Diagram) (rows items : ℕ) (table : List ℕ) (h : Holds d rows i
   pub branch-cell : (o q : ℕ) → q < rowCount d → isBranch table o q ≡ branchOf d o q
   unfolding isBranch branchOf
   branch-cell o q l = rw (kind-cell q l, owner-cell q l)
+
+  pub first-cell : (r : ℕ) → r < rowCount d → firstIn table r ≡ row d r .first
+  first-cell r l = h .records .firsts r (in-rows r l)
+
+  pub kills-cell : (b : ℕ) → b < rowCount d → killsIn table b ≡ (isKind d branch b && kills d b)
+  unfolding killsIn
+  kills-cell b l = rw (kind-cell b l, first-cell b l)

@@ -9,7 +9,7 @@ use lib.Dec.{leb, eqb}
 use Rattle.effbd.specs.Diagrams.{mostRows, mostItems, Use, usesAt}
 use Rattle.effbd.specs.Nesting.{Part, partIn}
 
--- the cell of a row in a column: 0 kind, 1 first field (α or count), 2 second field (β), 3 byte offset of its uses, 4 number of its uses,
+-- the cell of a row in a column: 0 kind, 1 first field (α or count; 1 of a BRANCH that kills), 2 second field (β), 3 byte offset of its uses, 4 number of its uses,
 -- 5 owner, 6 latest BRANCH, 7 close, 8 innermost LP
 abbrev pub cellOf : (column row : ℕ) → ℕ
 cellOf column row = mostRows * column + row
@@ -60,7 +60,7 @@ module _ (table : List ℕ) where
   abbrev pub kindIn : ℕ → ℕ
   kindIn r = getD table r 0
 
-  -- α of a FUNCTION, the count of an IT open; β of a FUNCTION
+  -- α of a FUNCTION, the count of an IT open, 1 of a BRANCH that kills; β of a FUNCTION
   abbrev pub firstIn : ℕ → ℕ
   firstIn r = getD table (cellOf 1 r) 0
 
@@ -138,7 +138,11 @@ module _ (table : List ℕ) where
   unfoldable pub isBranch : ℕ → ℕ → Bool
   isBranch o b = eqb (kindIn b) 18 && eqb (ownerIn b) o
 
-  -- the row that entering row r changes
+  -- row b is a BRANCH that kills
+  unfoldable pub killsIn : ℕ → Bool
+  killsIn b = eqb (kindIn b) 18 && eqb (firstIn b) 1
+
+  -- the row that entering row r changes where no branch kills
   unfoldable pub enteredIn : ℕ → ℕ
   enteredIn r = cond (eqb (kindIn r) 18)
       (cond (eqb (kindIn (ownerIn r)) 17) (branchIn r) (closeIn (ownerIn r)))

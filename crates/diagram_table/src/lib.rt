@@ -4,7 +4,7 @@
 ghost use mathlib.Core.Path.{_≡_};
 ghost use Prim.Native.Nat.{_+_, _<_};
 ghost use lib.ListN.{getD};
-ghost use Rattle.diagram_table.specs.Cells.{kindIn, usesPartIn, usesBytes, sharedIn, countsIn, runFirst, runLength, isBranch, enteredIn};
+ghost use Rattle.diagram_table.specs.Cells.{kindIn, usesPartIn, usesBytes, sharedIn, countsIn, runFirst, runLength, isBranch, killsIn, enteredIn};
 use effbd::limits::MOST_ITEMS;
 use effbd::limits::MOST_ROWS;
 use words::kinds;
@@ -160,7 +160,17 @@ pub fn is_branch(table: &[u16], owner: u32, row: u32) -> bool
     cell(table, OWNER, row) as u32 == owner
 }
 
-// The row that entering a row changes.
+// Row `row` is a BRANCH that kills.
+pub fn kills(table: &[u16], row: u32) -> bool
+    ensures { λ r. ⌜ r ≡ killsIn (now (table .entry)) row ⌝ }
+{
+    if kind(table, row) != kinds::BRANCH {
+        return false;
+    }
+    cell(table, FIRST, row) == 1
+}
+
+// The row that entering a row changes where no branch kills; where one does, that branch's BRANCH.
 pub fn entered_row(table: &[u16], row: u32) -> u32
     ensures { λ r. ⌜ r ≡ enteredIn (now (table .entry)) row ⌝ }
 {

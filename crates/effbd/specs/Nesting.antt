@@ -1,4 +1,4 @@
--- Document 01, "Nesting": which constructs are open at each row, what may stand there (refusals 7, 8, 9), a whole diagram file. Assumes nothing.
+-- Document 01, "Nesting", and 02, CR 3: which constructs are open at each row, what may stand there (refusals 7, 44, 8, 9), a whole diagram file. Assumes nothing.
 use Prim.Native.Nat.{ℕ, zero, suc, _+_, _-_, _*_}
 use mathlib.Core.Bool.{Bool, true, false, not, cond, _&&_, _||_}
 use mathlib.Core.List.{List, [], _∷_}
@@ -7,7 +7,7 @@ use lib.Dec.{leb, ltb, eqb}
 use Rattle.effbd.specs.Ranges.{least, only, within}
 use Rattle.effbd.specs.Answers.{Outcome, accepted, refused, unless, andThen}
 use Rattle.effbd.specs.Records.{word, lengthAt, Got, readMany}
-use Rattle.effbd.specs.Diagrams.{Kind, function, and-open, branch, and-close, or-open, or-close, it-open, it-close, lp-open, lp-close, loop-exit, end, Row, Item, Diagram, rowCount, kind, isKind, headFault, itemFault, itemAt, rowAt, rowFaultIn}
+use Rattle.effbd.specs.Diagrams.{Kind, function, and-open, branch, and-close, or-open, or-close, it-open, it-close, lp-open, lp-close, loop-exit, end, Row, Item, Diagram, rowCount, kind, isKind, kills, headFault, itemFault, itemAt, rowAt, rowFaultIn}
 
 -- a construct that is open: its open row, and its latest BRANCH (at first the row after the open, which must be one)
 pub record Frame : Type 0 where
@@ -109,12 +109,12 @@ module _ (d : Diagram) where
   follows zero = true
   follows (suc p) = not (isKind d and-open p || isKind d or-open p) || isKind d branch (suc p)
 
-  -- "each has two BRANCH rows or more"; "A BRANCH needs an innermost open AND or OR; a close needs its own kind innermost";
+  -- "each has two BRANCH rows or more"; "A BRANCH needs an innermost open AND or OR; a close needs its own kind innermost"; of one that kills "in an OR it is 7";
   -- "END is the last row only, with nothing open"
   abbrev pub standsAs : Kind → ℕ → List Frame → Bool
   standsAs function q fs = true
   standsAs and-open q fs = true
-  standsAs branch q fs = inAndOr fs
+  standsAs branch q fs = inAndOr fs && (not (kills d q) || innermostIs and-open fs)
   standsAs and-close q fs = innermostIs and-open fs && twoBranches fs
   standsAs or-open q fs = true
   standsAs or-close q fs = innermostIs or-open fs && twoBranches fs
@@ -129,6 +129,10 @@ module _ (d : Diagram) where
   unfoldable pub nestingBroken : ℕ → Bool
   nestingBroken q = not (follows q && (standsAs (kind d q) q (stack q) && (not (eqb (suc q) (rowCount d)) || isKind d end q)))
 
+  -- 44: "a killing branch is empty, at its row, between 7 and 8"
+  unfoldable pub killerEmpty : ℕ → Bool
+  killerEmpty q = isKind d branch q && (kills d q && (isKind d branch (suc q) || isKind d and-close (suc q)))
+
   -- 8: "An LE needs an innermost open AND or OR, some open LP, and a BRANCH or that construct's close as next row"
   unfoldable pub exitMisplaced : ℕ → Bool
   exitMisplaced q = isKind d loop-exit q && not (inAndOr (stack q) && (someOpen lp-open (stack q)
@@ -138,9 +142,9 @@ module _ (d : Diagram) where
   unfoldable pub thirteenthOpen : ℕ → Bool
   thirteenthOpen q = (isKind d and-open q || isKind d or-open q || isKind d it-open q || isKind d lp-open q) && leb 12 (length (stack q))
 
-  -- "Then rows upward, at a row 7, 8, 9"
+  -- "Then rows upward, at a row 7, 8, 9", and 44 "between 7 and 8"
   unfoldable pub nestingFault : ℕ → ℕ
-  nestingFault q = cond (nestingBroken q) 7 (cond (exitMisplaced q) 8 (cond (thirteenthOpen q) 9 0))
+  nestingFault q = cond (nestingBroken q) 7 (cond (killerEmpty q) 44 (cond (exitMisplaced q) 8 (cond (thirteenthOpen q) 9 0)))
 
   unfoldable pub firstFaulty : ℕ
   firstFaulty = least (rowCount d) (λ q. not (eqb (nestingFault q) 0))

@@ -1,16 +1,16 @@
--- Document 01, "Net": the net of a diagram, transition by transition, and its translation into a lent area (refusal 10). Assumes nothing.
+-- Document 01, "Net", and 02, CR 3: the net of a diagram, transition by transition, and its translation into a lent area (refusal 10). Assumes nothing.
 use Prim.Native.Nat.{ℕ, zero, suc}
 use mathlib.Core.Bool.{Bool, true, false, cond, _&&_}
 use mathlib.Core.List.{List, [], _∷_, _++_, map}
 use lib.ListN.{length, getD, drop}
 use lib.Dec.{ltb, eqb}
-use Rattle.effbd.specs.Ranges.{only, tabulate}
+use Rattle.effbd.specs.Ranges.{only, nobody, either, tabulate}
 use Rattle.effbd.specs.Answers.{Outcome, accepted, refused}
 use Rattle.effbd.specs.Diagrams.{Kind, function, and-open, branch, and-close, or-open, or-close, it-open, it-close, lp-open, lp-close, loop-exit, end, Diagram, rowCount, kind, isKind, alpha, beta, turnLimit}
 use Rattle.effbd.specs.Counts.{takes, gives, initialCount}
 use Rattle.effbd.specs.Nesting.{owner, close, branchOf, loop, inLoop, readDiagram}
 use Rattle.effbd.specs.Layout.{Place, byPlace, places, placeOf}
-use Rattle.effbd.specs.States.{enteredRow, branchEntries}
+use Rattle.effbd.specs.States.{killed, entered, branchEntries}
 use Rattle.effbd.specs.Nets.{Arc, takeArc, clearArc, giveArc, Transition, Net, netBytes}
 
 -- a transition by the names of its places
@@ -47,16 +47,22 @@ abbrev pub noPattern : Pattern
 noPattern = atOnce (λ p. 0) nowhere (λ p. 0)
 
 module _ (d : Diagram) where
-  -- "The *entry place* of s is P of the row that entering s changes"
-  abbrev pub entryRow : ℕ → ℕ → Bool
-  entryRow q = only (enteredRow d q)
-
   -- "clears all places of its loop's rows": all places of a set of rows; "R = count at each IT open in them"
   abbrev pub clearsRows : (ℕ → Bool) → Place → Bool
   clearsRows W = byPlace W W W (λ k. false)
 
   abbrev pub restoresR : (ℕ → Bool) → ℕ → ℕ
   restoresR W q = cond (W q && isKind d it-open q) (turnLimit d q) 0
+
+  -- "The *entry place* of s is P of the row that entering s changes"; 02, CR 3: "such transitions clear those rows' places (an LE's own
+  -- range merging with it), restore R there (each R given once, an ending IT's own included) and give P of each BRANCH":
+  -- one that takes P of the rows S, clears the rows W and makes the rows E active
+  abbrev pub passes : (S W E : ℕ → Bool) → Pattern
+  passes S W E = atOnce (marksP S) (clearsRows W) (byPlace (oneAt E) none (restoresR W) none)
+
+  -- and one that, having cleared the rows W, enters q
+  abbrev pub passesTo : (S W : ℕ → Bool) → ℕ → Pattern
+  passesTo S W q = passes S (either W (killed d q)) (entered d q)
 
   -- "Transitions, by label"
   abbrev pub patternsAs : Kind → ℕ → List Pattern
@@ -67,31 +73,29 @@ module _ (d : Diagram) where
         earliest = alpha d r;
         latest = beta d r;
         take = byPlace none (oneAt (only r)) none none;
-        clear = nowhere;
-        give = byPlace (oneAt (entryRow (suc r))) none none (gives d r);
+        clear = clearsRows (killed d (suc r));
+        give = byPlace (oneAt (entered d (suc r))) none (restoresR (killed d (suc r))) (gives d r);
       }
       ∷ []
   -- "AND open: takes P, gives every branch's entry. AND close: takes P of every BRANCH row, gives entry of r + 1"
-  patternsAs and-open r = atOnce (marksP (only r)) nowhere (marksP (branchEntries d r)) ∷ []
-  patternsAs and-close r = atOnce (marksP (branchOf d (owner d r))) nowhere (marksP (entryRow (suc r))) ∷ []
+  patternsAs and-open r = passes (only r) nobody (branchEntries d r) ∷ []
+  patternsAs and-close r = passesTo (branchOf d (owner d r)) nobody (suc r) ∷ []
   -- "BRANCH of an OR: takes P of the open, gives entry of r + 1"
-  patternsAs branch r = cond (isKind d or-open (owner d r)) (atOnce (marksP (only (owner d r))) nowhere (marksP (entryRow (suc r))) ∷ []) []
+  patternsAs branch r = cond (isKind d or-open (owner d r)) (passesTo (only (owner d r)) nobody (suc r) ∷ []) []
   -- "OR close, LP open: P to entry of r + 1. IT close, LP close: P to P of the open"
-  patternsAs or-close r = atOnce (marksP (only r)) nowhere (marksP (entryRow (suc r))) ∷ []
-  patternsAs lp-open r = atOnce (marksP (only r)) nowhere (marksP (entryRow (suc r))) ∷ []
-  patternsAs it-close r = atOnce (marksP (only r)) nowhere (marksP (only (owner d r))) ∷ []
-  patternsAs lp-close r = atOnce (marksP (only r)) nowhere (marksP (only (owner d r))) ∷ []
+  patternsAs or-close r = passesTo (only r) nobody (suc r) ∷ []
+  patternsAs lp-open r = passesTo (only r) nobody (suc r) ∷ []
+  patternsAs it-close r = passes (only r) nobody (only (owner d r)) ∷ []
+  patternsAs lp-close r = passes (only r) nobody (only (owner d r)) ∷ []
   -- "IT open: first takes P and one R, gives one Q and entry of r + 1; second takes P and count Q, gives count R and the entry after its close"
   patternsAs it-open r =
-      atOnce (byPlace (oneAt (only r)) none (oneAt (only r)) none) nowhere (byPlace (oneAt (entryRow (suc r))) (oneAt (only r)) none none)
-      ∷ atOnce (byPlace (oneAt (only r)) (weightOf r (turnLimit d r)) none none) nowhere
-      (byPlace (oneAt (entryRow (suc (close d r)))) none (weightOf r (turnLimit d r)) none)
+      atOnce (byPlace (oneAt (only r)) none (oneAt (only r)) none) (clearsRows (killed d (suc r)))
+      (byPlace (oneAt (entered d (suc r))) (oneAt (only r)) (restoresR (killed d (suc r))) none)
+      ∷ atOnce (byPlace (oneAt (only r)) (weightOf r (turnLimit d r)) none none) (clearsRows (killed d (suc (close d r))))
+      (byPlace (oneAt (entered d (suc (close d r)))) none (restoresR (either (only r) (killed d (suc (close d r))))) none)
       ∷ []
   -- "LE: takes P, clears all places of its loop's rows, gives R = count at each IT open in them and the entry after the loop"
-  patternsAs loop-exit r =
-      atOnce (marksP (only r)) (clearsRows (inLoop d r))
-      (byPlace (oneAt (entryRow (suc (close d (loop d r))))) none (restoresR (inLoop d r)) none)
-      ∷ []
+  patternsAs loop-exit r = passesTo (only r) (inLoop d r) (suc (close d (loop d r))) ∷ []
   patternsAs or-open r = []
   patternsAs end r = []
 
@@ -140,7 +144,7 @@ module _ (d : Diagram) where
 
   -- "Fresh marks: 1 at the place that entering row 0 marks, R = count at each IT open, initial counts, else 0"
   abbrev pub freshMark : Place → ℕ
-  freshMark = byPlace (oneAt (entryRow d 0)) none (restoresR d (λ q. true)) (initialCount d)
+  freshMark = byPlace (oneAt (entered d 0)) none (restoresR d (λ q. true)) (initialCount d)
 
   unfoldable pub netOf : Net
   netOf = record { marks = tabulate (places d) (λ p. freshMark (placeOf d p)); transitions = map transitionOf (names d (rowCount d)) }

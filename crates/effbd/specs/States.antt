@@ -1,12 +1,12 @@
--- Document 01, "Diagram state and moves": the state, entering a row, the fresh state, the check of a state (refusal 20), with document 02's CR 2. Assumes nothing.
+-- Document 01, "Diagram state and moves", and 02, CR 2 and CR 3: the state, entering a row, the fresh state, the check of a state (refusal 20). Assumes nothing.
 use Prim.Native.Nat.{ℕ, suc, _+_, _*_}
 use mathlib.Core.Bool.{Bool, true, false, not, cond, _&&_, _||_}
 use mathlib.Core.List.{List}
 use lib.ListN.{getD}
 use lib.Dec.{leb, ltb, eqb}
-use Rattle.effbd.specs.Ranges.{allBelow, only, tabulate}
+use Rattle.effbd.specs.Ranges.{allBelow, only, between, tabulate}
 use Rattle.effbd.specs.Answers.{Outcome, accepted, andThen}
-use Rattle.effbd.specs.Diagrams.{Kind, function, and-open, branch, and-close, or-open, or-close, it-open, it-close, lp-open, lp-close, loop-exit, end, Diagram, rowCount, kind, isTrigger, isKind, beta, turnLimit}
+use Rattle.effbd.specs.Diagrams.{Kind, function, and-open, branch, and-close, or-open, or-close, it-open, it-close, lp-open, lp-close, loop-exit, end, Diagram, rowCount, kind, isTrigger, isKind, beta, turnLimit, kills}
 use Rattle.effbd.specs.Counts.{Tally, shared, copy, countTotal, tally, initialCount}
 use Rattle.effbd.specs.Nesting.{owner, branchEnded, close, branchOf, readDiagram}
 use Rattle.effbd.specs.Layout.{byPlace, places, placeOf}
@@ -77,7 +77,7 @@ module _ (d : Diagram) where
     count = λ k. cond (ltb k (countTotal d)) (getD words (countAt k) 0) 0;
   }
 
-  -- the row that entering q changes: "a BRANCH or close of an AND makes the BRANCH row of the branch just ended done;
+  -- the row that entering q changes where no branch kills: "a BRANCH or close of an AND makes the BRANCH row of the branch just ended done;
   -- a BRANCH or close of an OR makes the OR close ready; any other row becomes ready" (`ofAnd`: q's construct is an AND)
   abbrev pub enteredAs : Kind → Bool → ℕ → ℕ
   enteredAs function ofAnd q = q
@@ -106,11 +106,24 @@ module _ (d : Diagram) where
     count = s .count;
   }
 
+  -- 02, CR 3: q ends a branch that kills
+  unfoldable pub endsKiller : ℕ → Bool
+  endsKiller q = (isKind d branch q || isKind d and-close q) && (isKind d and-open (owner d q) && kills d (branchEnded d q))
+
+  -- "When it ends, every row strictly inside that AND is cleared, turns and clocks too, then all its BRANCH rows are done":
+  -- the rows that entering q clears, and the rows that it makes active
+  unfoldable pub killed : ℕ → ℕ → Bool
+  killed q x = endsKiller q && between (owner d q) (close d (owner d q)) x
+
+  unfoldable pub entered : ℕ → ℕ → Bool
+  entered q x = cond (endsKiller q) (branchOf d (owner d q) x) (only (enteredRow q) x)
+
   -- "*Entering* row s"
   abbrev pub enter : ℕ → State → State
-  enter q s = activate (only (enteredRow q)) s
+  enter q s = activate (entered q) (clearRows (killed q) s)
 
   -- "for every branch the row after its BRANCH is entered": the rows that this changes, of the AND that row o opens
+  -- (none of them ends a branch that kills: that branch would be empty, 44)
   unfoldable pub branchEntries : ℕ → ℕ → Bool
   branchEntries o q = not (allBelow (rowCount d) (λ b. not (branchOf d o b && only q (enteredRow (suc b)))))
 

@@ -50,3 +50,5 @@ pub const NOT_FUNCTION: u16 = 41;
 pub const MOVE_REFUSED: u16 = 42;
 
 pub const TRIGGER_OFF: u16 = 43;
+
+pub const KILLING_BRANCH_EMPTY: u16 = 44;

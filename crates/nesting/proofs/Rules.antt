@@ -8,24 +8,24 @@ use native.Mathlib.Numerals.{add-one}
 use lib.ListN.{length, List·getD-eq-default}
 use lib.Dec.{leb, ltb, eqb}
 use borrow.Author.Tests.{ltb-true, ltb-false, eqb-true, eq-eqb, ne-eqb}
-use Rattle.effbd.specs.Diagrams.{Kind, function, and-open, branch, and-close, or-open, or-close, it-open, it-close, lp-open, lp-close, loop-exit, end, numberOf, sameKind, Row, plain, Diagram, rowCount, kind, isKind}
-use Rattle.effbd.specs.Nesting.{Frame, push, turnTo, pop, passing, innermostOpen, stack, innermostIs, someOpen, noneOpen, inAndOr, twoBranches, follows, standsAs, nestingBroken, exitMisplaced, thirteenthOpen, nestingFault}
-use Rattle.ranges.specs.Tests.{decide, clash, or-false-left}
+use Rattle.effbd.specs.Diagrams.{Kind, function, and-open, branch, and-close, or-open, or-close, it-open, it-close, lp-open, lp-close, loop-exit, end, numberOf, sameKind, Row, plain, Diagram, rowCount, row, kind, isKind, kills}
+use Rattle.effbd.specs.Nesting.{Frame, push, turnTo, pop, passing, innermostOpen, stack, innermostIs, someOpen, noneOpen, twoBranches, follows, standsAs, nestingBroken, killerEmpty, exitMisplaced, thirteenthOpen, nestingFault}
+use Rattle.ranges.specs.Tests.{decide, clash, and-left, and-right, or-false-left}
 use Rattle.nesting.specs.declared.Part.{Part}
 use Rattle.nesting.specs.declared.Part.the-variants.{Opens, Turns, Closes, Stays}
 use Rattle.nesting.specs.declared.Open.{Open}
-use Rattle.nesting.specs.Runs.{partOf, kindIn, topIn, isAndOr, exitFits, closesIn, stayFault, lastFault, Kinds, Shows}
+use Rattle.nesting.specs.Runs.{partOf, kindIn, firstIn, topIn, isAndOr, exitFits, closesIn, stayFault, lastFault, killerFault, branchFault, openFault, Kinds, Shows}
 
 -- the fault of a row that is not the last and stands behind no AND open or OR open, by its part
-abbrev pub faultBy : Part → (kind next top : ℕ) (two looped : Bool) (depth : ℕ) → ℕ
-faultBy Opens k next top two looped depth = cond (leb 12 depth) 9 0
-faultBy Turns k next top two looped depth = cond (isAndOr top) 0 7
-faultBy Closes k next top two looped depth = cond (closesIn k top two) 0 7
-faultBy Stays k next top two looped depth = stayFault k next top looped
+abbrev pub faultBy : Part → (kind first next top : ℕ) (two looped : Bool) (depth : ℕ) → ℕ
+faultBy Opens k first next top two looped depth = cond (leb 12 depth) 9 0
+faultBy Turns k first next top two looped depth = branchFault first next top
+faultBy Closes k first next top two looped depth = cond (closesIn k top two) 0 7
+faultBy Stays k first next top two looped depth = stayFault k next top looped
 
 -- the same of row q of the table, where `o` is open
 abbrev pub faultIn : List ℕ → ℕ → ℕ → Open → Part → ℕ
-faultIn table rows q o part = faultBy part (kindIn table rows q) (kindIn table rows (q + 1)) (topIn table rows o) (ltb (o .opened + 1) (o .latest)) (o .looped) (o .depth)
+faultIn table rows q o part = faultBy part (kindIn table rows q) (firstIn table q) (kindIn table rows (q + 1)) (topIn table rows o) (ltb (o .opened + 1) (o .latest)) (o .looped) (o .depth)
 
 -- what a row does, by its part
 abbrev pub passingBy : Part → ℕ → List Frame → List Frame
@@ -97,10 +97,6 @@ module _ (d : Diagram) where
   none-is [] = refl
   none-is (f ∷ fs) = sym (shape (kind d (f .opened)) .nonzero .0)
 
-  fork-is : (fs : List Frame) → inAndOr d fs ≡ isAndOr (topNumber fs)
-  unfolding isAndOr
-  fork-is fs = rw (top-is and-open fs, top-is or-open fs)
-
   -- behind a row that is no AND open or OR open any row may stand
   pub free-behind : (q : ℕ) → isAndOr (numberOf (kind d q)) ≡ false → follows d (q + 1) ≡ true
   unfolding isAndOr
@@ -136,13 +132,22 @@ module _ (d : Diagram) where
   swap true n = refl
   swap false n = refl
 
+  -- 7 before 44; an AND is innermost, or an OR; the BRANCH kills; its branch is empty
+  branch-same : (inAnd inOr kill empty : Bool) → _≡_ {A = ℕ} (cond (not ((inAnd || inOr) && (not kill || inAnd))) 7 (cond (kill && empty) 44 0)) (cond kill (cond inAnd (cond empty 44 0) 7) (cond (inAnd || inOr) 0 7))
+  branch-same true inOr true empty = refl
+  branch-same true inOr false empty = refl
+  branch-same false true true empty = refl
+  branch-same false true false empty = refl
+  branch-same false false true empty = refl
+  branch-same false false false empty = refl
+
   inside-as : (k : Kind) (next q : ℕ) (fs : List Frame) → eqb (suc q) (rowCount d) ≡ false
-      → cond (not (standsAs d k q fs)) 7 (cond (sameKind k loop-exit && not (exitFits next (topNumber fs) (someOpen d lp-open fs))) 8 (cond (opening (partOf (numberOf k)) && leb 12 (length fs)) 9 0))
-      ≡ faultBy (partOf (numberOf k)) (numberOf k) next (topNumber fs) (twoBranches d fs) (someOpen d lp-open fs) (length fs)
-  unfolding partOf closesIn stayFault
+      → cond (not (standsAs d k q fs)) 7 (cond (sameKind k branch && (kills d q && (eqb next 18 || eqb next 19))) 44 (cond (sameKind k loop-exit && not (exitFits next (topNumber fs) (someOpen d lp-open fs))) 8 (cond (opening (partOf (numberOf k)) && leb 12 (length fs)) 9 0)))
+      ≡ faultBy (partOf (numberOf k)) (numberOf k) (row d q .first) next (topNumber fs) (twoBranches d fs) (someOpen d lp-open fs) (length fs)
+  unfolding partOf isAndOr closesIn stayFault killerFault branchFault
   inside-as function next q fs l = refl
   inside-as and-open next q fs l = refl
-  inside-as branch next q fs l = rw (fork-is fs) (swap (isAndOr (topNumber fs)) 7)
+  inside-as branch next q fs l = rw (top-is and-open fs, top-is or-open fs) (branch-same (eqb (topNumber fs) 17) (eqb (topNumber fs) 20) (kills d q) (eqb next 18 || eqb next 19))
   inside-as and-close next q fs l = rw (top-is and-open fs) (swap (eqb (topNumber fs) 17 && twoBranches d fs) 7)
   inside-as or-open next q fs l = refl
   inside-as or-close next q fs l = rw (top-is or-open fs) (swap (eqb (topNumber fs) 20 && twoBranches d fs) 7)
@@ -153,9 +158,13 @@ module _ (d : Diagram) where
   inside-as loop-exit next q fs l = swap (exitFits next (topNumber fs) (someOpen d lp-open fs)) 8
   inside-as end next q fs l = rw (l, and-false (noneOpen d fs))
 
-  last-as : (n : ℕ) (b x y : Bool) → _≡_ {A = ℕ} (cond (not (eqb n 27 && b)) 7 (cond (eqb n 26 && x) 8 (cond (opening (partOf n) && y) 9 0))) (cond (eqb n 27 && b) 0 7)
+  last-as : (n : ℕ) (b e x y : Bool) → _≡_ {A = ℕ} (cond (not (eqb n 27 && b)) 7 (cond (eqb n 18 && e) 44 (cond (eqb n 26 && x) 8 (cond (opening (partOf n) && y) 9 0)))) (cond (eqb n 27 && b) 0 7)
   unfolding partOf
-  last-as n b x y = decide (eqb n 27) (λ e. rw (eqb-true n 27 e) (swap b 7)) (λ e. rw e)
+  last-as n b e x y = decide (eqb n 27) (λ z. rw (eqb-true n 27 z) (swap b 7)) (λ z. rw z)
+
+  empty-is : (q : ℕ) → killerEmpty d q ≡ (isKind d branch q && (kills d q && (eqb (numberOf (kind d (q + 1))) 18 || eqb (numberOf (kind d (q + 1))) 19)))
+  unfolding killerEmpty
+  empty-is q = rw (add-one q)
 
   module _ (q : ℕ) (f : follows d q ≡ true) where
     deep-is : thirteenthOpen d q ≡ (opening (partOf (numberOf (kind d q))) && leb 12 (length (stack d q)))
@@ -164,9 +173,9 @@ module _ (d : Diagram) where
 
     -- the fault of a row that is not the last, by its part
     inside-is : eqb (suc q) (rowCount d) ≡ false → nestingFault d q
-        ≡ faultBy (partOf (numberOf (kind d q))) (numberOf (kind d q)) (numberOf (kind d (q + 1))) (topNumber (stack d q)) (twoBranches d (stack d q)) (someOpen d lp-open (stack d q)) (length (stack d q))
+        ≡ faultBy (partOf (numberOf (kind d q))) (numberOf (kind d q)) (row d q .first) (numberOf (kind d (q + 1))) (topNumber (stack d q)) (twoBranches d (stack d q)) (someOpen d lp-open (stack d q)) (length (stack d q))
     unfolding nestingFault nestingBroken
-    inside-is l = rw (f, l, and-true (standsAs d (kind d q) q (stack d q)), exit-is q, deep-is) (inside-as (kind d q) (numberOf (kind d (q + 1))) q (stack d q) l)
+    inside-is l = rw (f, l, and-true (standsAs d (kind d q) q (stack d q)), empty-is q, exit-is q, deep-is) (inside-as (kind d q) (numberOf (kind d (q + 1))) q (stack d q) l)
 
     -- the fault of the last row
     last-is : eqb (suc q) (rowCount d) ≡ true → nestingFault d q ≡ lastFault (numberOf (kind d q)) (topNumber (stack d q))
@@ -174,8 +183,8 @@ module _ (d : Diagram) where
     last-is l =
         let s : (standsAs d (kind d q) q (stack d q) && isKind d end q) ≡ (isKind d end q && eqb (topNumber (stack d q)) 0) =
         and-comm (standsAs d (kind d q) q (stack d q)) (isKind d end q) ∙ (shape (kind d q) .last d q (stack d q) ∙ rw (l, and-true (noneOpen d (stack d q)), none-is (stack d q))) in
-        rw (f, l, s, exit-is q, deep-is)
-        (last-as (numberOf (kind d q)) (eqb (topNumber (stack d q)) 0) (not (exitFits (numberOf (kind d (q + 1))) (topNumber (stack d q)) (someOpen d lp-open (stack d q)))) (leb 12 (length (stack d q))))
+        rw (f, l, s, empty-is q, exit-is q, deep-is)
+        (last-as (numberOf (kind d q)) (eqb (topNumber (stack d q)) 0) (kills d q && (eqb (numberOf (kind d (q + 1))) 18 || eqb (numberOf (kind d (q + 1))) 19)) (not (exitFits (numberOf (kind d (q + 1))) (topNumber (stack d q)) (someOpen d lp-open (stack d q)))) (leb 12 (length (stack d q))))
 
   -- behind an AND open or OR open: a BRANCH that is not the last row stands there, all else does not
   module _ (q : ℕ) (h : isAndOr (numberOf (kind d q)) ≡ true) where
@@ -183,14 +192,15 @@ module _ (d : Diagram) where
     unfolding isAndOr
     forked = ap (follows d) (add-one q) ∙ rw (h, add-one q)
 
-    pub branched : partOf (numberOf (kind d q)) ≡ Opens → isKind d branch (q + 1) ≡ true → q + 1 + 1 < rowCount d → nestingFault d (q + 1) ≡ 0
+    branched : partOf (numberOf (kind d q)) ≡ Opens → isKind d branch (q + 1) ≡ true → q + 1 + 1 < rowCount d
+        → nestingFault d (q + 1) ≡ branchFault (row d (q + 1) .first) (numberOf (kind d (q + 1 + 1))) (numberOf (kind d q))
     unfolding partOf topNumber
     branched opens b l =
         let inner : eqb (suc (q + 1)) (rowCount d) ≡ false = ne-eqb (suc (q + 1)) (rowCount d) (λ z. absurd (omega arith)) in
         let top : topNumber (stack d (q + 1)) ≡ numberOf (kind d q) = ap topNumber (stack-next q Opens opens) in
-        inside-is (q + 1) (forked ∙ b) inner ∙ rw (eqb-true (numberOf (kind d (q + 1))) 18 b, top, h)
+        inside-is (q + 1) (forked ∙ b) inner ∙ rw (eqb-true (numberOf (kind d (q + 1))) 18 b, top)
 
-    pub unbranched : q + 1 < rowCount d → (isKind d branch (q + 1) && ltb (q + 1 + 1) (rowCount d)) ≡ false → nestingFault d (q + 1) ≡ 7
+    unbranched : q + 1 < rowCount d → (isKind d branch (q + 1) && ltb (q + 1 + 1) (rowCount d)) ≡ false → nestingFault d (q + 1) ≡ 7
     unfolding nestingFault nestingBroken lastFault
     unbranched l e = decide (isKind d branch (q + 1))
         (λ b. let last : eqb (suc (q + 1)) (rowCount d) ≡ true = eq-eqb (suc (q + 1)) (rowCount d) (omega (arith, ltb-false (q + 1 + 1) (rowCount d) (rw b at e))) in
@@ -204,18 +214,29 @@ module _ (d : Diagram) where
         (λ e. let past : rowCount d ≤ q = omega (arith, k .count, ltb-false q rows e) in
         rw e (sym (ap (λ (r : Row). numberOf (r .kind)) (List·getD-eq-default (d .rows) (plain end) past))))
 
+    -- THEOREM: behind an AND open or OR open the code's fault is the definition's
+    pub open-fault-is : (q : ℕ) → q + 1 < rows → isAndOr (kindIn table rows q) ≡ true → partOf (numberOf (kind d q)) ≡ Opens
+        → nestingFault d (q + 1) ≡ openFault table rows (q + 1) (kindIn table rows q)
+    unfolding openFault
+    open-fault-is q l h opens =
+        let fork : isAndOr (numberOf (kind d q)) ≡ true = ap isAndOr (sym (kind-is q)) ∙ h in
+        rw (kind-is (q + 1), kind-is (q + 1 + 1), kind-is q, k .first (q + 1) l, k .count)
+        (decide (isKind d branch (q + 1) && ltb (q + 1 + 1) (rowCount d))
+        (λ e. rw e (branched q fork opens (and-left (isKind d branch (q + 1)) _ e) (ltb-true (q + 1 + 1) (rowCount d) (and-right (isKind d branch (q + 1)) _ e))))
+        (λ e. rw e (unbranched q fork (omega (arith, k .count)) e)))
+
     top-shown : (fs : List Frame) (o : Open) → Shows d fs o → topIn table rows o ≡ topNumber fs
     unfolding topIn topNumber
     top-shown [] o s = rw (s .depth)
     top-shown (f ∷ fs) o s = rw (ne-eqb (o .depth) 0 (λ z. let h = s .depth in absurd (omega arith)), s .opened) (kind-is (f .opened))
 
     module _ (q : ℕ) (o : Open) (s : Shows d (stack d q) o) (f : follows d q ≡ true) where
-      -- THEOREM: the code's fault is the definition's
+      -- THEOREM: anywhere else the code's fault is the definition's
       pub fault-is : (part : Part) → q + 1 < rows → partOf (kindIn table rows q) ≡ part → nestingFault d q ≡ faultIn table rows q o part
       fault-is part l e =
           let inner : eqb (suc q) (rowCount d) ≡ false = ne-eqb (suc q) (rowCount d) (λ z. absurd (omega (arith, k .count))) in
           let two : twoBranches d (stack d q) ≡ ltb (o .opened + 1) (o .latest) = rw (s .opened, s .latest, add-one (innermostOpen (stack d q))) in
-          rw (← e, kind-is q, kind-is (q + 1), top-shown (stack d q) o s, ← two, s .looped, s .depth) (inside-is q f inner)
+          rw (← e, kind-is q, kind-is (q + 1), top-shown (stack d q) o s, k .first q (omega arith), ← two, s .looped, s .depth) (inside-is q f inner)
 
       pub last-fault-is : q + 1 ≡ rows → nestingFault d q ≡ lastFault (kindIn table rows q) (topIn table rows o)
       last-fault-is l = rw (kind-is q, top-shown (stack d q) o s) (last-is q f (eq-eqb (suc q) (rowCount d) (omega (arith, k .count))))

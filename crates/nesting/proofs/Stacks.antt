@@ -11,7 +11,7 @@ use borrow.Author.Tests.{ltb-false, eqb-true, eq-eqb, ne-eqb, not-false}
 use Rattle.effbd.specs.Answers.{accepted, refused}
 use Rattle.effbd.specs.Ranges.{least, only}
 use Rattle.effbd.specs.Diagrams.{lp-open, end, numberOf, Diagram, rowCount, kind, isKind}
-use Rattle.effbd.specs.Nesting.{Frame, pop, innermostOpen, stack, owner, isClose, close, innermost, loop, follows, standsAs, nestingBroken, exitMisplaced, thirteenthOpen, nestingFault, firstFaulty, nested}
+use Rattle.effbd.specs.Nesting.{Frame, pop, innermostOpen, stack, owner, isClose, close, innermost, loop, follows, standsAs, nestingBroken, killerEmpty, exitMisplaced, thirteenthOpen, nestingFault, firstFaulty, nested}
 use Rattle.ranges.specs.Tests.{decide, clash, or-false-right}
 use Rattle.ranges.specs.RangeLaws.{least-found, least-low}
 use Rattle.agreement.specs.ByteLaws.{never}
@@ -164,7 +164,7 @@ module _ (d : Diagram) where
         last true false z = clash refl z
         last false b z = clash refl z
 
-        go : (b : Bool) → nestingBroken d q ≡ b → _≡_ {A = ℕ} (cond b 7 (cond (exitMisplaced d q) 8 (cond (thirteenthOpen d q) 9 0))) 0 → isKind d end q ≡ true
+        go : (b : Bool) → nestingBroken d q ≡ b → _≡_ {A = ℕ} (cond b 7 (cond (killerEmpty d q) 44 (cond (exitMisplaced d q) 8 (cond (thirteenthOpen d q) 9 0)))) 0 → isKind d end q ≡ true
         go true h z = absurd (omega arith)
         go false h z = last (follows d q) (standsAs d (kind d q) q (stack d q)) (unfold nestingBroken in h)
 

@@ -11,7 +11,7 @@ use lib.Dec.{ltb, eqb}
 use borrow.Author.Tests.{eqb-true, eqb-false, ltb-true, ltb-false, lt-ltb, le-ltb, lt-leb, le-leb}
 use Rattle.effbd.specs.Answers.{accepted, unless}
 use Rattle.effbd.specs.Ranges.{least}
-use Rattle.effbd.specs.Diagrams.{Diagram, branch, numberOf, rowCount, kind, isKind}
+use Rattle.effbd.specs.Diagrams.{Diagram, numberOf, rowCount, kind}
 use Rattle.effbd.specs.Nesting.{Frame, stack, nestingFault, firstFaulty, nested}
 use Rattle.ranges.specs.Tests.{decide, and-left, and-right}
 use Rattle.ranges.specs.RangeLaws.{least-is, least-none}
@@ -22,9 +22,9 @@ use Rattle.nesting.specs.declared.Run.{Run}
 use Rattle.nesting.specs.declared.Run.the-variants.{Judged, Turned, Closed}
 use Rattle.nesting.specs.declared.Construct.{Construct}
 use Rattle.nesting.specs.declared.Construct.the-variants.{Judged as WasJudged, Closed as WasClosed}
-use Rattle.nesting.specs.Runs.{partOf, kindIn, topIn, isAndOr, loopsIn, closesIn, lastFault, branchFollows, Kinds, Shows, At, Clean, AllJudged, Reached, Ends, RunEnded, RunWithin, RunRead, ConstructEnded, ConstructWithin, ConstructRead, NestingRead}
+use Rattle.nesting.specs.Runs.{partOf, kindIn, topIn, isAndOr, loopsIn, closesIn, lastFault, openFault, Kinds, Shows, At, Clean, AllJudged, Reached, Ends, RunEnded, RunWithin, RunRead, ConstructEnded, ConstructWithin, ConstructRead, NestingRead}
 use Rattle.ranges.specs.Outcomes.{unless-refused}
-use Rattle.nesting.proofs.Rules.{faultIn, passingBy, opening, ending, stack-next, free-behind, free-next, branched, unbranched, kind-is, fault-is, last-fault-is, bare-faulty}
+use Rattle.nesting.proofs.Rules.{faultIn, passingBy, opening, ending, stack-next, free-behind, free-next, kind-is, open-fault-is, fault-is, last-fault-is, bare-faulty}
 
 clean-none : (d : Diagram) (a : ℕ) → Clean d a a
 clean-none d a = record { fine = λ q l h. absurd (omega arith) }
@@ -142,12 +142,8 @@ module _ (table : List ℕ) (rows from : ℕ) (o : Open) (q : ℕ) (st : RunStat
         ends : (d : Diagram) → At table rows from o d → Ends d part from q
         ends d a = record { clean = clean-past d a; does = does d a; around = st .reached d a .around }
 
-    module _ (e : partOf (kindIn table rows q) ≡ Turns) where
-      pub run-turned : isAndOr (topIn table rows o) ≡ true → RunRead table rows from o (Turned q)
-      run-turned h = record { within = (st .low, l); ended = ends Turns e (rw h) }
-
-      pub run-astray : isAndOr (topIn table rows o) ≡ false → RunRead table rows from o (Judged 7 q)
-      run-astray h = run-fault Turns e 7 (rw h) (λ z. absurd (omega arith))
+    pub run-turned : partOf (kindIn table rows q) ≡ Turns → 0 ≡ faultIn table rows q o Turns → RunRead table rows from o (Turned q)
+    run-turned e fine = record { within = (st .low, l); ended = ends Turns e fine }
 
     module _ (e : partOf (kindIn table rows q) ≡ Closes) where
       pub run-closed : closesIn (kindIn table rows q) (topIn table rows o) (ltb (o .opened + 1) (o .latest)) ≡ true → RunRead table rows from o (Closed q)
@@ -225,34 +221,34 @@ module _ (table : List ℕ) (rows opened : ℕ) (o : Open) (l : opened + 1 < row
   }
 
   -- an AND or OR: behind its first BRANCH
-  module _ (h : isAndOr (kindIn table rows opened) ≡ true) where
-    branch-is : (d : Diagram) → At table rows opened o d → branchFollows table rows (opened + 1) ≡ (isKind d branch (opened + 1) && ltb (opened + 1 + 1) (rowCount d))
-    unfolding branchFollows
-    branch-is d a = rw (kind-is d rows table (a .kinds) (opened + 1), a .kinds .count)
+  module _ (h : isAndOr (kindIn table rows opened) ≡ true) (fault : ℕ) (ef : fault ≡ openFault table rows (opened + 1) (kindIn table rows opened)) where
+    at-open : (d : Diagram) → At table rows opened o d → partOf (numberOf (kind d opened)) ≡ Opens → nestingFault d (opened + 1) ≡ fault
+    at-open d a e = open-fault-is d rows table (a .kinds) opened l h e ∙ sym ef
 
-    pub construct-branched : branchFollows table rows (opened + 1) ≡ true → ConstructState table rows opened o (opened + 1) (opened + 1 + 1)
-    unfolding branchFollows partOf
-    construct-branched f = record {
-      low = omega arith;
-      high = ltb-true (opened + 1 + 1) rows (and-right (eqb (kindIn table rows (opened + 1)) 18) (ltb (opened + 1 + 1) rows) f);
-      reached = λ d a e.
-          let g = sym (branch-is d a) ∙ f in
-          let b = and-left (isKind d branch (opened + 1)) (ltb (opened + 1 + 1) (rowCount d)) g in
-          let m = ltb-true (opened + 1 + 1) (rowCount d) (and-right (isKind d branch (opened + 1)) (ltb (opened + 1 + 1) (rowCount d)) g) in
-          passed d Turns (opened + 1) (opened + 1) (framed d opened (opened + 1)) refl (pushed d opened e) (record {
-            clean = clean-more d (opened + 1) (opened + 1) (clean-none d (opened + 1)) (branched d opened (and-or-is d a h) e b m);
-            does = ap partOf (eqb-true (numberOf (kind d (opened + 1))) 18 b);
+    follows-open : fault ≡ 0 → (eqb (kindIn table rows (opened + 1)) 18 && ltb (opened + 1 + 1) rows) ≡ true
+    unfolding openFault
+    follows-open z = decide (eqb (kindIn table rows (opened + 1)) 18 && ltb (opened + 1 + 1) rows) (λ e. e) (λ e. absurd (let y : _≡_ {A = ℕ} 0 7 = sym z ∙ (rw e at ef) in omega arith))
+
+    pub construct-branched : fault ≡ 0 → ConstructState table rows opened o (opened + 1) (opened + 1 + 1)
+    unfolding partOf
+    construct-branched z =
+        let f = follows-open z in
+        record {
+          low = omega arith;
+          high = ltb-true (opened + 1 + 1) rows (and-right (eqb (kindIn table rows (opened + 1)) 18) (ltb (opened + 1 + 1) rows) f);
+          reached = λ d a e. passed d Turns (opened + 1) (opened + 1) (framed d opened (opened + 1)) refl (pushed d opened e) (record {
+            clean = clean-more d (opened + 1) (opened + 1) (clean-none d (opened + 1)) (at-open d a e ∙ z);
+            does = ap partOf (sym (kind-is d rows table (a .kinds) (opened + 1)) ∙ eqb-true (kindIn table rows (opened + 1)) 18 (and-left (eqb (kindIn table rows (opened + 1)) 18) _ f));
             around = refl;
           });
-    }
+        }
 
-    pub construct-unbranched : branchFollows table rows (opened + 1) ≡ false → ConstructRead table rows opened o (WasJudged 7 (opened + 1))
-    construct-unbranched f = record {
-      within = (omega arith, λ z. absurd (omega arith));
+    pub construct-unbranched : fault ≢ 0 → ConstructRead table rows opened o (WasJudged fault (opened + 1))
+    construct-unbranched ne = record {
+      within = (omega arith, λ z. absurd (ne z));
       ended = λ d a e. record {
-        good = λ z. absurd (omega arith);
-        bad = λ z. let m : opened + 1 < rowCount d = omega (arith, a .kinds .count) in
-            (omega arith, m, unbranched d opened (and-or-is d a h) m (sym (branch-is d a) ∙ f), clean-none d (opened + 1));
+        good = λ z. absurd (ne z);
+        bad = λ z. (omega arith, omega (arith, a .kinds .count), at-open d a e, clean-none d (opened + 1));
       };
     }
 

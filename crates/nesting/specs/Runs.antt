@@ -7,7 +7,7 @@ use mathlib.Core.List.{List}
 use lib.ListN.{length, getD}
 use lib.Dec.{ltb, eqb}
 use Rattle.effbd.specs.Answers.{accepted, unless}
-use Rattle.effbd.specs.Diagrams.{Diagram, lp-open, numberOf, rowCount, kind}
+use Rattle.effbd.specs.Diagrams.{mostRows, Diagram, lp-open, numberOf, rowCount, row, kind}
 use Rattle.effbd.specs.Nesting.{Frame, innermostOpen, latestBranch, stack, someOpen, follows, nestingFault, nested}
 use Rattle.nesting.specs.declared.Part.{Part}
 use Rattle.nesting.specs.declared.Part.the-variants.{Opens, Turns, Closes, Stays}
@@ -25,6 +25,10 @@ partOf k = cond (eqb k 17) Opens (cond (eqb k 18) Turns (cond (eqb k 19) Closes 
 -- the kind of a row in the table; behind the last row an END
 unfoldable pub kindIn : List ℕ → ℕ → ℕ → ℕ
 kindIn table rows q = cond (ltb q rows) (getD table q 0) 27
+
+-- the first field of a row in the table
+abbrev pub firstIn : List ℕ → ℕ → ℕ
+firstIn table q = getD table (mostRows + q) 0
 
 unfoldable pub topIn : List ℕ → ℕ → Open → ℕ
 topIn table rows o = cond (eqb (o .depth) 0) 0 (kindIn table rows (o .opened))
@@ -50,14 +54,23 @@ stayFault k next top looped = cond (eqb k 26) (cond (exitFits next top looped) 0
 unfoldable pub lastFault : (kind top : ℕ) → ℕ
 lastFault k top = cond (eqb k 27 && eqb top 0) 0 7
 
--- row q is a BRANCH and not the last row
-unfoldable pub branchFollows : List ℕ → ℕ → ℕ → Bool
-branchFollows table rows q = eqb (kindIn table rows q) 18 && ltb (q + 1) rows
+-- the fault of a BRANCH that kills and is not the last row: it stands in an AND only, and neither BRANCH nor close follows it
+unfoldable pub killerFault : (next top : ℕ) → ℕ
+killerFault next top = cond (eqb top 17) (cond (eqb next 18 || eqb next 19) 44 0) 7
 
--- the table has the kinds of a diagram's rows
+-- the fault of a BRANCH that is not the last row
+unfoldable pub branchFault : (first next top : ℕ) → ℕ
+branchFault first next top = cond (eqb first 1) (killerFault next top) (cond (isAndOr top) 0 7)
+
+-- the fault of row q, right behind an AND open or OR open
+unfoldable pub openFault : (table : List ℕ) (rows q top : ℕ) → ℕ
+openFault table rows q top = cond (eqb (kindIn table rows q) 18 && ltb (q + 1) rows) (branchFault (firstIn table q) (kindIn table rows (q + 1)) top) 7
+
+-- the table has the kinds of a diagram's rows, and their first fields
 pub record Kinds (d : Diagram) (rows : ℕ) (table : List ℕ) : Type 0 where
   pub count : rows ≡ rowCount d
   pub cell : (q : ℕ) → q < rows → getD table q 0 ≡ numberOf (kind d q)
+  pub first : (q : ℕ) → q < rows → firstIn table q ≡ row d q .first
 
 -- `o` is what a stack says
 pub record Shows (d : Diagram) (frames : List Frame) (o : Open) : Type 0 where
@@ -120,7 +133,7 @@ pub record ConstructRead (table : List ℕ) (rows opened : ℕ) (o : Open) (r : 
   pub within : ConstructWithin opened rows r
   pub ended : (d : Diagram) → At table rows opened o d → partOf (numberOf (kind d opened)) ≡ Opens → ConstructEnded d opened r
 
--- the nesting of the table's rows was judged: of every diagram that has their kinds, `nested` refuses that row with that number, or accepts
+-- the nesting of the table's rows was judged: of every diagram that has their kinds and first fields, `nested` refuses that row with that number, or accepts
 pub record NestingRead (table : List ℕ) (rows : ℕ) (r : Judgement) : Type 0 where
   pub within : r .row ≤ rows
   -- "0 and 0 for none"

@@ -1,11 +1,12 @@
-// The nesting of a diagram's rows: refusals 7 to 9. `read_run` reads a run of rows by its constructs, `read_construct` a construct by the
+// The nesting of a diagram's rows: refusals 7 to 9 and 44. `read_run` reads a run of rows by its constructs, `read_construct` a construct by the
 // runs inside it; they call each other, and the call stack is the stack of what is open. The rows left and the depth left fall together.
 // Nothing is asked of a caller: past the table's end a kind is 0, which no row has.
 ghost use mathlib.Core.Path.{_≡_};
 ghost use Prim.Native.Nat.{_+_, _≤_, _<_};
 ghost use Rattle.effbd.specs.Moves.{mostWord};
-ghost use Rattle.nesting.specs.Runs.{partOf, kindIn, topIn, isAndOr, exitFits, loopsIn, closesIn, stayFault, lastFault, branchFollows, RunRead, ConstructRead, NestingRead};
+ghost use Rattle.nesting.specs.Runs.{partOf, kindIn, topIn, firstIn, isAndOr, exitFits, loopsIn, closesIn, stayFault, lastFault, killerFault, branchFault, openFault, RunRead, ConstructRead, NestingRead};
 use effbd::limits::MOST_OPEN;
+use effbd::limits::MOST_ROWS;
 use effbd::refusals;
 use words::kinds;
 
@@ -143,9 +144,9 @@ fn stay_fault(kind: u16, next: u16, top: u16, looped: bool) -> u16
             if exit_fits(next, top, looped) {
                 return 0;
             }
-            8
+            refusals::LOOP_EXIT_MISPLACED
         }
-        kinds::END => 7,
+        kinds::END => refusals::NESTING_BROKEN,
         _ => 0,
     }
 }
@@ -163,15 +164,49 @@ fn last_fault(kind: u16, top: u16) -> u16
     0
 }
 
-// "AND open and OR open are followed by BRANCH at once": is the row behind one a BRANCH, and not the last row?
-fn branch_follows(table: &[u16], rows: usize, row: usize) -> bool
+// The fault of a BRANCH that kills and is not the last row: it stands in an AND only, and the next row, of kind `next`, does not end its branch.
+fn killer_fault(next: u16, top: u16) -> u16
+    ensures { λ r. ⌜ r ≡ killerFault next top ⌝ }
+{
+    if top != kinds::AND_OPEN {
+        return refusals::NESTING_BROKEN;
+    }
+    if next == kinds::BRANCH {
+        return refusals::KILLING_BRANCH_EMPTY;
+    }
+    if next == kinds::AND_CLOSE {
+        return refusals::KILLING_BRANCH_EMPTY;
+    }
+    0
+}
+
+// The fault of a BRANCH that is not the last row. Whether it kills is its first field; of one that does not, no other cell is looked at.
+fn branch_fault(table: &[u16], rows: usize, row: usize, top: u16) -> u16
     requires { ⌜ (row < rows) × (rows ≤ mostWord) ⌝ }
-    ensures { λ r. ⌜ r ≡ branchFollows (now (table .entry)) rows row ⌝ }
+    ensures { λ r. ⌜ r ≡ branchFault (firstIn (now (table .entry)) row) (kindIn (now (table .entry)) rows (row + 1)) top ⌝ }
+{
+    if words::get(table, MOST_ROWS as usize + row) == 1 {
+        return killer_fault(kind_in(table, rows, row + 1), top);
+    }
+    if is_and_or(top) {
+        return 0;
+    }
+    refusals::NESTING_BROKEN
+}
+
+// The fault of the row behind an AND open or OR open, whose kind is `top`: "AND open and OR open are followed by BRANCH at once", which is not
+// the last row.
+fn open_fault(table: &[u16], rows: usize, row: usize, top: u16) -> u16
+    requires { ⌜ (row < rows) × (rows ≤ mostWord) ⌝ }
+    ensures { λ r. ⌜ r ≡ openFault (now (table .entry)) rows row top ⌝ }
 {
     if kind_in(table, rows, row) != kinds::BRANCH {
-        return false;
+        return refusals::NESTING_BROKEN;
     }
-    row + 1 < rows
+    if rows <= row + 1 {
+        return refusals::NESTING_BROKEN;
+    }
+    branch_fault(table, rows, row, top)
 }
 
 // Reads rows from `from` on, up to the BRANCH or close of the construct that they stand in. No row of a run stands right behind an AND open
@@ -203,10 +238,11 @@ fn read_run(table: &[u16], rows: usize, from: usize, around: Open) -> Run
                 }
             }
             Part::Turns => {
-                if is_and_or(top) {
-                    return Run::Turned(row);
+                let fault = branch_fault(table, rows, row, top);
+                if fault != 0 {
+                    return Run::Judged(fault, row);
                 }
-                return Run::Judged(refusals::NESTING_BROKEN, row);
+                return Run::Turned(row);
             }
             Part::Closes => {
                 if closes(kind, top, two) {
@@ -241,8 +277,9 @@ fn read_construct(table: &[u16], rows: usize, opened: usize, around: Open) -> Co
     let mut latest = opened + 1;
     let mut from = opened + 1;
     if is_and_or(kind) {
-        if !branch_follows(table, rows, from) {
-            return Construct::Judged(refusals::NESTING_BROKEN, from);
+        let fault = open_fault(table, rows, from, kind);
+        if fault != 0 {
+            return Construct::Judged(fault, from);
         }
         from += 1;
     }
@@ -269,7 +306,7 @@ fn read_construct(table: &[u16], rows: usize, opened: usize, around: Open) -> Co
     }
 }
 
-// Judges the nesting of all rows; their kinds are the table's first words. Of no rows none is at fault.
+// Judges the nesting of all rows; their kinds are the table's first words, their first fields start at word 64. Of no rows none is at fault.
 pub fn read_nesting(table: &[u16], rows: u16) -> Judgement
     ensures { λ r. ⌜ NestingRead (now (table .entry)) rows r ⌝ }
 {

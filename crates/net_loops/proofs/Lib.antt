@@ -1,6 +1,3 @@
-pub mod Weights
-pub mod ClearRanges
-pub mod PatternRecords
-pub mod Entries
-pub mod LoopRecords
+mod EntryGives
 mod ComputedTransitions
+pub mod LoopRecords

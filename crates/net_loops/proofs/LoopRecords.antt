@@ -1,35 +1,39 @@
 -- THEOREM (it-open-is, loop-exit-is): the records of an IT open and of an LE over the table are those of their patterns.
 use Prim.Native.Nat.{ℕ, suc, _+_, _*_, _-_, _≤_, _<_}
-use mathlib.Core.Path.{_≡_, refl, ap, ap₂, sym, _∙_}
+use mathlib.Core.Path.{_≡_, refl, ap, ap₂, sym, _∙_, fun-ext}
 use mathlib.Core.Logic.{_≢_, _⊎_, inl, inr}
-use mathlib.Core.Bool.{true, false}
+use mathlib.Core.Bool.{Bool, true, false}
 use mathlib.Core.List.{List, [], _++_, append-assoc, append-nil}
 use native.Mathlib.Omega.{arith}
-use lib.Dec.{leb}
-use borrow.Author.Tests.{leb-false, le-leb, lt-leb, ne-eqb}
-use Rattle.effbd.specs.Ranges.{only, within}
-use Rattle.effbd.specs.Diagrams.{Diagram, it-open, loop-exit, end, rowCount, kind, isKind, turnLimit}
-use Rattle.effbd.specs.Layout.{byPlace}
-use Rattle.effbd.specs.Nesting.{close, loop, inLoop}
-use Rattle.effbd.specs.States.{enteredRow}
+use native.Mathlib.Numerals.{add-one}
+use borrow.Author.Tests.{eqb-true, le-leb, lt-leb, ne-eqb}
+use Rattle.effbd.specs.Ranges.{only, within, nobody, either}
+use Rattle.effbd.specs.Diagrams.{Diagram, and-open, it-open, loop-exit, end, rowCount, kind, isKind, turnLimit}
+use Rattle.effbd.specs.Layout.{Place, byPlace}
+use Rattle.effbd.specs.Nesting.{owner, close, loop, inLoop}
+use Rattle.effbd.specs.States.{endsKiller, enteredRow, killed, entered}
 use Rattle.effbd.specs.Nets.{takeArc, giveArc}
-use Rattle.effbd.specs.Patterns.{none, oneAt, weightOf, nowhere, atOnce, restoresR, patternsAs}
-use Rattle.ranges.specs.Tests.{decide, clash}
+use Rattle.effbd.specs.Patterns.{none, oneAt, weightOf, nowhere, atOnce, clearsRows, marksP, restoresR, passesTo, patternsAs}
+use Rattle.ranges.specs.Tests.{decide}
 use Rattle.ranges.specs.RangeLaws.{only-refl}
 use Rattle.agreement.specs.Basics.{not-kind}
 use Rattle.agreement.specs.AcceptedFiles.{Held}
 use Rattle.agreement.specs.Structure.{Laws, opens}
 use Rattle.agreement.specs.NestingLaws.{laws}
-use Rattle.agreement.specs.Reach.{close-in, entered-in}
+use Rattle.agreement.specs.Reach.{beyond, close-in, covered, entered-in}
+use Rattle.diagram_table.specs.Cells.{enteredIn}
 use Rattle.diagram_table.specs.Held.{Holds}
-use Rattle.diagram_table.proofs.HeldCells.{in-rows, kind-cell, close-cell}
+use Rattle.diagram_table.proofs.HeldCells.{in-rows, kind-cell, first-cell, close-cell, entered-cell}
 use Rattle.net_records.specs.Writing.{Records, runs, span}
 use Rattle.net_records.specs.Records.{arc}
 use Rattle.net_records.proofs.Runs.{runs-same, runs-span}
-use Rattle.net_loops.specs.LoopTransitions.{early, late, itTurn, itOpen, restore, leave, loopExit}
-use Rattle.net_loops.proofs.Weights.{arc-none, weights, count-none, at-P, mark-P, entry-among, it-gives}
-use Rattle.net_loops.proofs.PatternRecords.{patternRecords, allPatterns, one-clear, unclearing}
-use Rattle.net_loops.proofs.Entries.{entry-cell, next-entry, next-entered}
+use Rattle.net_loops.specs.LoopTransitions.{early, late, itTurn, killTurn, itOver, itOpen, leave, exitTurn, loopExit}
+use Rattle.net_entries.specs.Entering.{restore}
+use Rattle.net_entries.proofs.Weights.{arc-none, weights, count-none, at-P, mark-P}
+use Rattle.net_entries.proofs.PatternRecords.{patternRecords, allPatterns, one-clear, unclearing}
+use Rattle.net_entries.proofs.Entries.{next-entry, next-entered}
+use Rattle.net_entries.proofs.Kills.{sparing, no-rows, kills-is, owner-is, entering-kill, enter-is}
+use Rattle.net_loops.proofs.EntryGives.{entry-among, it-gives}
 
 -- an IT open: P and what it takes at Q or R; what it gives there, and the entry
 turn-is : (d : Diagram) (r e from into weight : ℕ) (tb tc gb gc : ℕ → ℕ) → r < rowCount d → e < rowCount d
@@ -43,33 +47,69 @@ turn-is d r e from into weight tb tc gb gc l m t g a b = unclearing d r 0 0 _ _ 
     (at-P d takeArc r tb tc none l t ∙ rw (count-none d takeArc, append-nil, a))
     (it-gives d gb gc e r m l g ∙ rw b) ∙ simp append-assoc
 
+-- a set that another covers adds nothing to it; the empty one adds nothing
+merged : (S W : ℕ → Bool) → ((x : ℕ) → S x ≡ true → W x ≡ true) → either S W ≡ W
+merged S W h = fun-ext (λ x. decide (S x) (λ e. rw (e, h x e)) (λ e. rw e))
+
+alone : (S : ℕ → Bool) → either S nobody ≡ S
+alone S = fun-ext (λ x. decide (S x) (λ e. rw e) (λ e. rw e))
+
 module _ (d : Diagram) (rows items : ℕ) (table : List ℕ) (h : Holds d rows items table) (held : Held d) where
   law : Laws d
   law = laws d (held .acc)
 
+  -- a transition of an IT open or LE that ends a branch that kills
+  module _ (r q : ℕ) (l : r < rowCount d) (m : q < rowCount d) (e : endsKiller d q ≡ true) where
+    kill-turn-is : (take : Place → ℕ) (weight : ℕ) → weights d takeArc take ≡ arc takeArc (3 * r) 1 ++ arc takeArc (3 * r + 1) weight
+        → patternRecords d r (atOnce take (clearsRows d (killed d q)) (byPlace (oneAt (entered d q)) none (restoresR d (killed d q)) none)) ≡ killTurn table r weight (owner d q)
+    unfolding killTurn
+    kill-turn-is take weight takes = enter-is d rows items table h held q m r 0 0 take none (arc takeArc (3 * r) 1 ++ arc takeArc (3 * r + 1) weight) [] takes (count-none d giveArc)
+        ∙ rw (entering-kill d rows items table h held q m e, append-nil) (simp append-assoc)
+
   pub it-open-is : (r : ℕ) → r < rowCount d → kind d r ≡ it-open → itOpen table r ≡ allPatterns d r (patternsAs d it-open r)
   unfolding itOpen allPatterns
-  it-open-is r l e = sym (ap₂ _++_
-      (turn-is d r (enteredRow d (suc r)) (3 * r + 2) (3 * r + 1) 1 none (oneAt (only r)) (oneAt (only r)) none l (next-entered d rows items table h held r no-end)
-      (λ q n. (refl, rw (ne-eqb q r n))) (λ q n. (rw (ne-eqb q r n), refl))
-      (rw (arc-none takeArc (3 * r + 1) refl, only-refl r)) (rw (arc-none giveArc (3 * r + 2) refl, only-refl r, append-nil))
-      ∙ ap (itTurn r (3 * r + 2) (3 * r + 1) 1) (sym (next-entry d rows items table h held r no-end)))
-      (append-nil _ ∙ (turn-is d r (enteredRow d (suc (close d r))) (3 * r + 1) (3 * r + 2) (turnLimit d r) (weightOf r (turnLimit d r)) none none (weightOf r (turnLimit d r)) l
-      (entered-in d (held .acc) (suc (close d r)) behind)
-      (λ q n. (rw (ne-eqb q r n), refl)) (λ q n. (refl, rw (ne-eqb q r n)))
-      (rw (arc-none takeArc (3 * r + 2) refl, only-refl r, append-nil)) (rw (arc-none giveArc (3 * r + 1) refl, only-refl r))
-      ∙ rw (h .records .firsts r (in-rows d rows items table h r l), close-cell d rows items table h r l, entry-cell d rows items table h (close d r) behind))))
+  it-open-is r l e = sym (ap₂ _++_ (first ∙ ap (itTurn r (3 * r + 2) (3 * r + 1) 1) (sym (next-entry d rows items table h held r no-end)))
+      (append-nil _ ∙ (second ∙ ap (itOver table r) (sym (rw (close-cell d rows items table h r l, add-one (close d r)))))))
     where
       no-end : kind d r ≢ end
       no-end = not-kind d r e end refl
 
-      behind : suc (close d r) < rowCount d
+      q : ℕ
+      q = suc (close d r)
+
+      behind : q < rowCount d
       behind = close-in d (held .acc) r (rw e)
 
+      first : patternRecords d r (atOnce (byPlace (oneAt (only r)) none (oneAt (only r)) none) (clearsRows d (killed d (suc r))) (byPlace (oneAt (entered d (suc r))) (oneAt (only r)) (restoresR d (killed d (suc r))) none))
+          ≡ itTurn r (3 * r + 2) (3 * r + 1) 1 (3 * enteredRow d (suc r))
+      first = let s = sparing d (suc r) (law .quiet r (rw e) (not-kind d r e and-open refl)) in
+          rw (s .0, s .1, no-rows d)
+          (turn-is d r (enteredRow d (suc r)) (3 * r + 2) (3 * r + 1) 1 none (oneAt (only r)) (oneAt (only r)) none l (next-entered d rows items table h held r no-end)
+          (λ x n. (refl, rw (ne-eqb x r n))) (λ x n. (rw (ne-eqb x r n), refl))
+          (rw (arc-none takeArc (3 * r + 1) refl, only-refl r)) (rw (arc-none giveArc (3 * r + 2) refl, only-refl r, append-nil)))
+
+      own : restoresR d (only r) ≡ weightOf r (turnLimit d r)
+      own = fun-ext (λ x. decide (only r x) (λ z. rw (z, eqb-true x r z, e)) (λ z. rw z))
+
+      -- its own rows are among those that it kills
+      mine : endsKiller d q ≡ true → (x : ℕ) → only r x ≡ true → killed d q x ≡ true
+      mine k x z = covered d (held .acc) r x (rw e) k (let w = law .shut r (rw e) .1 in let b = h .ownerLow (close d r) in let y = eqb-true x r z in rw (le-leb r x (omega arith), le-leb x (close d r) (omega arith)))
+
+      second : patternRecords d r (atOnce (byPlace (oneAt (only r)) (weightOf r (turnLimit d r)) none none) (clearsRows d (killed d q)) (byPlace (oneAt (entered d q)) none (restoresR d (either (only r) (killed d q))) none))
+          ≡ itOver table r (enteredIn table q)
+      second = unfold itOver in decide (endsKiller d q)
+          (λ k. rw (merged (only r) (killed d q) (mine k), kills-is d rows items table h held q behind, k, owner-is d rows items table h held q behind k, first-cell d rows items table h r l)
+          (kill-turn-is r q l behind k _ (turnLimit d r)
+          (at-P d takeArc r (weightOf r (turnLimit d r)) none none l (λ x n. (rw (ne-eqb x r n), refl)) ∙ rw (arc-none takeArc (3 * r + 2) refl, only-refl r, count-none d takeArc, append-nil, append-nil))))
+          (λ k. let s = sparing d q k in
+          rw (s .0, s .1, alone (only r), own, no-rows d, kills-is d rows items table h held q behind, k, entered-cell d rows items table h q behind, first-cell d rows items table h r l)
+          (turn-is d r (enteredRow d q) (3 * r + 1) (3 * r + 2) (turnLimit d r) (weightOf r (turnLimit d r)) none none (weightOf r (turnLimit d r)) l (entered-in d (held .acc) q behind)
+          (λ x n. (rw (ne-eqb x r n), refl)) (λ x n. (refl, rw (ne-eqb x r n)))
+          (rw (arc-none takeArc (3 * r + 2) refl, only-refl r, append-nil)) (rw (arc-none giveArc (3 * r + 1) refl, only-refl r))))
+
   pub loop-exit-is : (r : ℕ) → r < rowCount d → kind d r ≡ loop-exit → loopExit table r ≡ allPatterns d r (patternsAs d loop-exit r)
-  unfolding loopExit leave allPatterns patternRecords
-  loop-exit-is r l e = rw (h .loops r (in-rows d rows items table h r l), close-cell d rows items table h o ol, entry-cell d rows items table h c cl)
-      (sym (rw (append-nil, mark-P d takeArc r l, one-clear d o c low (let w = cl in omega arith) (held .rows), gives) (simp append-assoc)))
+  unfolding loopExit allPatterns
+  loop-exit-is r l e = rw (h .loops r (in-rows d rows items table h r l), close-cell d rows items table h o ol, add-one c, append-nil) (sym left)
     where
       o : ℕ
       o = loop d r
@@ -97,14 +137,18 @@ module _ (d : Diagram) (rows items : ℕ) (table : List ℕ) (h : Holds d rows i
       out q (inr m) = let w = low in rw (le-leb o q (omega arith), lt-leb q c m)
 
       -- the entry is not in the loop
-      beyond : o < t → c < t
-      beyond m = decide (leb t c) (λ z. clash (rw (le-leb o t (omega arith), z)) (law .leaves r e)) (λ z. leb-false t c z)
+      past : o < t → c < t
+      past m = go (beyond d (held .acc) o opened)
+        where
+          go : (t < o) ⊎ (c < t) → c < t
+          go (inl z) = absurd (omega arith)
+          go (inr z) = z
 
       g : ℕ → Records
       g q = arc giveArc (3 * q + 1) 0 ++ arc giveArc (3 * q + 2) (restoresR d (inLoop d r) q)
 
       turn : (q : ℕ) → o ≤ q → q ≤ c → g q ≡ restore table q
-      turn q a b = let w = cl in unfold restore in rw (arc-none giveArc (3 * q + 1) refl, le-leb o q a, le-leb q c b, kind-cell d rows items table h q (omega arith), h .records .firsts q (in-rows d rows items table h q (omega arith)))
+      turn q a b = let w = cl in unfold restore in rw (arc-none giveArc (3 * q + 1) refl, le-leb o q a, le-leb q c b, kind-cell d rows items table h q (omega arith), first-cell d rows items table h q (omega arith))
           (decide (isKind d it-open q) (λ z. rw z) (λ z. rw z (arc-none giveArc (3 * q + 2) refl)))
 
       off : (q : ℕ) → within o c q ≡ false → g q ≡ []
@@ -117,5 +161,15 @@ module _ (d : Diagram) (rows items : ℕ) (table : List ℕ) (h : Holds d rows i
       gives : weights d giveArc (byPlace (oneAt (only t)) none (restoresR d (inLoop d r)) none)
           ≡ arc giveArc (3 * t) (early (3 * t) (3 * o)) ++ (span (restore table) o (c + 1) ++ arc giveArc (3 * t) (late (3 * t) (3 * o)))
       gives = entry-among d none (restoresR d (inLoop d r)) t o (entered-in d (held .acc) (suc c) cl)
-          (λ m q k. (refl, rw (out q (inl (omega arith))))) (λ m q k. (refl, let w = beyond m in rw (out q (inr (omega arith)))))
+          (λ m q k. (refl, rw (out q (inl (omega arith))))) (λ m q k. (refl, let w = past m in rw (out q (inr (omega arith)))))
           ∙ rw restores
+
+      spared : patternRecords d r (atOnce (marksP (only r)) (clearsRows d (inLoop d r)) (byPlace (oneAt (only t)) none (restoresR d (inLoop d r)) none)) ≡ leave table r o c (3 * t)
+      spared = unfold leave patternRecords in rw (mark-P d takeArc r l, one-clear d o c low (let w = cl in omega arith) (held .rows), gives) (simp append-assoc)
+
+      left : patternRecords d r (passesTo d (only r) (inLoop d r) (suc c)) ≡ exitTurn table r o c (enteredIn table (suc c))
+      left = unfold exitTurn in decide (endsKiller d (suc c))
+          (λ k. rw (merged (inLoop d r) (killed d (suc c)) (λ x z. covered d (held .acc) o x opened k z), kills-is d rows items table h held (suc c) cl, k, owner-is d rows items table h held (suc c) cl k)
+          (kill-turn-is r (suc c) l cl k _ 0 (mark-P d takeArc r l ∙ rw (arc-none takeArc (3 * r + 1) refl, append-nil))))
+          (λ k. let s = sparing d (suc c) k in
+          rw (s .0, s .1, alone (inLoop d r), kills-is d rows items table h held (suc c) cl, k, entered-cell d rows items table h (suc c) cl) spared)

@@ -2,17 +2,13 @@
 -- Any words are a table: past its end a word is 0. Assumes nothing.
 use Prim.Native.Nat.{ℕ, _+_, _*_}
 use mathlib.Core.Bool.{cond}
-use mathlib.Core.List.{List, [], _++_}
-use lib.Dec.{leb, eqb}
-use Rattle.effbd.specs.Diagrams.{it-open, numberOf}
+use mathlib.Core.List.{List, _++_}
+use lib.Dec.{leb}
 use Rattle.effbd.specs.Nets.{takeArc, clearArc, giveArc}
-use Rattle.diagram_table.specs.Cells.{kindIn, firstIn, closeIn, loopIn, enteredIn}
+use Rattle.diagram_table.specs.Cells.{firstIn, ownerIn, closeIn, loopIn, killsIn, enteredIn}
 use Rattle.net_records.specs.Writing.{Records, span}
 use Rattle.net_records.specs.Records.{transition, pair, arc}
-
--- P of the row that entering a row changes
-unfoldable pub entry : List ℕ → ℕ → ℕ
-entry table q = 3 * enteredIn table q
+use Rattle.net_entries.specs.Entering.{entry, restore, kill}
 
 -- gives stand by rising places: the give to `to` stands before the gives to the places behind `place`, or after them
 unfoldable pub early : (to place : ℕ) → ℕ
@@ -26,18 +22,25 @@ unfoldable pub itTurn : (row from into weight to : ℕ) → Records
 itTurn row from into weight to = transition row 0 0 ++ arc takeArc (3 * row) 1 ++ arc takeArc from weight
     ++ arc giveArc to (early to (3 * row)) ++ arc giveArc into weight ++ arc giveArc to (late to (3 * row))
 
-unfoldable pub itOpen : (table : List ℕ) (row : ℕ) → Records
-itOpen table row = itTurn row (3 * row + 2) (3 * row + 1) 1 (entry table (row + 1))
-    ++ itTurn row (3 * row + 1) (3 * row + 2) (firstIn table row) (entry table (closeIn table row + 1))
+-- one that ends a branch that kills, in the AND that row o opens: an IT open takes its count from Q, an LE nothing
+unfoldable pub killTurn : (table : List ℕ) (row weight o : ℕ) → Records
+killTurn table row weight o = transition row 0 0 ++ arc takeArc (3 * row) 1 ++ arc takeArc (3 * row + 1) weight ++ kill table o
 
--- R of an IT open in a left loop
-unfoldable pub restore : (table : List ℕ) (q : ℕ) → Records
-restore table q = cond (eqb (kindIn table q) (numberOf it-open)) (arc giveArc (3 * q + 2) (firstIn table q)) []
+-- the second transition of an IT open, which enters the row after its close: `b` is the row that this changes
+unfoldable pub itOver : (table : List ℕ) (row b : ℕ) → Records
+itOver table row b = cond (killsIn table b) (killTurn table row (firstIn table row) (ownerIn table b)) (itTurn row (3 * row + 1) (3 * row + 2) (firstIn table row) (3 * b))
+
+unfoldable pub itOpen : (table : List ℕ) (row : ℕ) → Records
+itOpen table row = itTurn row (3 * row + 2) (3 * row + 1) 1 (entry table (row + 1)) ++ itOver table row (enteredIn table (closeIn table row + 1))
 
 unfoldable pub leave : (table : List ℕ) (row opened closed to : ℕ) → Records
 leave table row opened closed to = transition row 0 0 ++ arc takeArc (3 * row) 1 ++ pair clearArc (3 * opened) (3 * closed + 2)
     ++ arc giveArc to (early to (3 * opened)) ++ span (restore table) opened (closed + 1) ++ arc giveArc to (late to (3 * opened))
 
+-- an LE of the loop that row `opened` opens, which enters the row after its close: `b` is the row that this changes
+unfoldable pub exitTurn : (table : List ℕ) (row opened closed b : ℕ) → Records
+exitTurn table row opened closed b = cond (killsIn table b) (killTurn table row 0 (ownerIn table b)) (leave table row opened closed (3 * b))
+
 unfoldable pub loopExit : (table : List ℕ) (row : ℕ) → Records
 loopExit table row = let opened = loopIn table row in
-    let closed = closeIn table opened in leave table row opened closed (entry table (closed + 1))
+    let closed = closeIn table opened in exitTurn table row opened closed (enteredIn table (closed + 1))

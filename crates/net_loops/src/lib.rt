@@ -3,21 +3,15 @@
 ghost use mathlib.Core.Path.{_≡_};
 ghost use Prim.Native.Nat.{_+_};
 ghost use Rattle.net_records.specs.Writing.{Wrote, span};
-ghost use Rattle.net_loops.specs.LoopTransitions.{entry as entryOf, early as earlyOf, late as lateOf, itTurn, itOpen, restore as restoreRecords, leave as leaveRecords, loopExit};
+ghost use Rattle.net_entries.specs.Entering.{restore as restoreRecords};
+ghost use Rattle.net_loops.specs.LoopTransitions.{early as earlyOf, late as lateOf, itTurn, killTurn, itOver, itOpen, leave as leaveRecords, exitTurn, loopExit};
 use diagram_table::CLOSE;
 use diagram_table::FIRST;
 use diagram_table::LOOP;
-use words::kinds;
+use diagram_table::OWNER;
 use words::kinds::CLEAR;
 use words::kinds::GIVE;
 use words::kinds::TAKE;
-
-// P of the row that entering a row changes.
-pub fn entry(table: &[u16], row: u32) -> usize
-    ensures { λ r. ⌜ r ≡ entryOf (now (table .entry)) row ⌝ }
-{
-    3 * diagram_table::entered_row(table, row) as usize
-}
 
 // Gives stand by rising places: the weight of the give to `to` before the gives to the places behind `place`, and after them.
 fn early(to: usize, place: usize) -> u16
@@ -60,10 +54,40 @@ fn it_turn(
     net_records::arc(area, last, GIVE, to, after)
 }
 
+// A transition that ends a branch that kills, in the AND that row `opened` opens: an IT open takes its count from Q, an LE nothing.
+fn kill_turn(table: &[u16], row: u16, weight: u16, opened: u16, area: &mut [u8], at: usize) -> usize
+    ensures { λ r. ⌜ Wrote (now (area .entry)) at (now (area .exit)) r (killTurn (now (table .entry)) row weight opened) ⌝ }
+{
+    let own = net_records::transition(area, at, row as usize, 0, 0);
+    let takes = net_records::arc(area, own, TAKE, 3 * row as usize, 1);
+    let kills = net_records::arc(area, takes, TAKE, 3 * row as usize + 1, weight);
+    net_entries::kill(table, opened, area, kills)
+}
+
+// The second transition of an IT open, its turns being over: `changed` is the row that entering the row after its close changes.
+fn it_over(table: &[u16], row: u16, changed: u32, area: &mut [u8], at: usize) -> usize
+    ensures { λ r. ⌜ Wrote (now (area .entry)) at (now (area .exit)) r (itOver (now (table .entry)) row changed) ⌝ }
+{
+    let count = diagram_table::cell(table, FIRST, row as u32);
+    if diagram_table::kills(table, changed) {
+        let opened = diagram_table::cell(table, OWNER, changed);
+        return kill_turn(table, row, count, opened, area, at);
+    }
+    it_turn(
+        row,
+        3 * row as usize + 1,
+        3 * row as usize + 2,
+        count,
+        3 * changed as usize,
+        area,
+        at,
+    )
+}
+
 pub fn it_open(table: &[u16], row: u16, area: &mut [u8], at: usize) -> usize
     ensures { λ r. ⌜ Wrote (now (area .entry)) at (now (area .exit)) r (itOpen (now (table .entry)) row) ⌝ }
 {
-    let inside = entry(table, row as u32 + 1);
+    let inside = net_entries::entry(table, row as u32 + 1);
     let next = it_turn(
         row,
         3 * row as usize + 2,
@@ -73,29 +97,9 @@ pub fn it_open(table: &[u16], row: u16, area: &mut [u8], at: usize) -> usize
         area,
         at,
     );
-    let count = diagram_table::cell(table, FIRST, row as u32);
     let closed = diagram_table::cell(table, CLOSE, row as u32);
-    let behind = entry(table, closed as u32 + 1);
-    it_turn(
-        row,
-        3 * row as usize + 1,
-        3 * row as usize + 2,
-        count,
-        behind,
-        area,
-        next,
-    )
-}
-
-// R of an IT open in a left loop is its count again.
-fn restore(table: &[u16], row: u32, area: &mut [u8], at: usize) -> usize
-    ensures { λ r. ⌜ Wrote (now (area .entry)) at (now (area .exit)) r (restoreRecords (now (table .entry)) row) ⌝ }
-{
-    if diagram_table::kind(table, row) == kinds::IT_OPEN {
-        let count = diagram_table::cell(table, FIRST, row);
-        return net_records::arc(area, at, GIVE, 3 * row as usize + 2, count);
-    }
-    at
+    let changed = diagram_table::entered_row(table, closed as u32 + 1);
+    it_over(table, row, changed, area, next)
 }
 
 fn restores(table: &[u16], opened: u16, closed: u16, area: &mut [u8], at: usize) -> usize
@@ -104,7 +108,7 @@ fn restores(table: &[u16], opened: u16, closed: u16, area: &mut [u8], at: usize)
     let mut next = at;
     let mut row = opened as u32;
     while row < closed as u32 + 1 {
-        next = restore(table, row, area, next);
+        next = net_entries::restore(table, row, area, next);
         row += 1;
     }
     next
@@ -137,11 +141,30 @@ fn leave(
     net_records::arc(area, last, GIVE, to, after)
 }
 
+// An LE of the loop that row `opened` opens: `changed` is the row that entering the row after the loop changes.
+fn exit_turn(
+    table: &[u16],
+    row: u16,
+    opened: u16,
+    closed: u16,
+    changed: u32,
+    area: &mut [u8],
+    at: usize,
+) -> usize
+    ensures { λ r. ⌜ Wrote (now (area .entry)) at (now (area .exit)) r (exitTurn (now (table .entry)) row opened closed changed) ⌝ }
+{
+    if diagram_table::kills(table, changed) {
+        let around = diagram_table::cell(table, OWNER, changed);
+        return kill_turn(table, row, 0, around, area, at);
+    }
+    leave(table, row, opened, closed, 3 * changed as usize, area, at)
+}
+
 pub fn loop_exit(table: &[u16], row: u16, area: &mut [u8], at: usize) -> usize
     ensures { λ r. ⌜ Wrote (now (area .entry)) at (now (area .exit)) r (loopExit (now (table .entry)) row) ⌝ }
 {
     let opened = diagram_table::cell(table, LOOP, row as u32);
     let closed = diagram_table::cell(table, CLOSE, opened as u32);
-    let to = entry(table, closed as u32 + 1);
-    leave(table, row, opened, closed, to, area, at)
+    let changed = diagram_table::entered_row(table, closed as u32 + 1);
+    exit_turn(table, row, opened, closed, changed, area, at)
 }

@@ -1,6 +1,6 @@
 -- How many bytes records have at most.
 use Prim.Native.Nat.{ℕ, zero, suc, _+_, _*_, _≤_, _<_, zero-le}
-use mathlib.Core.Path.{_≡_, subst}
+use mathlib.Core.Path.{_≡_, refl, subst}
 use mathlib.Core.Bool.{Bool, true, false, cond}
 use mathlib.Core.List.{[], _++_}
 use native.Mathlib.Omega.{arith}
@@ -29,10 +29,44 @@ pub either : (b : Bool) {xs ys : Records} {n : ℕ} → Small xs n → Small ys 
 either true s t = s
 either false s t = t
 
+pub when : (b : Bool) {xs ys : Records} {n : ℕ} → (b ≡ true → Small xs n) → Small ys n → Small (cond b xs ys) n
+when true s t = s refl
+when false s t = t
+
 pub turns : (f : ℕ → Records) (m n : ℕ) → ((i : ℕ) → i < n → Small (f i) m) → Small (runs f n) (n * m)
 unfolding runs
 turns f m zero h = more zero-le none-small
 turns f m (suc n) h = let e : n * m + m ≡ suc n * m = omega arith in subst (Small (runs f n ++ f n)) e (turns f m n (λ i l. h i (omega arith)) then h n (omega arith))
+
+-- records between two lists, both of which were measured together
+pub apart : (xs ys zs : Records) {m n : ℕ} → Small (xs ++ zs) m → Small ys n → Small (xs ++ (ys ++ zs)) (m + n)
+apart xs ys zs {m} s t = record {
+  size = let a : length (flat (xs ++ zs)) ≤ m = s .size in let b = t .size in
+      let c : length (flat (xs ++ zs)) ≡ length (flat xs) + length (flat zs) = rw (flat-append xs zs) (length-append (flat xs) (flat zs)) in
+      rw (flat-append xs (ys ++ zs), length-append (flat xs) (flat (ys ++ zs)), flat-append ys zs, length-append (flat ys) (flat zs)) (omega arith);
+}
+
+-- the turns of two loops, measured turn by turn
+pub together : (f g : ℕ → Records) (m n : ℕ) → ((i : ℕ) → i < n → Small (f i ++ g i) m) → Small (runs f n ++ runs g n) (n * m)
+unfolding runs
+together f g m zero h = more zero-le none-small
+together f g m (suc n) h = record {
+  size =
+      let a : length (flat (runs f n ++ runs g n)) ≤ n * m = together f g m n (λ i l. h i (omega arith)) .size in
+      let b : length (flat (f n ++ g n)) ≤ m = h n (omega arith) .size in
+      let c : length (flat (runs f n ++ runs g n)) ≡ length (flat (runs f n)) + length (flat (runs g n)) = rw (flat-append (runs f n) (runs g n)) (length-append (flat (runs f n)) (flat (runs g n))) in
+      let e : length (flat (f n ++ g n)) ≡ length (flat (f n)) + length (flat (g n)) = rw (flat-append (f n) (g n)) (length-append (flat (f n)) (flat (g n))) in
+      let p : suc n * m ≡ n * m + m = omega arith in
+      rw (
+        flat-append (runs f n ++ f n) (runs g n ++ g n),
+        length-append (flat (runs f n ++ f n)) (flat (runs g n ++ g n)),
+        flat-append (runs f n) (f n),
+        length-append (flat (runs f n)) (flat (f n)),
+        flat-append (runs g n) (g n),
+        length-append (flat (runs g n)) (flat (g n)),
+        p,
+      ) (omega arith);
+}
 
 pub transition-small : (r a b : ℕ) → Small (transition r a b) 10
 transition-small r a b = record { size = unfold transition flat encode in omega arith }

@@ -2,13 +2,11 @@
 use Prim.Native.Nat.{ℕ, _+_}
 use mathlib.Core.Path.{_≡_}
 use mathlib.Core.List.{List, []}
-use native.Mathlib.Numerals.{add-one}
 use borrow.Author.Tests.{ne-eqb}
 use Rattle.effbd.specs.Diagrams.{function, and-open, branch, and-close, or-close, it-open, it-close, lp-open, lp-close, loop-exit, numberOf}
 use Rattle.diagram_table.specs.Cells.{kindIn, ownerIn}
-use Rattle.net_loops.specs.LoopTransitions.{entry}
+use Rattle.net_entries.specs.Entering.{entry}
 use Rattle.net_rows.specs.Rows.{orToken, branchToken, rowAs}
-use Rattle.net_rows.specs.Marks.{numberAs, tally}
 
 -- a BRANCH, its construct's open row o of kind k
 pub branch-token : (table : List ℕ) (row o k to : ℕ) → o ≡ ownerIn table row → k ≡ kindIn table o → to ≡ entry table (row + 1) → orToken row o k to ≡ branchToken table row
@@ -32,8 +30,3 @@ no-row table file rows row k a b c d e f g h i j = rw (
   ne-eqb k (numberOf lp-close) i,
   ne-eqb k (numberOf loop-exit) j,
 )
-
-pub tally-turn : (table : List ℕ) (row sum opened owner kind number : ℕ) → sum ≡ tally table row → opened ≡ ownerIn table row → owner ≡ kindIn table opened
-    → kind ≡ kindIn table row → number ≡ numberAs owner kind → sum + number ≡ tally table (row + 1)
-unfolding tally
-tally-turn table row sum opened owner kind number e f g h i = rw (e, i, g, h, f, add-one)

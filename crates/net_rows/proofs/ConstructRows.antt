@@ -25,7 +25,7 @@ turn-owner q (f ∷ fs) = refl
 
 module _ (d : Diagram) (acc : wellNested d ≡ true) where
   branch-stands : (b : ℕ) → kind d b ≡ branch → inAndOr d (stack d b) ≡ true
-  branch-stands b e = stands d acc branch b e refl
+  branch-stands b e = and-left (inAndOr d (stack d b)) _ (stands d acc branch b e refl)
 
   -- behind a BRANCH of an AND, entering the next row changes the BRANCH, or that row, which then is no BRANCH
   behindAs : (k : Kind) (b : ℕ) → branchEnded d (suc b) ≡ b

@@ -13,7 +13,7 @@ use Rattle.net_records.specs.Writing.{Records, Wrote, runs, span}
 use Rattle.net_records.proofs.Runs.{runs-same, runs-none, runs-plus, runs-front}
 use Rattle.net_records.proofs.Small.{Small, none-small, more, _then_, either}
 use Rattle.net_rows.specs.Rows.{behindIn, walk}
-use Rattle.net_rows.proofs.Underway.{Underway, begun, further, finished}
+use Rattle.net_uses.proofs.Underway.{Underway, begun, further, finished}
 
 -- the turns between q and b write nothing
 span-jump : (f : ℕ → Records) (q b stop : ℕ) → q < b → b ≤ stop → ((i : ℕ) → q < i → i < b → f i ≡ []) → span f q stop ≡ f q ++ span f b stop

@@ -1,12 +1,7 @@
-mod Underway
-pub mod UseArcs
-pub mod CountTurns
-pub mod CountArcs
-pub mod CountMarks
-pub mod ConstructWalks
-pub mod ConstructRows
-pub mod BranchGives
-pub mod RowRecords
-pub mod HeadMarksTransitions
+mod ConstructWalks
+mod ConstructRows
+mod BranchGives
+mod RowRecords
+pub mod NetTransitions
 pub mod RowSizes
-pub mod ComputedRecords
+mod ComputedRecords

@@ -6,9 +6,9 @@ use Rattle.effbd.specs.Answers.{accepted}
 use Rattle.effbd.specs.Records.{areBytes, kindTable, entryIn, lengthOf, fieldsOf, faultAt, readMany}
 use Rattle.effbd.specs.Diagrams.{kindOf, headFault, itemFault, usesAt, usesFine, rowAt, rowRight, rowFine, rowFault, triggersFine, rowFaultIn}
 use Rattle.effbd.specs.Counts.{copiesOf, copies, tallies, countTotal, tally, takes, gives, initialCount}
-use Rattle.effbd.specs.Nesting.{stack, owner, close, branchOf, loop, nestingBroken, exitMisplaced, thirteenthOpen, nestingFault, firstFaulty, nested, afterRows, afterItems, readDiagram}
+use Rattle.effbd.specs.Nesting.{stack, owner, close, branchOf, loop, nestingBroken, killerEmpty, exitMisplaced, thirteenthOpen, nestingFault, firstFaulty, nested, afterRows, afterItems, readDiagram}
 use Rattle.effbd.specs.Layout.{placeOf}
-use Rattle.effbd.specs.States.{stateWords, stateOf, enteredRow, branchEntries, freshWords}
+use Rattle.effbd.specs.States.{stateWords, stateOf, enteredRow, endsKiller, killed, entered, branchEntries, freshWords}
 use Rattle.effbd.specs.Moves.{moveOf, lowestItem, wordsOutcome, moveWords, checkedMove, stepDiagram}
 use Rattle.effbd.specs.Nets.{arcBytes, transitionBytes, markBytes, netBytes, arcDue, arcFine, above, transitionFine, netHeadFault, markFault, arcFault, transitionFault, readTail, afterPlaces, readNet}
 use Rattle.effbd.specs.Firing.{weightAt, clearedAt, effectOf, covers, takenAndCleared, firedState, overflows, fire, fireLowest, letsPass, tickedState, netWait, netMove, checkedNetMove, stepNet, freshNetWords}
@@ -27,8 +27,8 @@ use Rattle.plantroom.specs.Starts.{questions, answered, startsHold}
 pub examples-hold : tableHolds ≡ true
 unfolding areBytes kindTable entryIn lengthOf fieldsOf faultAt readMany
     kindOf headFault itemFault usesAt usesFine rowAt rowRight rowFine rowFault triggersFine rowFaultIn copiesOf copies tallies countTotal tally takes gives initialCount
-    stack owner close branchOf loop nestingBroken exitMisplaced thirteenthOpen nestingFault firstFaulty nested afterRows afterItems readDiagram
-    placeOf stateWords stateOf enteredRow branchEntries freshWords moveOf lowestItem wordsOutcome moveWords checkedMove stepDiagram
+    stack owner close branchOf loop nestingBroken killerEmpty exitMisplaced thirteenthOpen nestingFault firstFaulty nested afterRows afterItems readDiagram
+    placeOf stateWords stateOf enteredRow endsKiller killed entered branchEntries freshWords moveOf lowestItem wordsOutcome moveWords checkedMove stepDiagram
     arcBytes transitionBytes markBytes netBytes arcDue arcFine above transitionFine netHeadFault markFault arcFault transitionFault readTail afterPlaces readNet
     weightAt clearedAt effectOf covers takenAndCleared firedState overflows fire fireLowest letsPass tickedState netWait netMove checkedNetMove stepNet freshNetWords
     names arcsOf rangesFrom transitionOf netOf digits number numbers arcLines transitionLines netLines printed annexIn telegram taken
@@ -39,8 +39,8 @@ examples-hold = refl
 pub requests-hold : requestsHold ≡ true
 unfolding areBytes kindTable entryIn lengthOf fieldsOf faultAt readMany
     kindOf headFault itemFault usesAt usesFine rowAt rowRight rowFine rowFault triggersFine rowFaultIn copiesOf copies tallies countTotal tally takes gives initialCount
-    stack owner close branchOf loop nestingBroken exitMisplaced thirteenthOpen nestingFault firstFaulty nested afterRows afterItems readDiagram
-    placeOf stateWords stateOf enteredRow branchEntries freshWords moveOf lowestItem wordsOutcome moveWords checkedMove stepDiagram
+    stack owner close branchOf loop nestingBroken killerEmpty exitMisplaced thirteenthOpen nestingFault firstFaulty nested afterRows afterItems readDiagram
+    placeOf stateWords stateOf enteredRow endsKiller killed entered branchEntries freshWords moveOf lowestItem wordsOutcome moveWords checkedMove stepDiagram
     arcBytes transitionBytes markBytes netBytes arcDue arcFine above transitionFine netHeadFault markFault arcFault transitionFault readTail afterPlaces readNet
     weightAt clearedAt effectOf covers takenAndCleared firedState overflows fire fireLowest letsPass tickedState netWait netMove checkedNetMove stepNet freshNetWords
     names arcsOf rangesFrom transitionOf netOf
@@ -51,8 +51,8 @@ requests-hold = refl
 pub calls-hold : (readDiagram (fileA 3) ≡ accepted diagramA) × MayBeHanded (fileA 3) diagramA 9 calls × (callsHold ≡ true)
 unfolding areBytes kindTable entryIn lengthOf fieldsOf faultAt readMany
     kindOf headFault itemFault usesAt usesFine rowAt rowRight rowFine rowFault triggersFine rowFaultIn copiesOf copies tallies countTotal tally takes gives initialCount
-    stack owner close branchOf loop nestingBroken exitMisplaced thirteenthOpen nestingFault firstFaulty nested afterRows afterItems readDiagram
-    placeOf stateWords stateOf enteredRow branchEntries freshWords moveOf lowestItem wordsOutcome moveWords checkedMove stepDiagram
+    stack owner close branchOf loop nestingBroken killerEmpty exitMisplaced thirteenthOpen nestingFault firstFaulty nested afterRows afterItems readDiagram
+    placeOf stateWords stateOf enteredRow endsKiller killed entered branchEntries freshWords moveOf lowestItem wordsOutcome moveWords checkedMove stepDiagram
     arcBytes transitionBytes markBytes netBytes arcDue arcFine above transitionFine netHeadFault markFault arcFault transitionFault readTail afterPlaces readNet
     weightAt clearedAt effectOf covers takenAndCleared firedState overflows fire fireLowest letsPass tickedState netWait netMove checkedNetMove stepNet freshNetWords
     names arcsOf rangesFrom transitionOf netOf telegram isOurs offered taken freshEnds run seen runAll seenAll
@@ -63,8 +63,8 @@ calls-hold = (refl, (offers, (offers, (offers, (wrote-before 1 (omega arith) ref
 pub starts-hold : startsHold ≡ true
 unfolding kindTable entryIn lengthOf fieldsOf faultAt readMany
     kindOf headFault itemFault usesAt usesFine rowAt rowRight rowFine rowFault triggersFine rowFaultIn copiesOf copies tallies countTotal tally takes gives initialCount
-    stack owner close branchOf loop nestingBroken exitMisplaced thirteenthOpen nestingFault firstFaulty nested afterRows afterItems readDiagram
-    placeOf stateWords stateOf enteredRow branchEntries freshWords moveOf lowestItem wordsOutcome moveWords
+    stack owner close branchOf loop nestingBroken killerEmpty exitMisplaced thirteenthOpen nestingFault firstFaulty nested afterRows afterItems readDiagram
+    placeOf stateWords stateOf enteredRow endsKiller killed entered branchEntries freshWords moveOf lowestItem wordsOutcome moveWords
     setpointsAt setpoints logFault made stateFrom playedFrom isStart startsFrom fallIn busiestFrom startsOf logStarts
     fileOf questions answered startsHold
 starts-hold = refl

@@ -1,4 +1,4 @@
--- Document 02, CR 2: closed examples of one diagram, and files that are turned away (document 02 gives none). Assumes nothing.
+-- Document 02, CR 2 and CR 3: closed examples of one diagram, and files that are turned away (document 02 gives none). Assumes nothing.
 use Prim.Native.Nat.{ℕ}
 use mathlib.Core.Bool.{Bool, false, _&&_}
 use mathlib.Core.List.{List, [], _∷_, _++_}
@@ -6,7 +6,7 @@ use lib.Dec.{eqb}
 use Rattle.effbd.specs.Answers.{Outcome, accepted, refused}
 use Rattle.effbd.specs.Diagrams.{Diagram}
 use Rattle.effbd.specs.Nesting.{readDiagram}
-use Rattle.plantroom.specs.Table.{Example, allHold, fileOf, head, item, row, step, yes}
+use Rattle.plantroom.specs.Table.{Example, allHold, fileOf, function, head, item, row, step, wait, yes}
 
 unfoldable pub requests : List Example
 requests =
@@ -28,6 +28,42 @@ requests =
       diagramAfter = 2 ∷ 0 ∷ 0 ∷ 0 ∷ 0 ∷ 0 ∷ 0 ∷ 0 ∷ 0 ∷ 0 ∷ 65535 ∷ 65535 ∷ [];
       netAfter = 0 ∷ 1 ∷ 0 ∷ 0 ∷ 0 ∷ 0 ∷ 0 ∷ 0 ∷ 0 ∷ 0 ∷ 65535 ∷ 65535 ∷ 0 ∷ 0 ∷ 0 ∷ 0 ∷ [];
     }
+    -- CR 3: an IT ends a branch that kills; the other branch runs, and each R is given once
+    ∷ record {
+      file = fileOf (head 8 0 ++ row 17 ++ row 28 ++ (6 ∷ 22 ∷ 2 ∷ []) ++ row 23 ++ row 18 ++ function 2 9 ++ row 19 ++ row 27);
+      fileLength = 48;
+      netLength = 398;
+      offers = step 0 yes yes ∷ step 5 yes yes ∷ step 2 yes yes ∷ step 3 yes yes ∷ step 2 yes yes ∷ step 3 yes yes ∷ step 2 yes yes ∷ step 5 (refused 22 5) (refused 22 5) ∷ step 6 yes yes ∷ [];
+      diagramAfter = 0 ∷ 0 ∷ 0 ∷ 0 ∷ 0 ∷ 0 ∷ 0 ∷ 0 ∷ 0 ∷ 0 ∷ 0 ∷ 0 ∷ 0 ∷ 0 ∷ 0 ∷ 0 ∷ 0 ∷ 0 ∷ 0 ∷ 0 ∷ 0 ∷ 1 ∷ 0 ∷ 0 ∷ [];
+      netAfter = 0 ∷ 0 ∷ 0 ∷ 0 ∷ 0 ∷ 0 ∷ 0 ∷ 0 ∷ 2 ∷ 0 ∷ 0 ∷ 0 ∷ 0 ∷ 0 ∷ 0 ∷ 0 ∷ 0 ∷ 0 ∷ 0 ∷ 0 ∷ 0 ∷ 1 ∷ 0 ∷ 0 ∷ 0 ∷ 0 ∷ 0 ∷ 0 ∷ 0 ∷ 0 ∷ 0 ∷ [];
+    }
+    -- CR 3: an LE ends a branch that kills; its own range, rows 2 to 9, is in that of the AND, rows 1 to 13
+    ∷ record {
+      file = fileOf (head 16 0 ++ row 17 ++ row 28 ++ row 24 ++ row 20 ++ row 18 ++ row 26 ++ row 18 ++ function 1 9 ++ row 21 ++ row 25 ++ row 18 ++ (6 ∷ 22 ∷ 3 ∷ []) ++ function 1 9 ++ row 23 ++ row 19 ++ row 27);
+      fileLength = 84;
+      netLength = 758;
+      offers = step 0 yes yes ∷ step 2 yes yes ∷ step 11 yes yes ∷ step 12 yes yes ∷ step 6 yes yes ∷ step 7 yes yes ∷ wait 1 yes ∷ step 7 yes yes ∷ step 8 yes yes ∷ step 9 yes yes ∷ step 2 yes yes ∷ step 4 yes yes ∷ step 5 yes yes ∷ [];
+      diagramAfter = 0 ∷ 0 ∷ 0 ∷ 3 ∷ 0 ∷ 0 ∷ 0 ∷ 0 ∷ 0 ∷ 0 ∷ 0 ∷ 0 ∷ 0 ∷ 0 ∷ 0 ∷ 0 ∷ 0 ∷ 0 ∷ 0 ∷ 0 ∷ 0 ∷ 0 ∷ 0 ∷ 0 ∷ 0 ∷ 0 ∷ 0 ∷ 0 ∷ 0 ∷ 0 ∷ 3 ∷ 0 ∷ 0 ∷ 0 ∷ 0 ∷ 0 ∷ 0 ∷ 0 ∷ 0 ∷ 0 ∷ 0 ∷ 0 ∷ 0 ∷ 0 ∷ 0 ∷ 0 ∷ 0 ∷ 0 ∷ [];
+      netAfter = 0 ∷ 0 ∷ 0 ∷ 1 ∷ 0 ∷ 0 ∷ 0 ∷ 0 ∷ 0 ∷ 0 ∷ 0 ∷ 0 ∷ 0 ∷ 0 ∷ 0 ∷ 0 ∷ 0 ∷ 0 ∷ 0 ∷ 0 ∷ 0 ∷ 0 ∷ 0 ∷ 0 ∷ 0 ∷ 0 ∷ 0 ∷ 0 ∷ 0 ∷ 0 ∷ 1 ∷ 0 ∷ 0 ∷ 0 ∷ 0 ∷ 3 ∷ 0 ∷ 0 ∷ 0 ∷ 0 ∷ 0 ∷ 0 ∷ 0 ∷ 0 ∷ 0 ∷ 0 ∷ 0 ∷ 0 ∷ 0 ∷ 0 ∷ 0 ∷ 0 ∷ 0 ∷ 0 ∷ 0 ∷ 0 ∷ 0 ∷ 0 ∷ 0 ∷ 0 ∷ 0 ∷ 0 ∷ 0 ∷ [];
+    }
+    -- CR 3: a kill in a branch that kills: the inner one leaves the outer AND alone, then the inner close kills there
+    ∷ record {
+      file = fileOf (head 18 0 ++ row 17 ++ row 28 ++ row 17 ++ row 28 ++ function 1 9 ++ row 18 ++ function 1 9 ++ row 19 ++ row 28 ++ row 20 ++ row 18 ++ row 18 ++ function 1 9 ++ row 21 ++ row 18 ++ function 1 9 ++ row 19 ++ row 27);
+      fileLength = 98;
+      netLength = 834;
+      offers = step 0 yes yes ∷ step 2 yes yes ∷ step 4 yes yes ∷ step 6 yes yes ∷ step 11 yes yes ∷ step 12 yes yes ∷ step 15 yes yes ∷ wait 1 yes ∷ step 4 yes yes ∷ step 7 yes yes ∷ [];
+      diagramAfter = 0 ∷ 0 ∷ 0 ∷ 3 ∷ 0 ∷ 0 ∷ 0 ∷ 0 ∷ 0 ∷ 0 ∷ 0 ∷ 0 ∷ 0 ∷ 0 ∷ 0 ∷ 0 ∷ 0 ∷ 0 ∷ 0 ∷ 0 ∷ 0 ∷ 0 ∷ 0 ∷ 0 ∷ 3 ∷ 0 ∷ 0 ∷ 0 ∷ 0 ∷ 0 ∷ 0 ∷ 0 ∷ 0 ∷ 0 ∷ 0 ∷ 0 ∷ 0 ∷ 0 ∷ 0 ∷ 0 ∷ 0 ∷ 0 ∷ 3 ∷ 0 ∷ 0 ∷ 0 ∷ 0 ∷ 0 ∷ 0 ∷ 0 ∷ 0 ∷ 0 ∷ 0 ∷ 0 ∷ [];
+      netAfter = 0 ∷ 0 ∷ 0 ∷ 1 ∷ 0 ∷ 0 ∷ 0 ∷ 0 ∷ 0 ∷ 0 ∷ 0 ∷ 0 ∷ 0 ∷ 0 ∷ 0 ∷ 0 ∷ 0 ∷ 0 ∷ 0 ∷ 0 ∷ 0 ∷ 0 ∷ 0 ∷ 0 ∷ 1 ∷ 0 ∷ 0 ∷ 0 ∷ 0 ∷ 0 ∷ 0 ∷ 0 ∷ 0 ∷ 0 ∷ 0 ∷ 0 ∷ 0 ∷ 0 ∷ 0 ∷ 0 ∷ 0 ∷ 0 ∷ 1 ∷ 0 ∷ 0 ∷ 0 ∷ 0 ∷ 0 ∷ 0 ∷ 0 ∷ 0 ∷ 0 ∷ 0 ∷ 0 ∷ 0 ∷ 0 ∷ 0 ∷ 0 ∷ 0 ∷ 0 ∷ 0 ∷ 0 ∷ 0 ∷ 0 ∷ 0 ∷ 0 ∷ 0 ∷ 0 ∷ 0 ∷ [];
+    }
+    -- CR 3: a trigger's copies outlast a kill
+    ∷ record {
+      file = fileOf (head 7 1 ++ (6 ∷ 3 ∷ 0 ∷ []) ++ row 17 ++ row 28 ++ (14 ∷ 16 ∷ 0 ∷ 9 ∷ 0 ∷ 0 ∷ 1 ∷ []) ++ row 18 ++ (14 ∷ 16 ∷ 0 ∷ 9 ∷ 0 ∷ 1 ∷ 0 ∷ []) ++ row 19 ++ row 27);
+      fileLength = 64;
+      netLength = 350;
+      offers = step 0 yes yes ∷ step 2 yes yes ∷ step 2 yes yes ∷ step 4 (refused 22 4) (refused 22 4) ∷ step 5 yes yes ∷ [];
+      diagramAfter = 0 ∷ 0 ∷ 0 ∷ 0 ∷ 0 ∷ 0 ∷ 0 ∷ 0 ∷ 0 ∷ 0 ∷ 0 ∷ 0 ∷ 0 ∷ 0 ∷ 0 ∷ 0 ∷ 0 ∷ 0 ∷ 1 ∷ 0 ∷ 0 ∷ 0 ∷ 1 ∷ [];
+      netAfter = 0 ∷ 0 ∷ 0 ∷ 0 ∷ 0 ∷ 0 ∷ 0 ∷ 0 ∷ 0 ∷ 0 ∷ 0 ∷ 0 ∷ 0 ∷ 0 ∷ 0 ∷ 0 ∷ 0 ∷ 0 ∷ 1 ∷ 0 ∷ 0 ∷ 0 ∷ 1 ∷ 0 ∷ 0 ∷ 0 ∷ 0 ∷ 0 ∷ 0 ∷ [];
+    }
     ∷ []
 
 -- refused, with this number and value
@@ -37,6 +73,8 @@ turnsAway (refused n v) number value = eqb n number && eqb v value
 
 unfoldable pub refusals : Bool
 refusals = turnsAway (readDiagram (fileOf (head 2 1 ++ (6 ∷ 3 ∷ 0 ∷ []) ++ (14 ∷ 16 ∷ 0 ∷ 1 ∷ 0 ∷ 2 ∷ 0 ∷ []) ++ row 27))) 43 16
+    && (turnsAway (readDiagram (fileOf (head 5 0 ++ row 17 ++ row 28 ++ row 18 ++ row 19 ++ row 27))) 44 1
+    && (turnsAway (readDiagram (fileOf (head 6 0 ++ row 20 ++ row 28 ++ function 0 1 ++ row 18 ++ row 21 ++ row 27))) 7 1))
 
 unfoldable pub requestsHold : Bool
 requestsHold = allHold requests && refusals

@@ -1,6 +1,1 @@
-pub mod Calls
-pub mod Lengths
-pub mod Lists
-pub mod Readied
 pub mod Starts
-pub mod Turns

@@ -1,15 +1,12 @@
 -- Both ends made ready, or a refusal: from what the parts of `play` leave to what it promises.
-use Prim.Native.Nat.{ℕ, _≤_}
+use Prim.Native.Nat.{ℕ}
 use mathlib.Core.Path.{_≡_, refl, sym, _∙_, ap, ap₂, subst}
-use mathlib.Core.Logic.{_≢_}
 use mathlib.Core.Bool.{Bool, true, false, cond, _&&_}
-use mathlib.Core.List.{List, [], _++_}
+use mathlib.Core.List.{List}
 use native.Mathlib.Omega.{arith}
-use lib.ListN.{length, take, drop, length-append}
-use lib.Seq.{take-at}
+use lib.ListN.{length}
 use lib.Dec.{eqb}
-use borrow.Author.Tests.{le-ltb}
-use Rattle.effbd.specs.Answers.{Outcome, accepted, refused, andThen, returningZero, afterwards, refusalNumber, refusalValue}
+use Rattle.effbd.specs.Answers.{Outcome, accepted, refused, andThen, returningZero, afterwards}
 use Rattle.effbd.specs.Records.{areBytes}
 use Rattle.effbd.specs.Diagrams.{Diagram}
 use Rattle.effbd.specs.Nesting.{readDiagram}
@@ -18,25 +15,16 @@ use Rattle.effbd.specs.States.{freshWords}
 use Rattle.effbd.specs.Moves.{freshDiagram}
 use Rattle.effbd.specs.Nets.{Net, readNet}
 use Rattle.effbd.specs.Firing.{netWordCount, wordsOf, freshNetWords, freshNet}
-use Rattle.effbd.specs.Patterns.{netOf, Translated, translated}
+use Rattle.effbd.specs.Patterns.{netOf}
 use Rattle.effbd.specs.History.{Seen, freshEnds, netFileOf}
-use Rattle.translate.specs.NetRecords.{netRoom}
 use Rattle.ranges.specs.Tests.{decide}
-use Rattle.agreement.specs.AcceptedFiles.{held}
-use Rattle.agreement.specs.Theorems.{net-well-formed, net-read-back}
 use Rattle.bus.specs.Demand.{demand-3}
-use Rattle.diagram_file.specs.Tables.{Parsed}
-use Rattle.diagram_table.specs.Held.{HoldsFile}
-use Rattle.diagram.specs.declared.Diagram.{Diagram as Table}
-use Rattle.translate.proofs.Sizes.{net-short}
-use Rattle.copies.specs.Counting.{copiesCounted}
-use Rattle.copies.specs.Promised.{zeros, WidenedPlant}
-use Rattle.copies.proofs.Plants.{widened-by}
-use Rattle.diagram_table.specs.Cells.{wideTotal}
-use Rattle.play.specs.CallList.{callsOf, listAfter}
-use Rattle.play.specs.ReadyEnds.{netLength, NetLaid, NetLaidAs, NetOf, asLong}
-use Rattle.play.specs.Played.{Live, AllCalled, playable, Played, PlayedAs}
-use Rattle.play.proofs.Lists.{live-all, live-seen-all}
+use Rattle.calls.specs.CallList.{callsOf, listAfter}
+use Rattle.ends.specs.ReadyEnds.{netLength, NetOf}
+use Rattle.calls.specs.LiveEnds.{Live, AllCalled}
+use Rattle.play.specs.Played.{asLong, playable, Played, PlayedAs}
+use Rattle.calls.proofs.Lists.{live-all, live-seen-all}
+use Rattle.ends.proofs.LaidNets.{net-reads, fresh-is, fresh-net-is}
 
 -- a state's length
 pub long-by : (o : Outcome Net) (l w : ℕ) → accepted w ≡ wordsOf o → eqb l w ≡ asLong o l
@@ -55,41 +43,6 @@ pub started : (file net : List ℕ) (station : ℕ) (leader follower fresh calls
     → AllCalled file net station (record { leader = leader; sent = 0; follower = afterwards follower (freshNet net follower); taken = 0 }) calls leader′ follower′ calls′ sent took
 started file net station leader follower fresh calls leader′ follower′ calls′ sent took e =
     subst (λ (x : List ℕ). AllCalled file net station (record { leader = leader; sent = 0; follower = x; taken = 0 }) calls leader′ follower′ calls′ sent took) e
-
--- a refused file has no net
-pub no-net : (file area : List ℕ) (p : Table) → Parsed file p → p .number ≢ 0 → (refused (p .number) (p .value) ≡ netLength (readDiagram file)) × NetLaidAs (readDiagram file) area area
-unfolding netLength
-no-net file area p h n = go (readDiagram file) (h .number) (h .value)
-  where
-    go : (o : Outcome Diagram) → p .number ≡ refusalNumber o → p .value ≡ refusalValue o → (refused (p .number) (p .value) ≡ netLength o) × NetLaidAs o area area
-    go (accepted d) e f = absurd (n e)
-    go (refused number value) e f = (ap₂ refused e f, refl)
-
--- an accepted file's net fits
-module _ (file : List ℕ) (rows items : ℕ) (table : List ℕ) (h : HoldsFile file rows items table) (bytes : areBytes file ≡ true) where
-  -- the table with its copies, as the translator has it
-  abbrev wide : List ℕ
-  wide = copiesCounted file rows items table (zeros wideTotal)
-
-  widened : WidenedPlant file rows items table wide
-  widened = widened-by file rows items table bytes
-
-  small : length (netFileOf (h .diagram)) ≤ netRoom
-  small = let p = widened .plant h in
-      subst (λ (d : Diagram). length (netFileOf d) ≤ netRoom) (widened .same h)
-      (net-short (p .held .diagram) rows items wide file (p .held .holds) (p .held .uses) (p .copies) (p .ranks) (held file (p .held .diagram) bytes (p .held .read)))
-
-  translation : (area : List ℕ) → netRoom ≤ length area
-      → translated file area ≡ record { answer = accepted (length (netFileOf (h .diagram))); area = netFileOf (h .diagram) ++ drop (length (netFileOf (h .diagram))) area }
-  unfolding translated
-  translation area l = let s = small in rw (h .read, le-ltb (length area) (length (netFileOf (h .diagram))) (omega arith))
-
-  pub net-laid : (area after : List ℕ) (answer : Outcome ℕ) → netRoom ≤ length area → answer ≡ translated file area .answer → after ≡ translated file area .area
-      → (answer ≡ netLength (readDiagram file)) × NetLaidAs (readDiagram file) area after
-  unfolding netLength
-  net-laid area after answer l a e = let t = translation area l in
-      subst (λ (o : Outcome Diagram). (answer ≡ netLength o) × NetLaidAs o area after) (sym (h .read))
-      (a ∙ ap (λ (x : Translated). x .answer) t, record { holds = e ∙ ap (λ (x : Translated). x .area) t; small = small })
 
 -- nothing was done
 pub unplayed : (o : Outcome Diagram) (number value : ℕ) → o ≡ refused number value → (file : List ℕ) (station : ℕ) (calls leader follower leader′ : List ℕ) → leader′ ≡ leader
@@ -114,26 +67,10 @@ file-refused file number value e leader follower = go (readDiagram file) e
     go (accepted d) f = absurd (let z : _≡_ {A = ℕ} 0 1 = cc in omega arith)
     go (refused n v) f = let a : n ≡ number = cc in let b : v ≡ value = cc in ap₂ refused a b
 
--- a file that is accepted, and its net in an area
-pub found-net : (file area after : List ℕ) (n : ℕ) → accepted n ≡ netLength (readDiagram file) → NetLaidAs (readDiagram file) area after
-    → (n ≤ length after) × NetOf file (take n after)
-unfolding netLength
-found-net file area after n e h = go (readDiagram file) refl e h
-  where
-    go : (o : Outcome Diagram) → readDiagram file ≡ o → accepted n ≡ netLength o → NetLaidAs o area after → (n ≤ length after) × NetOf file (take n after)
-    go (accepted d) r f l =
-        let q : n ≡ length (netFileOf d) = cc in
-        let long = ap length (l .holds) ∙ length-append (netFileOf d) (drop (length (netFileOf d)) area) in
-        (omega arith, record { diagram = d; read = r; is = ap (take n) (l .holds) ∙ take-at (netFileOf d) (drop (length (netFileOf d)) area) n (sym q) })
-    go (refused number value) r f l = absurd (let z : _≡_ {A = ℕ} 0 1 = cc in omega arith)
-
 module _ (file net : List ℕ) (n : NetOf file net) (bytes : areBytes file ≡ true) where
-  pub net-reads : readNet net ≡ accepted (netOf (n .diagram))
-  net-reads = ap readNet (n .is) ∙ net-read-back (netOf (n .diagram)) (net-well-formed file (n .diagram) bytes (n .read))
-
   as-long : (follower : List ℕ) (b : Bool) → b ≡ asLong (readNet net) (length follower) → eqb (length follower) (netWordCount (netOf (n .diagram))) ≡ b
   unfolding asLong
-  as-long follower b e = sym (e ∙ ap (λ (o : Outcome Net). asLong o (length follower)) net-reads)
+  as-long follower b e = sym (e ∙ ap (λ (o : Outcome Net). asLong o (length follower)) (net-reads file net n bytes))
 
   playable-is : (leader follower : List ℕ) (a b : Bool) → eqb (length leader) (places (n .diagram)) ≡ a → eqb (length follower) (netWordCount (netOf (n .diagram))) ≡ b
       → playable file leader follower ≡ cond (a && b) (accepted (n .diagram)) (refused 20 0)
@@ -146,24 +83,14 @@ module _ (file net : List ℕ) (n : NetOf file net) (bytes : areBytes file ≡ t
   follower-off leader follower e = decide (eqb (length leader) (places (n .diagram)))
       (λ t. playable-is leader follower true false t (as-long follower false e)) (λ t. playable-is leader follower false false t (as-long follower false e))
 
-  pub fresh-is : (leader : List ℕ) (a : Bool) → eqb (length leader) (places (n .diagram)) ≡ a → freshDiagram file leader ≡ cond a (accepted (freshWords (n .diagram))) (refused 20 0)
-  unfolding freshDiagram
-  fresh-is leader a p = ap (λ (o : Outcome Diagram). andThen o (λ d. cond (eqb (length leader) (places d)) (accepted (freshWords d)) (refused 20 0))) (n .read)
-      ∙ ap (λ (x : Bool). cond x (accepted (freshWords (n .diagram))) (refused 20 0)) p
-
   -- the leader's state has another length
   pub leader-off : (leader follower leader′ : List ℕ) (number value : ℕ) → true ≡ asLong (readNet net) (length follower)
       → refused number value ≡ returningZero (freshDiagram file leader) → leader′ ≡ afterwards leader (freshDiagram file leader)
       → (playable file leader follower ≡ refused number value) × (leader′ ≡ leader)
   leader-off leader follower leader′ number value e r l = decide (eqb (length leader) (places (n .diagram)))
-      (λ t. let z : refused number value ≡ accepted 0 = r ∙ ap returningZero (fresh-is leader true t) in absurd (let y : _≡_ {A = ℕ} 0 1 = cc in omega arith))
-      (λ t. let z : refused number value ≡ refused 20 0 = r ∙ ap returningZero (fresh-is leader false t) in let a : 20 ≡ number = cc in let b : 0 ≡ value = cc in
-      (playable-is leader follower false true t (as-long follower true e) ∙ ap₂ refused a b, l ∙ ap (afterwards leader) (fresh-is leader false t)))
-
-  pub fresh-net-is : (follower : List ℕ) → eqb (length follower) (netWordCount (netOf (n .diagram))) ≡ true → freshNet net follower ≡ accepted (freshNetWords (netOf (n .diagram)))
-  unfolding freshNet
-  fresh-net-is follower p = ap (λ (o : Outcome Net). andThen o (λ x. cond (eqb (length follower) (netWordCount x)) (accepted (freshNetWords x)) (refused 20 0))) net-reads
-      ∙ ap (λ (x : Bool). cond x (accepted (freshNetWords (netOf (n .diagram)))) (refused 20 0)) p
+      (λ t. let z : refused number value ≡ accepted 0 = r ∙ ap returningZero (fresh-is file net n bytes leader true t) in absurd (let y : _≡_ {A = ℕ} 0 1 = cc in omega arith))
+      (λ t. let z : refused number value ≡ refused 20 0 = r ∙ ap returningZero (fresh-is file net n bytes leader false t) in let a : 20 ≡ number = cc in let b : 0 ≡ value = cc in
+      (playable-is leader follower false true t (as-long follower true e) ∙ ap₂ refused a b, l ∙ ap (afterwards leader) (fresh-is file net n bytes leader false t)))
 
   all-played : (station : ℕ) (calls leader′ follower′ calls′ : List ℕ) (sent took : ℕ)
       → AllCalled file (netFileOf (n .diagram)) station (record { leader = freshWords (n .diagram); sent = 0; follower = freshNetWords (netOf (n .diagram)); taken = 0 }) calls leader′ follower′ calls′ sent took
@@ -190,7 +117,7 @@ module _ (file net : List ℕ) (n : NetOf file net) (bytes : areBytes file ≡ t
       (all-played station calls leader′ follower′ calls′ sent took
       (subst (λ (x : List ℕ). AllCalled file x station (record { leader = freshWords (n .diagram); sent = 0; follower = freshNetWords (netOf (n .diagram)); taken = 0 }) calls leader′ follower′ calls′ sent took) (n .is)
       (subst (λ (x : List ℕ). AllCalled file net station (record { leader = freshWords (n .diagram); sent = 0; follower = x; taken = 0 }) calls leader′ follower′ calls′ sent took)
-      (ap (afterwards follower) (fresh-net-is follower p))
+      (ap (afterwards follower) (fresh-net-is file net n bytes follower p))
       (subst (λ (x : List ℕ). AllCalled file net station (record { leader = x; sent = 0; follower = afterwards follower (freshNet net follower); taken = 0 }) calls leader′ follower′ calls′ sent took)
-      (l ∙ ap (afterwards leader) (fresh-is leader true t)) c)))))
-      (λ t. let z : accepted value ≡ refused 20 0 = r ∙ ap returningZero (fresh-is leader false t) in absurd (let y : _≡_ {A = ℕ} 0 1 = cc in omega arith))
+      (l ∙ ap (afterwards leader) (fresh-is file net n bytes leader true t)) c)))))
+      (λ t. let z : accepted value ≡ refused 20 0 = r ∙ ap returningZero (fresh-is file net n bytes leader false t) in absurd (let y : _≡_ {A = ℕ} 0 1 = cc in omega arith))

@@ -1,3 +1,1 @@
-pub mod CallList
 pub mod Played
-pub mod ReadyEnds

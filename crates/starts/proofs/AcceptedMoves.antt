@@ -1,6 +1,6 @@
 -- What an accepted move over the table says of a FUNCTION row's activity: a wait leaves it, and a step of the row after which it runs found it
 -- ready.
-use Prim.Native.Nat.{ℕ, zero, suc, _+_, _≤_}
+use Prim.Native.Nat.{ℕ, zero, suc, _+_, _*_, _≤_}
 use mathlib.Core.Path.{_≡_, refl, sym, _∙_, ap}
 use mathlib.Core.Logic.{_≢_}
 use mathlib.Core.Bool.{Bool, true, false, cond}
@@ -8,17 +8,17 @@ use mathlib.Core.List.{List}
 use native.Mathlib.Omega.{arith}
 use lib.ListN.{length, getD, set, length-set, List·getD-eq-default}
 use lib.Seq.{getD-set-same, getD-set-other}
-use lib.Dec.{ltb, eqb}
+use lib.Dec.{leb, ltb, eqb}
 use borrow.Author.Tests.{eqb-true, eqb-false, ltb-true, ltb-false}
 use Rattle.effbd.specs.Answers.{Outcome, accepted, refused}
 use Rattle.effbd.specs.States.{activityAt, clockAt}
 use Rattle.effbd.specs.Starts.{activity}
 use Rattle.ranges.specs.Tests.{decide}
 use Rattle.agreement.specs.ByteLaws.{never}
-use Rattle.diagram_table.specs.Cells.{kindIn, enteredIn, usesIn}
+use Rattle.diagram_table.specs.Cells.{kindIn, ownerIn, branchIn, closeIn, killsIn, enteredIn, usesIn}
 use Rattle.words.specs.Sums.{added}
 use Rattle.diagram_moves.specs.Decisions.{functionVerdict, rowVerdict, moveVerdict}
-use Rattle.diagram_moves.specs.Changes.{fold, rowSet, countsChanged, tickTurn, entered, tokenPassed, functionChange, rowChange, moveChange, outcomeOf, tableMove}
+use Rattle.diagram_moves.specs.Changes.{fold, startingAt, rowSet, clearWord, wordsCleared, countsChanged, tickTurn, branchesBack, branchesSet, rowsKilled, entered, tokenPassed, functionChange, rowChange, moveChange, outcomeOf, tableMove}
 
 written : (o : Outcome ℕ) (l next : List ℕ) → outcomeOf o l ≡ accepted next → l ≡ next
 written (accepted v) l next e = cc
@@ -57,19 +57,46 @@ module _ (r : ℕ) where
       (λ z w. absurd (let e : getD (set l (activityAt r) 0) (activityAt r) 0 ≡ 0 = getD-set-same l (activityAt r) 0 0 (ltb-true (activityAt r) (length l) z) in omega arith))
       (λ z. past-end (set l (activityAt r) 0) (let q = ltb-false (activityAt r) (length l) z in let p = length-set l (activityAt r) 0 in omega arith))
 
+  row-rests : (q v : ℕ) (l : List ℕ) → v ≢ 2 → Rests l → Rests (rowSet q v l)
+  unfolding rowSet
+  row-rests q v l n h = set-rests (set l (activityAt q) v) (clockAt q) 0 (λ z. absurd (omega arith)) (set-rests l (activityAt q) v n h)
+
+  fold-rests : (f : ℕ → List ℕ → List ℕ) → ((q : ℕ) (l : List ℕ) → Rests l → Rests (f q l)) → (n : ℕ) (l : List ℕ) → Rests l → Rests (fold n f l)
+  fold-rests f turn zero l h = h
+  fold-rests f turn (suc n) l h = turn n (fold n f l) (fold-rests f turn n l h)
+
+  -- a row that is entered is ready, one that is killed idle, a BRANCH done: none runs
+  three-or : (b : Bool) (v : ℕ) → v ≢ 2 → _≢_ {A = ℕ} (cond b 3 v) 2
+  three-or true v n z = absurd (omega arith)
+  three-or false v n z = n z
+
+  clear-turn-rests : (a q : ℕ) (l : List ℕ) → Rests l → Rests (startingAt a clearWord q l)
+  unfolding startingAt clearWord
+  clear-turn-rests a q l h = decide (leb a q) (λ y. rw y (set-rests l q 0 (λ z. absurd (omega arith)) h)) (λ y. rw y h)
+
+  back-rests : (table : List ℕ) (n b : ℕ) (l : List ℕ) → Rests l → Rests (branchesBack table (λ q. rowSet q 3) n b l)
+  unfolding branchesBack
+  back-rests table zero b l h = h
+  back-rests table (suc n) b l h =
+      let w : Rests (rowSet b 3 l) = row-rests b 3 l (λ z. absurd (omega arith)) h in
+      decide (ltb (branchIn table b) b) (λ y. rw y (unfold branchesBack in back-rests table n (branchIn table b) (rowSet b 3 l) w)) (λ y. rw y w)
+
+  kill-rests : (table : List ℕ) (o : ℕ) (l : List ℕ) → Rests l → Rests (rowsKilled table o l)
+  unfolding rowsKilled branchesSet wordsCleared
+  kill-rests table o l h = let c : ℕ = closeIn table o in
+      back-rests table (branchIn table c + 1) (branchIn table c) _ (fold-rests (startingAt (3 * (o + 1)) clearWord) (clear-turn-rests (3 * (o + 1))) (3 * c) l h)
+
+  entered-rests : (table : List ℕ) (q : ℕ) (l : List ℕ) → Rests l → Rests (entered table q l)
+  unfolding entered
+  entered-rests table q l h =
+      let e = enteredIn table q in decide (killsIn table e)
+      (λ y. rw y (kill-rests table (ownerIn table q) l h))
+      (λ y. rw y (row-rests e (cond (eqb (kindIn table e) 18) 3 1) l (three-or (eqb (kindIn table e) 18) 1 (λ z. absurd (omega arith))) h))
+
   -- a token passed on from row r
   passed-rests : (table : List ℕ) (to : ℕ) (l : List ℕ) → Rests (tokenPassed table r to l)
-  unfolding tokenPassed entered rowSet
-  passed-rests table to l =
-      let e = enteredIn table to in
-      let v : ℕ = cond (eqb (kindIn table e) 18) 3 1 in
-      let cleared : List ℕ = set (set l (activityAt r) 0) (clockAt r) 0 in
-      set-rests (set cleared (activityAt e) v) (clockAt e) 0 (λ z. absurd (omega arith))
-      (set-rests cleared (activityAt e) v (go (eqb (kindIn table e) 18)) (set-rests (set l (activityAt r) 0) (clockAt r) 0 (λ z. absurd (omega arith)) (clear-rests l)))
-    where
-      go : (b : Bool) → _≢_ {A = ℕ} (cond b 3 1) 2
-      go true z = absurd (omega arith)
-      go false z = absurd (omega arith)
+  unfolding tokenPassed rowSet
+  passed-rests table to l = entered-rests table to (rowSet r 0 l) (set-rests (set l (activityAt r) 0) (clockAt r) 0 (λ z. absurd (omega arith)) (clear-rests l))
 
 module _ (table : List ℕ) (rows items : ℕ) (file words next : List ℕ) where
   -- the code is 1 or 2

@@ -149,17 +149,7 @@ fn starts_on(
         return Answer::Refused(fault, 0);
     }
     let mut gaps = [0u8; GAP_BYTES];
-    count_starts(
-        table,
-        rows,
-        items,
-        file,
-        log,
-        row,
-        state,
-        &mut gaps[0..GAP_BYTES],
-        at,
-    )
+    count_starts(table, rows, items, file, log, row, state, &mut gaps, at)
 }
 
 // The same with the copies of triggers: a wider table, a longer state.

@@ -69,7 +69,7 @@ module _ (file : List ℕ) (rows items : ℕ) (table : List ℕ) (plant : HoldsP
       rw is-net (subst (λ n. length (netBytes (netOf (h .diagram))) ≤ longestNet rows items n) total
       (net-small (h .diagram) rows items table file (h .holds) (h .uses) (plant .copies) (plant .ranks) sound))
 
-  pub plain-shorter : someTriggerIn table ≡ 0 → length (flat (netRecords table file rows items)) ≤ 40424
+  pub plain-shorter : someTriggerIn table ≡ 0 → length (flat (netRecords table file rows items)) ≤ 61928
   unfolding countsIn
   plain-shorter z =
       let plain : countsIn table items ≡ items = rw (eq-eqb (someTriggerIn table) 0 z) in

@@ -9,7 +9,8 @@ use Rattle.agreement.specs.AcceptedFiles.{Held}
 use Rattle.diagram_table.specs.Held.{Holds, HoldsUses, HoldsCopies, HoldsRanks}
 use Rattle.net_records.specs.Writing.{flat}
 use Rattle.net_records.proofs.Nets.{recordsOf, flat-net}
-use Rattle.net_rows.proofs.HeadMarksTransitions.{head-is, marks-are, transitions-are}
+use Rattle.net_marks.proofs.HeadMarks.{head-is, marks-are}
+use Rattle.net_rows.proofs.NetTransitions.{transitions-are}
 use Rattle.translate.specs.NetRecords.{netRecords}
 
 pub net-is : (d : Diagram) (rows items : ℕ) (table file : List ℕ) → Holds d rows items table → HoldsUses file d table → HoldsCopies d table → HoldsRanks d table
@@ -19,4 +20,4 @@ net-is d rows items table file h u copied ranked held = ap flat same ∙ flat-ne
   where
     same : netRecords table file rows items ≡ recordsOf (netOf d)
     same = unfold netRecords recordsOf in
-        sym (ap₂ _++_ (head-is d rows items table file h u copied ranked held) (ap₂ _++_ (marks-are d rows items table file h u copied ranked held) (transitions-are d rows items table file h u copied ranked held)) ∙ simp append-assoc)
+        sym (ap₂ _++_ (head-is d rows items table h copied held) (ap₂ _++_ (marks-are d rows items table h copied held) (transitions-are d rows items table file h u copied ranked held)) ∙ simp append-assoc)

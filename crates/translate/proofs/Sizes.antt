@@ -1,7 +1,6 @@
 -- THEOREM (net-small): the net of a diagram has no more bytes than its rows, items and counts allow, and never more than 32 bits can say.
 use Prim.Native.Nat.{ℕ, _+_, _*_, _≤_, _<_}
 use mathlib.Core.Path.{subst}
-use mathlib.Core.Bool.{Bool, true, false, cond}
 use native.Mathlib.Omega.{arith}
 use native.Mathlib.Nat.{mul-le-mul}
 use mathlib.Core.List.{List}
@@ -11,15 +10,17 @@ use Rattle.effbd.specs.Diagrams.{Diagram}
 use Rattle.effbd.specs.Counts.{countTotal}
 use Rattle.effbd.specs.Nets.{netBytes}
 use Rattle.effbd.specs.Patterns.{netOf}
+use Rattle.ranges.specs.Tests.{decide}
 use Rattle.agreement.specs.AcceptedFiles.{Held}
 use Rattle.agreement.specs.Counts.{counts-few}
 use Rattle.diagram_table.specs.Cells.{enteredIn}
 use Rattle.diagram_table.specs.Held.{Holds, HoldsUses, HoldsCopies, HoldsRanks}
 use Rattle.net_records.proofs.Small.{Small, more, _then_, turns, pair-small, mark-small}
 use Rattle.net_rows.specs.Rows.{mostRowBytes}
-use Rattle.net_rows.specs.Marks.{netHead, countMarks}
-use Rattle.net_rows.proofs.CountMarks.{counts-are}
-use Rattle.net_rows.proofs.RowSizes.{row-most, row-small, row-marks-small}
+use Rattle.net_rows.proofs.RowSizes.{row-most, row-small}
+use Rattle.net_marks.specs.Marks.{netHead, countMarks}
+use Rattle.net_marks.proofs.CountMarks.{counts-are}
+use Rattle.net_marks.proofs.HeadMarks.{row-marks-small}
 use Rattle.translate.specs.NetRecords.{netRecords, longestNet, netRoom}
 use Rattle.translate.proofs.NetBytes.{net-is}
 
@@ -27,16 +28,12 @@ longest-most : (rows items counts : ℕ) → rows ≤ 64 → items ≤ 16 → co
 unfolding longestNet
 longest-most rows items counts l m n = let p = mul-le-mul l (row-most rows items counts l m n) in omega arith
 
-either-low : (b : Bool) (x y n : ℕ) → x ≤ n → y ≤ n → cond b x y ≤ n
-either-low true x y n l m = l
-either-low false x y n l m = m
-
 -- without triggers the counts are the items
-row-plain : (rows items : ℕ) → rows ≤ 64 → items ≤ 16 → mostRowBytes rows items items ≤ 612
+row-plain : (rows items : ℕ) → rows ≤ 64 → items ≤ 16 → mostRowBytes rows items items ≤ 948
 unfolding mostRowBytes
-row-plain rows items l m = either-low (leb (52 + 16 * items + 8 * items) (100 + 8 * rows)) (100 + 8 * rows) (52 + 16 * items + 8 * items) 612 (omega arith) (omega arith)
+row-plain rows items l m = decide (leb (52 + 16 * items + 8 * items) 100) (λ e. rw e (omega arith)) (λ e. rw e (omega arith))
 
-pub longest-plain : (rows items : ℕ) → rows ≤ 64 → items ≤ 16 → longestNet rows items items ≤ 40424
+pub longest-plain : (rows items : ℕ) → rows ≤ 64 → items ≤ 16 → longestNet rows items items ≤ 61928
 unfolding longestNet
 longest-plain rows items l m = let p = mul-le-mul l (row-plain rows items l m) in omega arith
 

@@ -5,7 +5,7 @@ use Rattle.diagram_table.specs.Cells.{enteredIn, countsIn}
 use Rattle.net_records.specs.Writing.{Records, runs}
 use Rattle.net_records.specs.Records.{pair}
 use Rattle.net_rows.specs.Rows.{rowRecords, mostRowBytes}
-use Rattle.net_rows.specs.Marks.{netHead, rowMarks, countMarks, tally}
+use Rattle.net_marks.specs.Marks.{netHead, rowMarks, countMarks, tally}
 
 unfoldable pub netRecords : (table file : List ℕ) (rows items : ℕ) → Records
 netRecords table file rows items = pair netHead (3 * rows + countsIn table items) (tally table rows)
@@ -17,4 +17,4 @@ longestNet rows items counts = 8 + 6 * (3 * rows + counts) + rows * mostRowBytes
 
 -- room for every net: with so many rows, items and counts as can be (theorem `net-short`)
 abbrev pub netRoom : ℕ
-netRoom = 551304
+netRoom = 584072

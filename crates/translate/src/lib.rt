@@ -11,24 +11,22 @@ use diagram_table::SOME_TRIGGER;
 use diagram_table::WIDE;
 use effbd::Answer;
 use effbd::refusals::AREA_SHORT;
-use net_rows::marks;
-use net_rows::rows;
 
 // The whole net: its head, the marks of its places, the transitions.
 fn put_net(table: &[u16], file: &[u8], rows: u16, items: u16, area: &mut [u8], at: usize) -> usize
     ensures { λ r. ⌜ Wrote (now (area .entry)) at (now (area .exit)) r (netRecords (now (table .entry)) (now (file .entry)) rows items) ⌝ }
 {
-    let places = marks::head(table, rows, items, area, at);
-    let counts = marks::of_rows(table, rows, area, places);
-    let transitions = marks::of_counts(table, items, area, counts);
-    rows::transitions(table, file, rows, area, transitions)
+    let places = net_marks::head(table, rows, items, area, at);
+    let counts = net_marks::of_rows(table, rows, area, places);
+    let transitions = net_marks::of_counts(table, items, area, counts);
+    net_rows::transitions(table, file, rows, area, transitions)
 }
 
 // No net of so many rows, items and counts is longer (`never-longer`).
 fn longest(rows: u16, items: u16, counts: u32) -> usize
     ensures { λ r. ⌜ r ≡ longestNet rows items counts ⌝ }
 {
-    let row = rows::most_bytes(rows, items, counts);
+    let row = net_rows::most_bytes(rows, items, counts);
     8 + 6 * (3 * rows as usize + counts as usize) + rows as usize * row
 }
 
@@ -73,7 +71,7 @@ fn write(table: &[u16], file: &[u8], rows: u16, items: u16, most: usize, area: &
 }
 
 // No net of a plant without triggers is longer (`plain-shorter`): its bound needs no computing.
-const LONGEST_PLAIN: usize = 40424;
+const LONGEST_PLAIN: usize = 61928;
 
 // The net of a diagram file, written into the first bytes of the area: answers its length. A refused file's refusal, and AREA_SHORT with
 // the bytes needed where the area is too short; then nothing is altered.

@@ -35,6 +35,8 @@ pub const LOOP_EXIT: u16 = 26;
 
 pub const END: u16 = 27;
 
+pub const KILLING_BRANCH: u16 = 28;
+
 pub const NET_HEAD: u16 = 32;
 
 pub const PLACE: u16 = 33;
@@ -109,8 +111,8 @@ const TABLE: [u8; 76] = [
     0, // fields of LOOP_EXIT
     4, // length of END
     0, // fields of END
-    0,
-    0,
+    4, // length of KILLING_BRANCH
+    0, // fields of KILLING_BRANCH
     0,
     0,
     0,

@@ -1,7 +1,7 @@
 use Prim.Native.Nat.{_≤_}
 use lib.ListN.{length}
-use Rattle.play.specs.ReadyEnds.{leaderRoom, followerRoom}
-use Rattle.play.proofs.Readied.{sizes-fit, sizes-within}
+use Rattle.ends.specs.ReadyEnds.{leaderRoom, followerRoom}
+use Rattle.ends.proofs.Readied.{sizes-fit, sizes-within}
 use Rattle.bus_play.proofs.ListReading.{part-few}
 use Rattle.effbd.specs.Nesting.{readDiagram}
 use native.Mathlib.Omega.{arith}

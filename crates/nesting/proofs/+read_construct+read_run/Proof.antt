@@ -5,24 +5,24 @@ use mathlib.Core.Path.{refl, sym, _∙_, ap, subst}
 use mathlib.Core.Logic.{⊎-elim}
 use native.Mathlib.Omega.{arith}
 use borrow.Author.Needs.{needs}
-use borrow.Author.Tests.{not-true, not-false}
 use borrow.Fn.Kinds.{In, Out}
 use borrow.Fn.PlainCycle.{Measures, is, falls, and}
-use Rattle.nesting.specs.declared.Part.the-variants.{Stays}
-use Rattle.nesting.specs.Runs.{isAndOr, loopsIn}
-use Rattle.nesting.proofs.Walks.{part-is, RunState, run-start, run-last, run-end, run-fault, run-turned, run-astray, run-closed, run-unclosed, run-stays, run-deep, run-over, run-on, closed-within, turned-within, ConstructState, construct-start, construct-branched, construct-unbranched, construct-judged, construct-turned, construct-closed}
+use Rattle.nesting.specs.declared.Part.the-variants.{Turns, Stays}
+use Rattle.nesting.specs.Runs.{kindIn, firstIn, isAndOr, loopsIn, branchFault, openFault}
+use Rattle.nesting.proofs.Walks.{part-is, RunState, run-start, run-last, run-end, run-fault, run-turned, run-closed, run-unclosed, run-stays, run-deep, run-over, run-on, closed-within, turned-within, ConstructState, construct-start, construct-branched, construct-unbranched, construct-judged, construct-turned, construct-closed}
 use Rattle.nesting.proofs.read_construct.Reads as read-construct
 use Rattle.nesting.proofs.read_construct.Kinds as read-construct-kinds
 use Rattle.nesting.proofs.+read_construct+read_run.Lts-read_construct as read-construct-lts
 use Rattle.nesting.proofs.read_run.Reads as read-run
 use Rattle.nesting.proofs.read_run.Kinds as read-run-kinds
 use Rattle.nesting.proofs.+read_construct+read_run.Lts-read_run as read-run-lts
-use Rattle.nesting.proofs.branch_follows.Reads as branch-follows-reads
+use Rattle.nesting.proofs.branch_fault.Reads as branch-fault-reads
 use Rattle.nesting.proofs.closes.Reads as closes-reads
 use Rattle.nesting.proofs.is_and_or.Reads as is-and-or-reads
 use Rattle.nesting.proofs.kind_in.Reads as kind-in-reads
 use Rattle.nesting.proofs.last_fault.Reads as last-fault-reads
 use Rattle.nesting.proofs.loops.Reads as loops-reads
+use Rattle.nesting.proofs.open_fault.Reads as open-fault-reads
 use Rattle.nesting.proofs.part_of.Reads as part-of-reads
 use Rattle.nesting.proofs.stay_fault.Reads as stay-fault-reads
 use Rattle.nesting.proofs.top_in.Reads as top-in-reads
@@ -50,10 +50,10 @@ run-below t = and 1 read-run-kinds.ps (falls 1 read-run-kinds.ps _<_ μ-run t) r
 
 -- what each is handed of its callees
 abbrev construct-claims : ℕ → read-construct-lts.Claims
-construct-claims t = (kind-in-reads.Asked, kind-in-reads.Learnt, loops-reads.Asked, loops-reads.Learnt, is-and-or-reads.Asked, is-and-or-reads.Learnt, branch-follows-reads.Asked, branch-follows-reads.Learnt, run-below t, read-run.Post)
+construct-claims t = (kind-in-reads.Asked, kind-in-reads.Learnt, loops-reads.Asked, loops-reads.Learnt, is-and-or-reads.Asked, is-and-or-reads.Learnt, open-fault-reads.Asked, open-fault-reads.Learnt, run-below t, read-run.Post)
 
 abbrev run-claims : ℕ → read-run-lts.Claims
-run-claims t = (top-in-reads.Asked, top-in-reads.Learnt, kind-in-reads.Asked, kind-in-reads.Learnt, part-of-reads.Asked, part-of-reads.Learnt, construct-below t, read-construct.Post, is-and-or-reads.Asked, is-and-or-reads.Learnt, closes-reads.Asked, closes-reads.Learnt, stay-fault-reads.Asked, stay-fault-reads.Learnt, last-fault-reads.Asked, last-fault-reads.Learnt)
+run-claims t = (top-in-reads.Asked, top-in-reads.Learnt, kind-in-reads.Asked, kind-in-reads.Learnt, part-of-reads.Asked, part-of-reads.Learnt, construct-below t, read-construct.Post, branch-fault-reads.Asked, branch-fault-reads.Learnt, closes-reads.Asked, closes-reads.Learnt, stay-fault-reads.Asked, stay-fault-reads.Learnt, last-fault-reads.Asked, last-fault-reads.Learnt)
 
 abbrev construct-Inv : read-construct-lts.InvT-loop
 construct-Inv table rows opened around kind looped latest₀ from₀ latest from = ConstructState table rows opened around latest from
@@ -111,13 +111,13 @@ run-returns-3 : (t : ℕ) → Run read-run-lts.Need-returns-3 t
 run-returns-3 t c =
     let a = c .before .before .before .before .before .before .before .before .before .before .before .before .args in
     let s = c .before .before .before .before .before .before .before .loop in
-    run-turned (a .table .now) (a .rows) (a .from) (a .around) (s .row) (s .inv) (c .before .before .before .before .before .before .loop-test .taken) (part-is (c .before .before .before .before .part-of .ensures) (c .before .before .before .before .before .kind-in .ensures) (c .before .before .enum-told2 .given .1)) (sym (c .before .is-and-or .ensures ∙ ap isAndOr (c .before .before .before .before .before .before .before .before .before .before .top-in .ensures)) ∙ c .if2 .taken)
+    run-fault (a .table .now) (a .rows) (a .from) (a .around) (s .row) (s .inv) (c .before .before .before .before .before .before .loop-test .taken) Turns (part-is (c .before .before .before .before .part-of .ensures) (c .before .before .before .before .before .kind-in .ensures) (c .before .before .enum-told2 .given .1)) (c .before .branch-fault .result) (c .before .branch-fault .ensures ∙ ap (branchFault (firstIn (a .table .now) (s .row)) (kindIn (a .table .now) (a .rows) (s .row + 1))) (c .before .before .before .before .before .before .before .before .before .before .top-in .ensures)) (c .if2 .taken)
 
 run-returns-4 : (t : ℕ) → Run read-run-lts.Need-returns-4 t
 run-returns-4 t c =
     let a = c .before .before .before .before .before .before .before .before .before .before .before .before .args in
     let s = c .before .before .before .before .before .before .before .loop in
-    run-astray (a .table .now) (a .rows) (a .from) (a .around) (s .row) (s .inv) (c .before .before .before .before .before .before .loop-test .taken) (part-is (c .before .before .before .before .part-of .ensures) (c .before .before .before .before .before .kind-in .ensures) (c .before .before .enum-told2 .given .1)) (sym (c .before .is-and-or .ensures ∙ ap isAndOr (c .before .before .before .before .before .before .before .before .before .before .top-in .ensures)) ∙ c .if2 .left)
+    run-turned (a .table .now) (a .rows) (a .from) (a .around) (s .row) (s .inv) (c .before .before .before .before .before .before .loop-test .taken) (part-is (c .before .before .before .before .part-of .ensures) (c .before .before .before .before .before .kind-in .ensures) (c .before .before .enum-told2 .given .1)) (sym (c .if2 .left) ∙ (c .before .branch-fault .ensures ∙ ap (branchFault (firstIn (a .table .now) (s .row)) (kindIn (a .table .now) (a .rows) (s .row + 1))) (c .before .before .before .before .before .before .before .before .before .before .top-in .ensures)))
 
 run-returns-5 : (t : ℕ) → Run read-run-lts.Need-returns-5 t
 run-returns-5 t c =
@@ -158,14 +158,14 @@ run-returns-9 t c =
 construct-returns : (t : ℕ) → Construct read-construct-lts.Need-returns t
 construct-returns t c =
     let a = c .before .before .before .before .before .before .before .args in
-    construct-unbranched (a .table .now) (a .rows) (a .opened) (a .around) (omega arith) (sym (c .before .before .before .is-and-or .ensures ∙ ap isAndOr (c .before .before .before .before .before .kind-in .ensures)) ∙ c .before .before .if1 .taken) (sym (c .before .branch-follows .ensures) ∙ not-true (c .before .branch-follows .result) (c .if2 .taken))
+    construct-unbranched (a .table .now) (a .rows) (a .opened) (a .around) (omega arith) (sym (c .before .before .before .is-and-or .ensures ∙ ap isAndOr (c .before .before .before .before .before .kind-in .ensures)) ∙ c .before .before .if1 .taken) (c .before .open-fault .result) (c .before .open-fault .ensures ∙ ap (openFault (a .table .now) (a .rows) (a .opened + 1)) (c .before .before .before .before .before .kind-in .ensures)) (c .if2 .taken)
 
 construct-loop-holds : (t : ℕ) → Construct read-construct-lts.Need-loop-holds t
 construct-loop-holds t c =
     let a = c .before .before .before .before .before .args in
     let kind = sym (c .before .is-and-or .ensures ∙ ap isAndOr (c .before .before .before .kind-in .ensures)) in
     ⊎-elim
-    (λ w. subst (ConstructState (a .table .now) (a .rows) (a .opened) (a .around) (a .opened + 1)) (sym (w .3)) (construct-branched (a .table .now) (a .rows) (a .opened) (a .around) (omega arith) (kind ∙ w .0 .taken) (sym (w .1 .ensures) ∙ not-false (w .1 .result) (w .2 .left))))
+    (λ w. subst (ConstructState (a .table .now) (a .rows) (a .opened) (a .around) (a .opened + 1)) (sym (w .3)) (construct-branched (a .table .now) (a .rows) (a .opened) (a .around) (omega arith) (kind ∙ w .0 .taken) (w .1 .result) (w .1 .ensures ∙ ap (openFault (a .table .now) (a .rows) (a .opened + 1)) (c .before .before .before .kind-in .ensures)) (w .2 .left)))
     (λ w. subst (ConstructState (a .table .now) (a .rows) (a .opened) (a .around) (a .opened + 1)) (sym (w .1)) (construct-start (a .table .now) (a .rows) (a .opened) (a .around) (omega arith) (kind ∙ w .0 .left)))
     (c .if1 .came)
 

@@ -1,8 +1,8 @@
-use Prim.Native.Nat.{_+_, _*_}
-use mathlib.Core.Path.{ap}
-use Rattle.net_loops.specs.LoopTransitions.{itTurn, itOpen}
 use Rattle.net_records.proofs.Writing.{and-then, same}
-use Rattle.net_loops.proofs.ComputedTransitions.{second-turn}
+use Rattle.net_loops.proofs.ComputedTransitions.{over-turn}
+use Rattle.net_loops.specs.LoopTransitions.{itTurn, itOpen}
+use mathlib.Core.Path.{ap}
+use Prim.Native.Nat.{_+_, _*_}
 use borrow.Author.Needs.{needs}
 use Rattle.net_loops.proofs.it_open.Statement.{statement}
 use Rattle.net_loops.proofs.it_open.Tie as tie
@@ -31,40 +31,25 @@ it-turn-requires c κs = search needs
 cell-requires : tie.Need-cell-requires
 cell-requires c κs = search needs
 
-cell-requires-2 : tie.Need-cell-requires-2
-cell-requires-2 c κs = search needs
+cast-entered-row : tie.Need-cast-entered-row
+cast-entered-row c = search needs
 
-cast-entry : tie.Need-cast-entry
-cast-entry c = search needs
+add-entered-row : tie.Need-add-entered-row
+add-entered-row c = search needs
 
-add-entry-2 : tie.Need-add-entry-2
-add-entry-2 c = search needs
+entered-row-requires : tie.Need-entered-row-requires
+entered-row-requires c κs = search needs
 
-entry-requires-2 : tie.Need-entry-requires-2
-entry-requires-2 c κs = search needs
-
-mul-it-turn-3 : tie.Need-mul-it-turn-3
-mul-it-turn-3 c = search needs
-
-add-it-turn-3 : tie.Need-add-it-turn-3
-add-it-turn-3 c = search needs
-
-mul-it-turn-4 : tie.Need-mul-it-turn-4
-mul-it-turn-4 c = search needs
-
-add-it-turn-4 : tie.Need-add-it-turn-4
-add-it-turn-4 c = search needs
-
-it-turn-requires-2 : tie.Need-it-turn-requires-2
-it-turn-requires-2 c κs = search needs
+it-over-requires : tie.Need-it-over-requires
+it-over-requires c κs = search needs
 
 same-length : tie.Need-same-length
 same-length c = search needs
 
 returns : tie.Need-returns
 unfolding itOpen
-returns c = let a = c .before .before .before .before .before .before .before .before .before .before .before .before .before .before .args in
-    and-then (same (ap (itTurn (a .row) (3 * a .row + 2) (3 * a .row + 1) 1) (c .before .before .before .before .before .before .before .before .before .before .before .entry .ensures)) (c .before .before .before .before .before .before .before .before .before .it-turn .ensures)) (same (second-turn (a .table .now) (a .row) (c .before .before .before .before .before .before .cell .result) (c .before .before .before .before .before .cell2 .result) (c .before .before .before .before .entry2 .result) (c .before .before .before .before .before .before .cell .ensures) (c .before .before .before .before .before .cell2 .ensures) (c .before .before .before .before .entry2 .ensures)) (c .before .before .it-turn2 .ensures))
+returns c = let a = c .before .before .before .before .before .before .before .before .before .before .before .before .before .args in
+    and-then (same (ap (itTurn (a .row) (3 * a .row + 2) (3 * a .row + 1) 1) (c .before .before .before .before .before .before .before .before .before .before .entry .ensures)) (c .before .before .before .before .before .before .before .before .it-turn .ensures)) (same (over-turn (a .table .now) (a .row) (c .before .before .before .before .before .cell .result) (c .before .before .before .before .entered-row .result) (c .before .before .before .before .before .cell .ensures) (c .before .before .before .before .entered-row .ensures)) (c .before .before .it-over .ensures))
 
 pub it-open-spec : {M : Type 1} → statement M
 it-open-spec =
@@ -78,14 +63,9 @@ it-open-spec =
     add-it-turn-2
     it-turn-requires
     cell-requires
-    cell-requires-2
-    cast-entry
-    add-entry-2
-    entry-requires-2
-    mul-it-turn-3
-    add-it-turn-3
-    mul-it-turn-4
-    add-it-turn-4
-    it-turn-requires-2
+    cast-entered-row
+    add-entered-row
+    entered-row-requires
+    it-over-requires
     same-length
     returns)

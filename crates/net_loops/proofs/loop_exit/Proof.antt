@@ -13,24 +13,24 @@ cast-cell c = search needs
 cell-requires-2 : tie.Need-cell-requires-2
 cell-requires-2 c κs = search needs
 
-cast-entry : tie.Need-cast-entry
-cast-entry c = search needs
+cast-entered-row : tie.Need-cast-entered-row
+cast-entered-row c = search needs
 
-add-entry : tie.Need-add-entry
-add-entry c = search needs
+add-entered-row : tie.Need-add-entered-row
+add-entered-row c = search needs
 
-entry-requires : tie.Need-entry-requires
-entry-requires c κs = search needs
+entered-row-requires : tie.Need-entered-row-requires
+entered-row-requires c κs = search needs
 
-leave-requires : tie.Need-leave-requires
-leave-requires c κs = search needs
+exit-turn-requires : tie.Need-exit-turn-requires
+exit-turn-requires c κs = search needs
 
 same-length : tie.Need-same-length
 same-length c = search needs
 
 returns : tie.Need-returns
 returns c = let a = c .before .before .before .before .before .before .before .before .before .args in
-    same (exit-turn (a .table .now) (a .row) (c .before .before .before .before .before .before .cell .result) (c .before .before .before .before .before .cell2 .result) (c .before .before .before .before .entry .result) (c .before .before .before .before .before .before .cell .ensures) (c .before .before .before .before .before .cell2 .ensures) (c .before .before .before .before .entry .ensures)) (c .before .before .leave .ensures)
+    same (exit-turn (a .table .now) (a .row) (c .before .before .before .before .before .before .cell .result) (c .before .before .before .before .before .cell2 .result) (c .before .before .before .before .entered-row .result) (c .before .before .before .before .before .before .cell .ensures) (c .before .before .before .before .before .cell2 .ensures) (c .before .before .before .before .entered-row .ensures)) (c .before .before .exit-turn .ensures)
 
 pub loop-exit-spec : {M : Type 1} → statement M
 loop-exit-spec =
@@ -39,9 +39,9 @@ loop-exit-spec =
     cell-requires
     cast-cell
     cell-requires-2
-    cast-entry
-    add-entry
-    entry-requires
-    leave-requires
+    cast-entered-row
+    add-entered-row
+    entered-row-requires
+    exit-turn-requires
     same-length
     returns)

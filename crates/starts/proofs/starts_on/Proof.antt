@@ -1,3 +1,6 @@
+use Prim.Native.Nat.{ℕ}
+use lib.ListN.{length-replicate}
+use Rattle.starts.specs.Counting.{gapBytes}
 use Rattle.starts.proofs.Told.{fault-off, begins}
 use mathlib.Core.Path.{refl, sym, _∙_}
 use borrow.Author.Needs.{needs}
@@ -10,14 +13,8 @@ fault-requires c κs = search needs
 returns : tie.Need-returns
 returns c = let a = c .before .before .before .before .before .before .args in fault-off (a .file .now) (a .log .now) (a .row) (a .at .now) (a .rows) (a .items) (a .table .now) (c .before .before .before .before .before .before .pre .plant) (c .before .fault .result) (c .before .fault .ensures) (c .if1 .taken)
 
-sub-count-starts : tie.Need-sub-count-starts
-sub-count-starts c = search needs
-
-part-gaps-start : tie.Need-part-gaps-start
-part-gaps-start c = search needs
-
-part-gaps-end : tie.Need-part-gaps-end
-part-gaps-end c = search needs
+slice-aggregate-count-starts : tie.Need-slice-aggregate-count-starts
+slice-aggregate-count-starts c = sym (length-replicate {A = ℕ} gapBytes 0)
 
 count-starts-requires : tie.Need-count-starts-requires
 count-starts-requires c κs = let a = c .before .before .before .before .before .before .before .before .before .args in begins (a .file .now) (a .log .now) (a .row) (a .at .now) (a .rows) (a .items) (a .table .now) (c .before .before .before .before .before .before .before .before .before .pre .plant) (a .state .now) _ (sym (c .before .before .before .before .fault .ensures) ∙ c .before .before .before .if1 .left) (c .before .before .before .before .before .before .before .before .before .pre .fresh) refl
@@ -34,9 +31,7 @@ starts-on-spec =
     (tie.spec
     fault-requires
     returns
-    sub-count-starts
-    part-gaps-start
-    part-gaps-end
+    slice-aggregate-count-starts
     count-starts-requires
     same-length
     returns-2)

@@ -1,4 +1,4 @@
-use Rattle.bus_play.proofs.WrittenTexts.{telegram-text, other-text}
+use Rattle.bus_play.proofs.WrittenCalls.{telegram-text, other-text}
 use Rattle.text.specs.LaidLaws.{and-then, same}
 use borrow.Author.Needs.{needs}
 use Rattle.bus_play.proofs.lines.put_bytes.Statement.{statement}

@@ -1,4 +1,4 @@
-use Rattle.bus_play.proofs.WrittenTexts.{offer-text, hand-text, handed-few}
+use Rattle.bus_play.proofs.WrittenCalls.{offer-text, hand-text, handed-few}
 use Rattle.text.specs.LaidLaws.{same}
 use borrow.Author.Needs.{needs}
 use Rattle.bus_play.proofs.lines.put_call.Statement.{statement}

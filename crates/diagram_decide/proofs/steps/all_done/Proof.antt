@@ -1,45 +1,42 @@
-use Rattle.diagram_decide.proofs.BranchesDone.{done-start, done-from}
-use Rattle.diagram_moves.specs.RowStores.{all-more, all-less}
-use Rattle.diagram_moves.specs.Decisions.{doneFrom, allDoneTo}
-use Rattle.ranges.specs.RangeLaws.{all-fail}
-use Rattle.effbd.specs.Ranges.{allBelow}
-use mathlib.Core.Bool.{true}
-use mathlib.Core.Path.{_≡_, sym, _∙_}
-use Prim.Native.Nat.{_≤_, _-_}
-use borrow.Author.Tests.{not-true, not-false}
-use native.Mathlib.Omega.{arith}
+use Rattle.diagram_decide.proofs.BranchesDone.{Asking, ask-start, ask-fails, ask-ends, ask-on}
+use Rattle.diagram_moves.specs.Decisions.{branchesDone}
 use borrow.Author.Needs.{needs}
 use Rattle.diagram_decide.proofs.steps.all_done.Statement.{statement}
 use Rattle.diagram_decide.proofs.steps.all_done.Tie as tie
 
 abbrev Inv-loop : tie.InvT-loop
-Inv-loop table state owner end row₀ row = (owner ≤ row) × (allBelow row (doneFrom table state owner) ≡ true)
+Inv-loop table state last row₀ row = Asking table state (branchesDone table state last) row
 
 abbrev μ-loop : tie.MeasureT-loop
-μ-loop table state owner end row₀ row = end - row
+μ-loop table state last row₀ row = row
 
 loop-holds : tie.Need-loop-holds Inv-loop μ-loop
-loop-holds c = (search needs, done-start (c .before .before .args .table .now) (c .before .before .args .state .now) (c .before .before .args .owner))
+loop-holds c = let a = c .before .before .args in
+    ask-start (a .table .now) (a .state .now) (a .last)
 
-done-at-requires : tie.Need-done-at-requires Inv-loop μ-loop
-done-at-requires c κs = search needs
+activity-requires : tie.Need-activity-requires Inv-loop μ-loop
+activity-requires c κs = search needs
 
 returns : tie.Need-returns Inv-loop μ-loop
-unfolding allDoneTo
-returns c = sym (all-fail (c .before .before .before .before .before .before .args .end) (doneFrom (c .before .before .before .before .before .before .args .table .now) (c .before .before .before .before .before .before .args .state .now) (c .before .before .before .before .before .before .args .owner)) (c .before .before .before .loop .row) (omega arith) (done-from (c .before .before .before .before .before .before .args .table .now) (c .before .before .before .before .before .before .args .state .now) (c .before .before .before .before .before .before .args .owner) (c .before .before .before .loop .row) _ (c .before .before .before .loop .inv .0) (c .before .done-at .ensures) ∙ not-true _ (c .if1 .taken)))
+returns c = let a = c .before .before .before .before .before .args in
+    ask-fails (a .table .now) (a .state .now) (c .before .before .loop .inv) (c .before .activity .result) (c .before .activity .ensures) (c .if1 .taken)
 
-add-row : tie.Need-add-row Inv-loop μ-loop
-add-row c = search needs
+cell-requires : tie.Need-cell-requires Inv-loop μ-loop
+cell-requires c κs = search needs
+
+cast-before : tie.Need-cast-before Inv-loop μ-loop
+cast-before c = search needs
+
+returns-2 : tie.Need-returns-2 Inv-loop μ-loop
+returns-2 c = let a = c .before .before .before .before .before .before .before .args in
+    ask-ends (a .table .now) (a .state .now) (c .before .before .before .before .loop .inv) (c .before .before .before .activity .result) (c .before .before .before .activity .ensures) (c .before .cell .result) (c .before .cell .ensures) (c .before .before .if1 .left) (c .if2 .taken)
 
 loop-less : tie.Need-loop-less Inv-loop μ-loop
 loop-less c = search needs
 
 loop-again : tie.Need-loop-again Inv-loop μ-loop
-loop-again c = (omega arith, all-more (doneFrom (c .before .before .before .before .before .before .args .table .now) (c .before .before .before .before .before .before .args .state .now) (c .before .before .before .before .before .before .args .owner)) (c .before .before .before .loop .row) (c .before .before .before .loop .inv .1) (done-from (c .before .before .before .before .before .before .args .table .now) (c .before .before .before .before .before .before .args .state .now) (c .before .before .before .before .before .before .args .owner) (c .before .before .before .loop .row) _ (c .before .before .before .loop .inv .0) (c .before .done-at .ensures) ∙ not-false _ (c .if1 .left)))
-
-returns-2 : tie.Need-returns-2 Inv-loop μ-loop
-unfolding allDoneTo
-returns-2 c = all-less (doneFrom (c .before .before .before .before .args .table .now) (c .before .before .before .before .args .state .now) (c .before .before .before .before .args .owner)) (c .before .loop .row) (c .before .before .before .before .args .end) (c .before .loop .inv .1) (omega arith)
+loop-again c = let a = c .before .before .before .before .before .before .before .args in
+    ask-on (a .table .now) (a .state .now) (c .before .before .before .before .loop .inv) (c .before .before .before .activity .result) (c .before .before .before .activity .ensures) (c .before .cell .result) (c .before .cell .ensures) (c .before .before .if1 .left) (c .if2 .left)
 
 pub all-done-spec : {M : Type 1} → statement M
 all-done-spec =
@@ -48,9 +45,10 @@ all-done-spec =
     Inv-loop
     μ-loop
     loop-holds
-    done-at-requires
+    activity-requires
     returns
-    add-row
+    cell-requires
+    cast-before
+    returns-2
     loop-less
-    loop-again
-    returns-2)
+    loop-again)

@@ -1,5 +1,5 @@
-use Rattle.diagram_moves.specs.Decisions.{closeVerdict}
 use mathlib.Core.Path.{sym, _∙_}
+use Rattle.diagram_moves.specs.Decisions.{closeVerdict}
 use borrow.Author.Needs.{needs}
 use Rattle.diagram_decide.proofs.steps.and_close.Statement.{statement}
 use Rattle.diagram_decide.proofs.steps.and_close.Tie as tie
@@ -7,8 +7,8 @@ use Rattle.diagram_decide.proofs.steps.and_close.Tie as tie
 cell-requires : tie.Need-cell-requires
 cell-requires c κs = search needs
 
-cast-owner : tie.Need-cast-owner
-cast-owner c = search needs
+cast-last : tie.Need-cast-last
+cast-last c = search needs
 
 all-done-requires : tie.Need-all-done-requires
 all-done-requires c κs = search needs
@@ -22,4 +22,4 @@ unfolding closeVerdict
 returns-2 c = rw (← c .before .before .cell .ensures, sym (c .before .all-done .ensures) ∙ c .if1 .left)
 
 pub and-close-spec : {M : Type 1} → statement M
-and-close-spec = tie.close (tie.spec cell-requires cast-owner all-done-requires returns returns-2)
+and-close-spec = tie.close (tie.spec cell-requires cast-last all-done-requires returns returns-2)

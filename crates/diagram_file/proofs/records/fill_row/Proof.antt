@@ -1,4 +1,4 @@
-use Rattle.diagram_file.proofs.Fields.{base-at, behind-at, fields-at, function-row, other-row}
+use Rattle.diagram_file.proofs.Fields.{base-at, behind-at, fields-at, function-row, killer-row, other-row}
 use borrow.Author.Needs.{needs}
 use Rattle.diagram_file.proofs.records.fill_row.Statement.{statement}
 use Rattle.diagram_file.proofs.records.fill_row.Tie as tie
@@ -42,6 +42,9 @@ put-row-requires c κs = search needs
 put-row-requires-2 : tie.Need-put-row-requires-2
 put-row-requires-2 c κs = search needs
 
+put-row-requires-3 : tie.Need-put-row-requires-3
+put-row-requires-3 c κs = search needs
+
 same-length : tie.Need-same-length
 same-length c = search needs
 
@@ -56,9 +59,18 @@ same-length-2 c = search needs
 
 returns-2 : tie.Need-returns-2
 returns-2 c =
-    let a = c .before .before .before .before .before .before .before .before .before .before .before .before .args in
-    other-row (a .row) (a .at) (a .bytes .now) (a .table .now) (c .before .before .before .before .before .before .before .before .word .ensures) (fields-at (a .entries .now) (c .before .before .before .before .before .before .before .before .word .result) (c .before .before .before .before .before .before .before .before .before .before .before .before .pre .1 .1) (c .before .before .before .before .before .before .before .field-count .ensures .0)) (c .before .before .before .before .before .before .field .ensures) (c .before .before .before .before .before .field2 .ensures)
-    (c .before .before .before .before .if1 .left) (c .before .before .put-row2 .ensures)
+    let a = c .before .before .before .before .before .before .before .before .before .before .before .before .before .args in
+    killer-row (a .row) (a .at) (a .bytes .now) (a .table .now) (c .before .before .before .before .before .before .before .before .before .word .ensures) (fields-at (a .entries .now) (c .before .before .before .before .before .before .before .before .before .word .result) (c .before .before .before .before .before .before .before .before .before .before .before .before .before .pre .1 .1) (c .before .before .before .before .before .before .before .before .field-count .ensures .0)) (c .before .before .before .before .before .before .before .field .ensures) (c .before .before .before .before .before .before .field2 .ensures)
+    (c .before .before .before .before .if2 .taken) (c .before .before .put-row2 .ensures)
+
+same-length-3 : tie.Need-same-length-3
+same-length-3 c = search needs
+
+returns-3 : tie.Need-returns-3
+returns-3 c =
+    let a = c .before .before .before .before .before .before .before .before .before .before .before .before .before .args in
+    other-row (a .row) (a .at) (a .bytes .now) (a .table .now) (c .before .before .before .before .before .before .before .before .before .word .ensures) (fields-at (a .entries .now) (c .before .before .before .before .before .before .before .before .before .word .result) (c .before .before .before .before .before .before .before .before .before .before .before .before .before .pre .1 .1) (c .before .before .before .before .before .before .before .before .field-count .ensures .0)) (c .before .before .before .before .before .before .before .field .ensures) (c .before .before .before .before .before .before .field2 .ensures)
+    (c .before .before .before .before .before .if1 .left) (c .before .before .before .before .if2 .left) (c .before .before .put-row3 .ensures)
 
 pub fill-row-spec : {M : Type 1} → statement M
 fill-row-spec =
@@ -77,7 +89,10 @@ fill-row-spec =
     cast-put-row
     put-row-requires
     put-row-requires-2
+    put-row-requires-3
     same-length
     returns
     same-length-2
-    returns-2)
+    returns-2
+    same-length-3
+    returns-3)

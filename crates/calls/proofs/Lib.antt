@@ -1,0 +1,4 @@
+pub mod Calls
+pub mod Lengths
+pub mod Lists
+pub mod Turns

@@ -1,0 +1,2 @@
+pub mod LaidNets
+pub mod Readied

@@ -1,0 +1,5 @@
+pub mod Weights
+pub mod ClearRanges
+pub mod PatternRecords
+pub mod Entries
+pub mod Kills

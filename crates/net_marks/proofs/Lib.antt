@@ -1,0 +1,2 @@
+pub mod CountMarks
+pub mod HeadMarks
