@@ -4,14 +4,16 @@ use crate::calls::{self, equal, hex, End};
 use crate::met::Met;
 use crate::Verdict;
 use model::bus::Telegram;
-use model::diagram::Row;
+use model::diagram::{Row, MOST_ROWS};
+use model::diagram_step::{fresh_state, moved, STEP};
 use model::generate::{
     accepted_log, bus_list, crowded_diagram, damaged_diagram, damaged_log, damaged_net, diagram,
-    foreign_net, lasting_diagram, lasting_trigger_diagram, net_state, odd_state, passing_state,
-    round_log, walk, Random,
+    foreign_net, killing_diagram, lasting_diagram, lasting_killing_diagram,
+    lasting_trigger_diagram, net_state, odd_state, passing_state, round_log, walk, Random,
 };
 use model::history::{moves_to_try, Call, History};
-use model::logs::MOST_MOVES;
+use model::kills::{has_kills, kill_by};
+use model::logs::{Log, MOST_MOVES};
 use model::translate::net_of;
 
 /// A kind of case.
@@ -40,6 +42,7 @@ pub const KINDS: [Kind; 9] = [
 fn plant(random: &mut Random) -> Vec<u8> {
     match random.below(100) {
         0 => crowded_diagram(random),
+        1..=15 => killing_diagram(random),
         _ => diagram(random),
     }
 }
@@ -122,6 +125,7 @@ fn diagram_file(random: &mut Random, met: &mut Met) -> Verdict {
     calls::read_diagram(met, &file)?;
     let needed = net_of(&file).map_or(20, |net| net.len());
     let length = any_net_area_length(random, needed);
+    met.note_kills("translate", kills_of(&file));
     calls::translate(met, &file, &any_area(random, length))?;
     let words = model::diagram::read(&file).unwrap_or(7) as usize;
     let length = any_length(random, words);
@@ -129,8 +133,9 @@ fn diagram_file(random: &mut Random, met: &mut Met) -> Verdict {
 }
 
 /// Any area for the net, and one for the text that is near the text's length or far from it.
-fn annex_text(random: &mut Random, _: &mut Met) -> Verdict {
+fn annex_text(random: &mut Random, met: &mut Met) -> Verdict {
     let file = any_diagram(random);
+    met.note_kills("annex", kills_of(&file));
     let needed = net_of(&file).map_or(20, |net| net.len());
     let length = any_net_area_length(random, needed);
     let net = any_area(random, length);
@@ -140,12 +145,13 @@ fn annex_text(random: &mut Random, _: &mut Met) -> Verdict {
 }
 
 /// Every row, some that the file does not have, and any.
-fn uses_of_rows(random: &mut Random, _: &mut Met) -> Verdict {
+fn uses_of_rows(random: &mut Random, met: &mut Met) -> Verdict {
     let file = if random.chance(70) {
         plant(random)
     } else {
         any_diagram(random)
     };
+    met.note_kills("uses", kills_of(&file));
     let rows = model::diagram::parse(&file).map_or(8, |diagram| diagram.rows.len() as u16);
     for row in (0..rows + 2).chain([63, 64, 65, 65_535, random.word()]) {
         calls::uses(&file, row)?;
@@ -153,10 +159,26 @@ fn uses_of_rows(random: &mut Random, _: &mut Met) -> Verdict {
     Ok(())
 }
 
+/// A state reached where some move kills, or else the last of a long walk.
+fn state_before_kill(random: &mut Random, file: &[u8]) -> Vec<u16> {
+    let mut states = walk(random, file, 40);
+    let steps: Vec<_> = (0..MOST_ROWS as u16).map(|row| (STEP, row)).collect();
+    if kills_of(file) > 0 {
+        let killing = |state: &&Vec<u16>| kills_among(file, state, &steps) > 0;
+        let before: Vec<_> = states.iter().filter(killing).cloned().collect();
+        if !before.is_empty() {
+            states = before;
+            states.truncate(random.below(states.len()) + 1);
+        }
+    }
+    states.pop().unwrap_or_default()
+}
+
 /// A state of a diagram: reached, passing 20, odd, or any words.
 fn any_state(random: &mut Random, file: &[u8]) -> Vec<u16> {
     match random.below(8) {
-        0..=3 => walk(random, file, 12).pop().unwrap_or_default(),
+        0..=2 => walk(random, file, 12).pop().unwrap_or_default(),
+        3 => state_before_kill(random, file),
         4..=5 => passing_state(random, file),
         6 => odd_state(random, file),
         _ => {
@@ -164,6 +186,24 @@ fn any_state(random: &mut Random, file: &[u8]) -> Vec<u16> {
             net_state(random, length)
         }
     }
+}
+
+/// 1 for a plant with branches that kill.
+fn kills_of(file: &[u8]) -> usize {
+    let kills = model::diagram::parse(file).is_ok_and(|diagram| has_kills(&diagram));
+    usize::from(kills)
+}
+
+/// How many of these moves are accepted at a state and kill.
+fn kills_among(file: &[u8], state: &[u16], moves: &[(u16, u16)]) -> usize {
+    let Ok(diagram) = model::diagram::parse(file) else {
+        return 0;
+    };
+    let kills = |(code, argument): &&(u16, u16)| {
+        model::diagram_step::after(&diagram, state, *code, *argument).is_ok()
+            && kill_by(&diagram, state, (*code, *argument)).is_some()
+    };
+    moves.iter().filter(kills).count()
 }
 
 /// Every move worth trying at a state, and some of any code.
@@ -178,7 +218,9 @@ fn moves(random: &mut Random, file: &[u8], state: &[u16]) -> Vec<(u16, u16)> {
 fn diagram_steps(random: &mut Random, met: &mut Met) -> Verdict {
     let file = likely_diagram(random);
     let state = any_state(random, &file);
-    for (code, argument) in moves(random, &file, &state) {
+    let moves = moves(random, &file, &state);
+    met.note_kills("diagram step", kills_among(&file, &state, &moves));
+    for (code, argument) in moves {
         calls::step_diagram(met, &file, &state, code, argument)?;
     }
     Ok(())
@@ -192,6 +234,9 @@ fn net_file(random: &mut Random, met: &mut Met) -> Verdict {
 }
 
 fn net_steps(random: &mut Random, met: &mut Met) -> Verdict {
+    if random.chance(30) {
+        return plant_net_steps(random, met);
+    }
     let net = any_net(random);
     let length = any_length(random, model::net::read(&net).unwrap_or(5) as usize);
     let mut state = net_state(random, length);
@@ -208,6 +253,20 @@ fn net_steps(random: &mut Random, met: &mut Met) -> Verdict {
         };
         calls::step_net(met, &net, &state, code, argument)?;
         let _ = model::net_step::step(&net, &mut state, code, argument);
+    }
+    Ok(())
+}
+
+/// Every move worth trying at the image of a state of a plant.
+fn plant_net_steps(random: &mut Random, met: &mut Met) -> Verdict {
+    let file = plant(random);
+    let net = net_of(&file).unwrap_or_default();
+    let state = any_state(random, &file);
+    let marks = model::image::image(&file, &state).unwrap_or_default();
+    let moves = moves(random, &file, &state);
+    met.note_kills("net step", kills_among(&file, &state, &moves));
+    for (code, argument) in moves {
+        calls::step_net(met, &net, &marks, code, argument)?;
     }
     Ok(())
 }
@@ -263,7 +322,9 @@ fn bus_ends(random: &mut Random, met: &mut Met) -> Verdict {
         any_net(random)
     };
     let marks = model::image::image(&file, &state).unwrap_or_default();
-    for made in moves(random, &file, &state) {
+    let moves = moves(random, &file, &state);
+    met.note_kills("offer and take", kills_among(&file, &state, &moves));
+    for made in moves {
         let end = End {
             count: any_count(random),
             station: random.word(),
@@ -353,6 +414,10 @@ fn play(met: &mut Met, file: &[u8], station: u16, list: &[Call]) -> Verdict {
         seen.push(answer.is_ok());
     }
     let history = model::history::history(file, station, list).map_err(refused)?;
+    for (state, telegram) in history.states.iter().zip(&history.telegrams) {
+        let made = (telegram.code, telegram.argument);
+        met.note_kills("list", kills_among(file, state, &[made]));
+    }
     let due = areas_due(list, &history);
     equal("accepted and taken, call by call", &history.counted, &seen)?;
     equal("the areas of the offers", &due, &areas)?;
@@ -375,10 +440,10 @@ fn logging_diagram(random: &mut Random) -> Vec<u8> {
         7..=8 => return plant(random),
         _ => return any_diagram(random),
     };
-    if random.chance(25) {
-        lasting_trigger_diagram(random, row_count)
-    } else {
-        lasting_diagram(random, row_count)
+    match random.below(8) {
+        0 | 1 => lasting_trigger_diagram(random, row_count),
+        2 | 3 => lasting_killing_diagram(random, row_count),
+        _ => lasting_diagram(random, row_count),
     }
 }
 
@@ -439,6 +504,24 @@ fn rows_to_ask(random: &mut Random, file: &[u8]) -> Vec<u16> {
     asked
 }
 
+/// How many of the first moves of a log kill.
+fn kills_in_log(file: &[u8], log: &[u8]) -> usize {
+    let (Ok(diagram), Ok(log)) = (model::diagram::parse(file), Log::read(log)) else {
+        return 0;
+    };
+    let mut state = fresh_state(&diagram);
+    let mut kills = 0;
+    for made in log.moves().take(40) {
+        let Ok(next) = moved(&diagram, &state, made.code, made.argument) else {
+            break;
+        };
+        let kill = kill_by(&diagram, &state, (made.code, made.argument));
+        kills += usize::from(kill.is_some());
+        state = next;
+    }
+    kills
+}
+
 fn starts_in_logs(random: &mut Random, met: &mut Met) -> Verdict {
     // A log of 65,535 moves costs as much as hundreds of others.
     let (file, log) = if random.below(150) == 0 {
@@ -448,6 +531,7 @@ fn starts_in_logs(random: &mut Random, met: &mut Met) -> Verdict {
         let log = any_log(random, &file);
         (file, log)
     };
+    met.note_kills("log", kills_in_log(&file, &log));
     for row in rows_to_ask(random, &file) {
         calls::log_starts(met, &file, &log, row, random.draw() as u32)?;
     }

@@ -1,4 +1,4 @@
-//! Which answers a run has met, held against the list of refusals.
+//! Which answers a run has met, held against the list of refusals, and which calls have met kills.
 
 use effbd::Answer;
 use std::collections::BTreeMap;
@@ -15,10 +15,11 @@ pub fn listed() -> impl Iterator<Item = (u32, &'static str)> {
     })
 }
 
-/// How often each number was answered; 0 is accepted.
+/// How often each number was answered; 0 is accepted. How often each call met a kill.
 #[derive(Default)]
 pub struct Met {
     times: BTreeMap<u32, u64>,
+    kills: BTreeMap<&'static str, u64>,
 }
 
 impl Met {
@@ -41,6 +42,22 @@ impl Met {
         listed()
             .filter(|(number, _)| self.times(*number) == 0)
             .collect()
+    }
+
+    /// Notes how many kills a call met, be it none.
+    pub fn note_kills(&mut self, call: &'static str, kills: usize) {
+        *self.kills.entry(call).or_default() += kills as u64;
+    }
+
+    /// How often each call met a kill; in a run of some length each should.
+    pub fn kills(&self) -> &BTreeMap<&'static str, u64> {
+        &self.kills
+    }
+
+    /// The calls that never met one.
+    pub fn without_kills(&self) -> Vec<&'static str> {
+        let never = self.kills.iter().filter(|(_, times)| **times == 0);
+        never.map(|(call, _)| *call).collect()
     }
 
     /// The refusal that came least often: times, number, name.

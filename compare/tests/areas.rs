@@ -59,6 +59,8 @@ fn plants() -> Vec<Vec<u8>> {
         examples::longest_plain_net(),
         examples::door_open(),
         examples::unheard_trigger(1),
+        examples::pressure_trip(),
+        examples::trip_by_loop_exit(),
         examples::longest_net(),
     ];
     let mut random = Random::new(65_535);

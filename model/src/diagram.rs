@@ -1,19 +1,22 @@
 //! Diagram files: "Diagram records" (refusals 1 to 6) and "Nesting" (7 to 9);
-//! document 02's request 2, "Triggers reach everyone" (43).
+//! document 02's requests 2, "Triggers reach everyone" (43), and 3, "Branches
+//! that kill" (44).
 
 use crate::records::{
     record, word, Reader, Record, AND_CLOSE, AND_OPEN, BRANCH, END, FUNCTION, HEAD, ITEM, IT_CLOSE,
-    IT_OPEN, LOOP_EXIT, LP_CLOSE, LP_OPEN, OR_CLOSE, OR_OPEN, TRIGGER, USE_LENGTH,
+    IT_OPEN, KILLING_BRANCH, LOOP_EXIT, LP_CLOSE, LP_OPEN, OR_CLOSE, OR_OPEN, TRIGGER, USE_LENGTH,
 };
 use crate::refusal::{
-    refusal, Answer, Refusal, FIELD_OFF, HEAD_VALUE_OFF, LOOP_EXIT_MISPLACED, NESTING_BROKEN,
-    TOO_MANY_OPEN, TRIGGER_OFF,
+    refusal, Answer, Refusal, FIELD_OFF, HEAD_VALUE_OFF, KILLING_BRANCH_EMPTY, LOOP_EXIT_MISPLACED,
+    NESTING_BROKEN, TOO_MANY_OPEN, TRIGGER_OFF,
 };
-use std::ops::Range;
+use std::ops::{Range, RangeInclusive};
 
 pub const EDITION: u16 = 1;
 pub const MOST_ROWS: usize = 64;
 pub const MOST_ITEMS: usize = 16;
+/// Kinds of rows.
+pub const ROW_KINDS: RangeInclusive<u16> = FUNCTION..=KILLING_BRANCH;
 /// "At most 12 open together."
 pub const MOST_OPEN: usize = 12;
 
@@ -48,7 +51,11 @@ pub struct Receivers {
 pub enum Row<'a> {
     Function(Function<'a>),
     AndOpen(usize),
-    AndBranch(usize),
+    /// "Row 28 is a BRANCH of an AND that kills."
+    AndBranch {
+        construct: usize,
+        kills: bool,
+    },
     AndClose(usize),
     OrOpen(usize),
     OrBranch(usize),
@@ -105,6 +112,11 @@ pub struct Construct {
 }
 
 impl Construct {
+    /// Rows strictly inside it, the BRANCH rows included.
+    pub fn inside(&self) -> Range<usize> {
+        self.open + 1..self.close
+    }
+
     fn has_branches(&self) -> bool {
         self.kind == AND_OPEN || self.kind == OR_OPEN
     }
@@ -201,21 +213,35 @@ impl Diagram<'_> {
         }
     }
 
-    /// "The row that entering s changes": the BRANCH row of the branch just
-    /// ended for a BRANCH or close of an AND, the OR close for a BRANCH or
-    /// close of an OR, otherwise s. (The first BRANCH of an AND is never
-    /// entered.)
-    pub fn entered_row(&self, row: usize) -> usize {
+    /// What entering row s changes: the BRANCH row of the branch just ended for a
+    /// BRANCH or close of an AND, or all of the AND if that branch kills; the OR
+    /// close for a BRANCH or close of an OR; otherwise s. (The first BRANCH of an
+    /// AND is never entered.)
+    pub fn entered(&self, row: usize) -> Entered<'_> {
         match self.rows[row] {
-            Row::AndBranch(construct) | Row::AndClose(construct) => {
-                let branches = &self.constructs[construct].branches;
-                let ended = branches.iter().rev().find(|branch| **branch < row);
-                ended.copied().unwrap_or(row)
+            Row::AndBranch { construct, .. } | Row::AndClose(construct) => {
+                let and = &self.constructs[construct];
+                let ended = and.branches.iter().rev().find(|branch| **branch < row);
+                let ended = ended.copied().unwrap_or(row);
+                match self.rows[ended] {
+                    Row::AndBranch { kills: true, .. } => Entered::Kill(and),
+                    _ => Entered::Row(ended),
+                }
             }
-            Row::OrBranch(construct) | Row::OrClose(construct) => self.constructs[construct].close,
-            _ => row,
+            Row::OrBranch(construct) | Row::OrClose(construct) => {
+                Entered::Row(self.constructs[construct].close)
+            }
+            _ => Entered::Row(row),
         }
     }
+}
+
+/// What entering a row changes.
+pub enum Entered<'a> {
+    /// One row, which becomes done if it is a BRANCH of an AND, otherwise ready.
+    Row(usize),
+    /// The rows strictly inside this AND, a killing branch of which has ended.
+    Kill(&'a Construct),
 }
 
 /// Reads a diagram file; accepted: words of its state.
@@ -291,7 +317,7 @@ fn item(reader: &mut Reader) -> Result<Item, Refusal> {
 
 /// A row's record with its fields checked: 5, then 43.
 fn row_record<'a>(reader: &mut Reader<'a>, items: &[Item]) -> Result<Record<'a>, Refusal> {
-    let record = reader.due(|kind| (FUNCTION..=END).contains(&kind), items.len())?;
+    let record = reader.due(|kind| ROW_KINDS.contains(&kind), items.len())?;
     match record.kind {
         FUNCTION => {
             let function = function_fields(&record);
@@ -332,7 +358,7 @@ fn triggers_hold(function: &Function, items: &[Item]) -> bool {
     })
 }
 
-/// Rows and constructs; "rows upward, at a row 7, 8, 9".
+/// Rows and constructs; "rows upward, at a row 7, 8, 9", 44 "between 7 and 8".
 fn nest<'a>(records: &[Record<'a>]) -> Result<(Vec<Row<'a>>, Vec<Construct>), Refusal> {
     let mut nesting = Nesting {
         open: [0; MOST_OPEN],
@@ -369,7 +395,7 @@ impl Nesting {
             return Err(broken);
         }
         // "AND open and OR open are followed by BRANCH at once."
-        if self.awaits_branch() && record.kind != BRANCH {
+        if self.awaits_branch() && !is_branch(record.kind) {
             return Err(broken);
         }
         Ok(match record.kind {
@@ -381,7 +407,14 @@ impl Nesting {
                 count: record.field(0),
             },
             LP_OPEN => Row::LpOpen(self.open(number, LP_OPEN)?),
-            BRANCH => self.branch(number).ok_or(broken)?,
+            BRANCH => self.branch(number, false).ok_or(broken)?,
+            KILLING_BRANCH => {
+                let branch = self.branch(number, true).ok_or(broken)?;
+                if self.ends_branch(next_kind) {
+                    return Err(refusal(KILLING_BRANCH_EMPTY, number));
+                }
+                branch
+            }
             AND_CLOSE => Row::AndClose(self.close(number, AND_CLOSE).ok_or(broken)?),
             OR_CLOSE => Row::OrClose(self.close(number, OR_CLOSE).ok_or(broken)?),
             IT_CLOSE => Row::ItClose(self.close(number, IT_CLOSE).ok_or(broken)?),
@@ -428,17 +461,27 @@ impl Nesting {
         Ok(index)
     }
 
-    /// "A BRANCH needs an innermost open AND or OR."
-    fn branch<'a>(&mut self, row: usize) -> Option<Row<'a>> {
+    /// "A BRANCH needs an innermost open AND or OR"; one that kills an AND, "in
+    /// an OR it is 7".
+    fn branch<'a>(&mut self, row: usize, kills: bool) -> Option<Row<'a>> {
         let index = *self.still_open().last()?;
         let construct = &mut self.constructs[index];
         let branch = match construct.kind {
-            AND_OPEN => Row::AndBranch(index),
-            OR_OPEN => Row::OrBranch(index),
+            AND_OPEN => Row::AndBranch {
+                construct: index,
+                kills,
+            },
+            OR_OPEN if !kills => Row::OrBranch(index),
             _ => return None,
         };
         construct.branches.push(row);
         Some(branch)
+    }
+
+    /// The next row is a BRANCH or the innermost construct's close.
+    fn ends_branch(&self, next_kind: Option<u16>) -> bool {
+        let close_kind = self.innermost().map(Construct::close_kind);
+        next_kind.is_some_and(is_branch) || next_kind == close_kind
     }
 
     /// "A close needs its own kind innermost"; an AND or OR "has two BRANCH
@@ -460,14 +503,17 @@ impl Nesting {
     /// "An LE needs an innermost open AND or OR, some open LP, and a BRANCH or
     /// that construct's close as next row." Its loop, if it has all this.
     fn loop_exit(&self, next_kind: Option<u16>) -> Option<usize> {
-        let innermost = self.innermost()?;
-        let next_fits = next_kind == Some(BRANCH) || next_kind == Some(innermost.close_kind());
-        if !innermost.has_branches() || !next_fits {
+        if !self.innermost()?.has_branches() || !self.ends_branch(next_kind) {
             return None;
         }
         let is_loop = |index: &&usize| self.constructs[**index].kind == LP_OPEN;
         self.still_open().iter().rev().find(is_loop).copied()
     }
+}
+
+/// A row that kills counts "as a next row as any BRANCH".
+pub fn is_branch(kind: u16) -> bool {
+    kind == BRANCH || kind == KILLING_BRANCH
 }
 
 /// A diagram file of plain items with these initial counts, and row records.

@@ -1,11 +1,12 @@
 //! "Diagram state and moves": fresh states, the state check 20, steps and
-//! waits with refusals 21 to 26.
+//! waits with refusals 21 to 26; document 02's request 3, "Branches that kill".
 
-use crate::diagram::{parse, Diagram, Function, Item, Row};
+use crate::diagram::{parse, Construct, Diagram, Entered, Function, Item, Row};
 use crate::refusal::{
     refusal, Answer, Refusal, CODE_OFF, ITEM_SHORT, NOT_STANDING, STATE_OFF, SUM_TOO_LARGE,
     TICKS_LACKING, WAIT_HELD,
 };
+use std::ops::Range;
 
 /// Move codes: step a row, wait some ticks.
 pub const STEP: u16 = 1;
@@ -105,7 +106,7 @@ pub fn check(diagram: &Diagram, state: &[u16]) -> Result<(), Refusal> {
 fn has_activity(row: &Row, value: u16) -> bool {
     match row {
         Row::Function(_) => value <= RUNNING,
-        Row::AndBranch(_) => value == IDLE || value == DONE,
+        Row::AndBranch { .. } => value == IDLE || value == DONE,
         Row::OrBranch(_) | Row::AndClose(_) => value == IDLE,
         _ => value == IDLE || value == READY,
     }
@@ -127,13 +128,30 @@ fn most_clock(row: &Row, running: bool) -> u16 {
 
 /// "Entering row s."
 fn enter(diagram: &Diagram, state: &mut [u16], row: usize) {
-    let changed = diagram.entered_row(row);
-    if let Row::AndBranch(_) = diagram.rows[changed] {
-        state[activity(changed)] = DONE;
-    } else {
-        state[activity(changed)] = READY;
-        state[clock(changed)] = 0;
+    match diagram.entered(row) {
+        Entered::Kill(and) => kill(state, and),
+        Entered::Row(branch) if matches!(diagram.rows[branch], Row::AndBranch { .. }) => {
+            state[activity(branch)] = DONE;
+        }
+        Entered::Row(changed) => {
+            state[activity(changed)] = READY;
+            state[clock(changed)] = 0;
+        }
     }
+}
+
+/// "Every row strictly inside that AND is cleared, turns and clocks too, then
+/// all its BRANCH rows are done."
+fn kill(state: &mut [u16], and: &Construct) {
+    clear(state, and.inside());
+    for branch in &and.branches {
+        state[activity(*branch)] = DONE;
+    }
+}
+
+/// Rows get "activity, turns and clock 0".
+fn clear(state: &mut [u16], rows: Range<usize>) {
+    state[activity(rows.start)..activity(rows.end)].fill(0);
 }
 
 /// "Move code 1 steps row r; the row becomes idle unless said otherwise."
@@ -186,7 +204,7 @@ fn stepped(diagram: &Diagram, state: &[u16], argument: u16) -> Result<Vec<u16>, 
         }
         (Row::LoopExit(construct), READY) => {
             let exited = &diagram.constructs[*construct];
-            next[activity(exited.open)..=clock(exited.close)].fill(0);
+            clear(&mut next, exited.open..exited.close + 1);
             enter(diagram, &mut next, exited.close + 1);
         }
         _ => return Err(not_standing),

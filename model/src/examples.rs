@@ -5,13 +5,24 @@ use crate::diagram::{file, file_of, function_record, MOST_ITEMS, MOST_ROWS};
 use crate::diagram_step::{STEP, WAIT};
 use crate::logs::log;
 use crate::records::{
-    record, AND_CLOSE, AND_OPEN, BRANCH, END, ITEM, IT_CLOSE, IT_OPEN, LOOP_EXIT, LP_CLOSE,
-    LP_OPEN, TRIGGER,
+    record, AND_CLOSE, AND_OPEN, BRANCH, END, FUNCTION, ITEM, IT_CLOSE, IT_OPEN, KILLING_BRANCH,
+    LOOP_EXIT, LP_CLOSE, LP_OPEN, OR_CLOSE, OR_OPEN, TRIGGER,
 };
 
 /// Row records of length 4.
 pub fn rows(kinds: &[u16]) -> Vec<Vec<u8>> {
     kinds.iter().map(|kind| record(*kind, &[])).collect()
+}
+
+/// Row records of any kind: each FUNCTION is this one, each IT open has this
+/// count.
+pub fn rows_with(kinds: &[u16], function: &[u8], count: u16) -> Vec<Vec<u8>> {
+    let with_fields = |kind: &u16| match *kind {
+        FUNCTION => function.to_vec(),
+        IT_OPEN => record(IT_OPEN, &[count]),
+        kind => record(kind, &[]),
+    };
+    kinds.iter().map(with_fields).collect()
 }
 
 /// "FUNCTION α 2, β 5 taking 1 of item 0; END", with this initial count.
@@ -76,7 +87,7 @@ pub fn item_given_one(count: u16) -> Vec<u8> {
 }
 
 /// The longest net without triggers has 63 FUNCTIONs that take and give all 16
-/// items.
+/// items, 20,660 bytes; kills make none longer (tests/longest.rs).
 pub fn longest_plain_net() -> Vec<u8> {
     let function = function_record(0, 0, &uses_of_all(MOST_ITEMS));
     let mut rows = vec![function; MOST_ROWS - 1];
@@ -149,9 +160,145 @@ pub fn triggers_again(triggers: usize, receivers: usize) -> Vec<u8> {
     file_of(&vec![record(TRIGGER, &[1]); triggers], &again)
 }
 
-/// The longest net of all has 63 FUNCTIONs that take and give all 16 triggers.
+/// The longest net of all has 63 FUNCTIONs that take and give all 16 triggers,
+/// 526,676 bytes; kills make none longer.
 pub fn longest_net() -> Vec<u8> {
     triggers(MOST_ITEMS, MOST_ROWS - 1)
+}
+
+/// FUNCTIONs of 1 to 9 ticks, ITs of count 3.
+pub fn trip_rows(kinds: &[u16]) -> Vec<Vec<u8>> {
+    rows_with(kinds, &function_record(1, 9, &[]), 3)
+}
+
+/// "A pressure trip ends all the other branches": beside the trip a fan runs
+/// three times and a pump runs.
+pub fn pressure_trip() -> Vec<u8> {
+    let rows = trip_rows(&[
+        AND_OPEN,
+        KILLING_BRANCH,
+        FUNCTION,
+        BRANCH,
+        IT_OPEN,
+        FUNCTION,
+        IT_CLOSE,
+        BRANCH,
+        FUNCTION,
+        AND_CLOSE,
+        END,
+    ]);
+    file(&[], &rows)
+}
+
+/// The rows of `pressure_trip` that are stepped.
+pub const TRIP: u16 = 2;
+pub const FAN_ROUNDS: u16 = 4;
+pub const TRIPPED_FAN: u16 = 5;
+pub const TRIPPED_PUMP: u16 = 8;
+
+/// The killing branch is an LP that an LE leaves: the LE's own range, rows 2 to
+/// 9, merges with that of the AND, rows 1 to 13.
+pub fn trip_by_loop_exit() -> Vec<u8> {
+    let rows = trip_rows(&[
+        AND_OPEN,
+        KILLING_BRANCH,
+        LP_OPEN,
+        OR_OPEN,
+        BRANCH,
+        LOOP_EXIT,
+        BRANCH,
+        FUNCTION,
+        OR_CLOSE,
+        LP_CLOSE,
+        BRANCH,
+        IT_OPEN,
+        FUNCTION,
+        IT_CLOSE,
+        AND_CLOSE,
+        END,
+    ]);
+    file(&[], &rows)
+}
+
+/// The killing branch is an IT: its own R, of row 2, is given once, as that of
+/// row 5, which it kills.
+pub fn trip_after_rounds() -> Vec<u8> {
+    let rows = trip_rows(&[
+        AND_OPEN,
+        KILLING_BRANCH,
+        IT_OPEN,
+        IT_CLOSE,
+        BRANCH,
+        IT_OPEN,
+        FUNCTION,
+        IT_CLOSE,
+        AND_CLOSE,
+        END,
+    ]);
+    file(&[], &rows)
+}
+
+/// A trip in a trip: the close of the inner AND, rows 2 to 7, ends the killing
+/// branch of the outer one; beside it an OR ends another killing branch.
+pub fn trip_in_trip() -> Vec<u8> {
+    let rows = trip_rows(&[
+        AND_OPEN,
+        KILLING_BRANCH,
+        AND_OPEN,
+        KILLING_BRANCH,
+        FUNCTION,
+        BRANCH,
+        FUNCTION,
+        AND_CLOSE,
+        KILLING_BRANCH,
+        OR_OPEN,
+        BRANCH,
+        BRANCH,
+        FUNCTION,
+        OR_CLOSE,
+        BRANCH,
+        FUNCTION,
+        AND_CLOSE,
+        END,
+    ]);
+    file(&[], &rows)
+}
+
+/// Rows in an LP, so that they go on for ever.
+fn again_and_again(inside: &[u16]) -> Vec<u8> {
+    let kinds = [&[LP_OPEN], inside, &[LP_CLOSE, END]].concat();
+    file(&[], &trip_rows(&kinds))
+}
+
+/// An AND of so many branches, again and again: every other one is a FUNCTION
+/// that kills, those between are FUNCTIONs in rounds.
+pub fn trips_again(branches: usize) -> Vec<u8> {
+    let trip = [KILLING_BRANCH, FUNCTION].as_slice();
+    let rounds = [BRANCH, IT_OPEN, FUNCTION, IT_CLOSE].as_slice();
+    let mut kinds = vec![AND_OPEN];
+    for branch in 0..branches {
+        kinds.extend(if branch % 2 == 0 { trip } else { rounds });
+    }
+    kinds.push(AND_CLOSE);
+    again_and_again(&kinds)
+}
+
+/// A FUNCTION and an AND of so many branches, again and again: each branch is an
+/// IT that kills.
+pub fn killing_rounds_again(branches: usize) -> Vec<u8> {
+    let mut kinds = vec![FUNCTION, AND_OPEN];
+    kinds.extend([KILLING_BRANCH, IT_OPEN, IT_CLOSE].repeat(branches));
+    kinds.push(AND_CLOSE);
+    again_and_again(&kinds)
+}
+
+/// So many ANDs one in the other, again and again: each lies in the killing
+/// branch of the next one out, beside a FUNCTION.
+pub fn deep_trips_again(depth: usize) -> Vec<u8> {
+    let mut kinds = [AND_OPEN, KILLING_BRANCH].repeat(depth);
+    kinds.push(FUNCTION);
+    kinds.extend([BRANCH, FUNCTION, AND_CLOSE].repeat(depth));
+    again_and_again(&kinds)
 }
 
 /// LP, FUNCTION of any number of ticks, LP close, END: it runs again and again.

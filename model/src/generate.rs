@@ -3,14 +3,15 @@
 
 mod damage;
 mod diagrams;
+mod kills;
 mod lists;
 mod logs;
 mod nets;
 mod states;
 
 pub use diagrams::{
-    crowded_diagram, damaged_diagram, diagram, diagram_up_to, lasting_diagram,
-    lasting_trigger_diagram, plain_diagram_up_to,
+    crowded_diagram, damaged_diagram, diagram, diagram_up_to, killing_diagram, lasting_diagram,
+    lasting_killing_diagram, lasting_trigger_diagram, plain_diagram_up_to,
 };
 pub use lists::bus_list;
 pub use logs::{accepted_log, damaged_log, round_log};

@@ -11,9 +11,10 @@
 //! | `net`, `net_step`, `translate`, `image` | Net |
 //! | `bus`, `history` | Bus ends |
 //! | `logs` | 1, Starts in any hour |
-//! | `diagram`, `diagram_step`, `translate` | 2, Triggers reach everyone |
+//! | `diagram`, `diagram_step`, `translate` | 2, Triggers reach everyone; 3, Branches that kill |
 //! | `examples`, `annex` | Plant-room examples |
 //! | `generate` | random diagrams, nets, states, lists and logs for comparisons |
+//! | `kills` | which moves kill, for comparisons |
 //!
 //! Every public call takes the caller's bytes and words as they are and checks
 //! them anew. A refusal alters nothing that was lent.
@@ -28,6 +29,7 @@ pub mod examples;
 pub mod generate;
 pub mod history;
 pub mod image;
+pub mod kills;
 pub mod logs;
 pub mod net;
 pub mod net_step;

@@ -19,6 +19,8 @@ pub const LP_CLOSE: u16 = 25;
 /// LE, the loop exit.
 pub const LOOP_EXIT: u16 = 26;
 pub const END: u16 = 27;
+/// A BRANCH of an AND that kills.
+pub const KILLING_BRANCH: u16 = 28;
 pub const NET_HEAD: u16 = 32;
 pub const PLACE: u16 = 33;
 pub const TRANSITION: u16 = 34;
@@ -45,7 +47,7 @@ pub fn shape(kind: u16) -> Option<(usize, usize)> {
         IT_OPEN => (6, 1),
         IT_CLOSE => (4, 0),
         LP_OPEN | LP_CLOSE | LOOP_EXIT => (4, 0),
-        END => (4, 0),
+        END | KILLING_BRANCH => (4, 0),
         NET_HEAD => (8, 2),
         PLACE => (6, 1),
         TRANSITION => (10, 3),

@@ -1,8 +1,10 @@
-//! The patterns of section "Net": from a diagram to its net.
+//! The patterns of section "Net": from a diagram to its net; document 02's
+//! request 3, "Branches that kill".
 
-use crate::diagram::{parse, Construct, Diagram, Function, Row};
+use crate::diagram::{parse, Construct, Diagram, Entered, Function, Row};
 use crate::net::{Arc, Net};
 use crate::refusal::{refusal, Answer, Refusal, AREA_SHORT};
+use std::ops::Range;
 
 /// The net file of a diagram file.
 pub fn net_of(file: &[u8]) -> Result<Vec<u8>, Refusal> {
@@ -31,11 +33,6 @@ pub fn place_r(row: usize) -> usize {
     3 * row + 2
 }
 
-/// "The entry place of s is P of the row that entering s changes."
-fn entry(diagram: &Diagram, row: usize) -> usize {
-    place_p(diagram.entered_row(row))
-}
-
 /// The net's table.
 pub fn table(diagram: &Diagram) -> Net {
     let rows = diagram.rows.len();
@@ -52,56 +49,77 @@ fn fresh_marks(diagram: &Diagram) -> Vec<u16> {
     let mut marks = Vec::with_capacity(diagram.state_length());
     marks.resize(3 * diagram.rows.len(), 0);
     marks.extend(diagram.initial_counts());
-    marks[entry(diagram, 0)] = 1;
-    for (row, count) in it_opens(diagram, 0, diagram.rows.len()) {
-        marks[place_r(row)] = count;
+    let restored = restored(diagram, 0..diagram.rows.len());
+    for (place, mark) in restored.chain(entry(diagram, 0)) {
+        marks[place] = mark;
     }
     marks
-}
-
-/// The IT opens from `first` up to but without `end`, with their counts.
-fn it_opens<'a>(
-    diagram: &'a Diagram,
-    first: usize,
-    end: usize,
-) -> impl Iterator<Item = (usize, u16)> + 'a {
-    (first..end).filter_map(|row| match diagram.rows[row] {
-        Row::ItOpen { count, .. } => Some((row, count)),
-        _ => None,
-    })
 }
 
 /// A place and a weight.
 type Weighted = (usize, u16);
 
+/// "R = count at each IT open" of these rows.
+fn restored<'a>(
+    diagram: &'a Diagram,
+    rows: Range<usize>,
+) -> impl Iterator<Item = Weighted> + use<'a> {
+    rows.filter_map(|row| match diagram.rows[row] {
+        Row::ItOpen { count, .. } => Some((place_r(row), count)),
+        _ => None,
+    })
+}
+
+/// "The entry place of s is P of the row that entering s changes"; none where a
+/// killing branch ends.
+fn entry(diagram: &Diagram, row: usize) -> Option<Weighted> {
+    match diagram.entered(row) {
+        Entered::Row(changed) => Some((place_p(changed), 1)),
+        Entered::Kill(_) => None,
+    }
+}
+
+/// What the last transition gives to enter a row. Where a killing branch ends, it
+/// clears the rows inside the AND, restores R there and gives P of each BRANCH.
+fn add_entry(net: &mut Net, diagram: &Diagram, row: usize) -> Vec<Weighted> {
+    match diagram.entered(row) {
+        Entered::Row(changed) => vec![(place_p(changed), 1)],
+        Entered::Kill(and) => {
+            add_clear(net, and.inside());
+            let branches = and.branches.iter().map(|branch| (place_p(*branch), 1));
+            restored(diagram, and.inside()).chain(branches).collect()
+        }
+    }
+}
+
 /// The transitions of one row, labelled with it.
 fn add_row(net: &mut Net, diagram: &Diagram, number: usize, row: &Row) {
     let label = number as u16;
     let construct = |index: &usize| &diagram.constructs[*index];
-    let entry = |row: usize| (entry(diagram, row), 1);
     let own_p = (place_p(number), 1);
     match row {
         Row::Function(function) => add_function(net, diagram, number, function),
-        // "AND open: takes P, gives every branch's entry."
+        // "AND open: takes P, gives every branch's entry." None of them kills,
+        // since a killing branch is not empty.
         Row::AndOpen(index) => {
             let branches = &construct(index).branches;
-            let entries = branches.iter().map(|branch| entry(branch + 1));
+            let entries = branches.iter().filter_map(|row| entry(diagram, row + 1));
             add_at_once(net, label, vec![own_p], entries.collect());
         }
         // "AND close: takes P of every BRANCH row, gives entry of r + 1."
         Row::AndClose(index) => {
             let branches = &construct(index).branches;
             let done = branches.iter().map(|branch| (place_p(*branch), 1));
-            add_at_once(net, label, done.collect(), vec![entry(number + 1)]);
+            add_entering(net, diagram, label, done.collect(), number + 1);
         }
         // "BRANCH of an OR: takes P of the open, gives entry of r + 1."
         Row::OrBranch(index) => {
             let open_p = (place_p(construct(index).open), 1);
-            add_at_once(net, label, vec![open_p], vec![entry(number + 1)]);
+            add_entering(net, diagram, label, vec![open_p], number + 1);
         }
         // "OR close, LP open: P to entry of r + 1."
         Row::OrClose(_) | Row::LpOpen(_) => {
-            add_at_once(net, label, vec![own_p], vec![entry(number + 1)]);
+            add_entering(net, diagram, label, vec![own_p], number + 1);
         }
         // "IT close, LP close: P to P of the open."
         Row::ItClose(index) | Row::LpClose(index) => {
@@ -115,16 +133,23 @@ fn add_row(net: &mut Net, diagram: &Diagram, number: usize, row: &Row) {
             construct: index,
             count,
         } => {
-            let takes = vec![own_p, (place_r(number), 1)];
-            let gives = vec![(place_q(number), 1), entry(number + 1)];
-            add_at_once(net, label, takes, gives);
-            let takes = vec![own_p, (place_q(number), *count)];
-            let after_close = entry(construct(index).close + 1);
-            let gives = vec![(place_r(number), *count), after_close];
-            add_at_once(net, label, takes, gives);
+            net.add_transition(label, 0, 0);
+            add_takes(net, vec![own_p, (place_r(number), 1)]);
+            let mut gives = add_entry(net, diagram, number + 1);
+            gives.push((place_q(number), 1));
+            add_gives(net, gives);
+            net.add_transition(label, 0, 0);
+            add_takes(net, vec![own_p, (place_q(number), *count)]);
+            let mut gives = add_entry(net, diagram, construct(index).close + 1);
+            // "Each R given once, an ending IT's own included."
+            let own_r = (place_r(number), *count);
+            if !gives.contains(&own_r) {
+                gives.push(own_r);
+            }
+            add_gives(net, gives);
         }
         Row::LoopExit(index) => add_loop_exit(net, diagram, number, construct(index)),
-        Row::AndBranch(_) | Row::OrOpen(_) | Row::End => {}
+        Row::AndBranch { .. } | Row::OrOpen(_) | Row::End => {}
     }
 }
 
@@ -133,36 +158,44 @@ fn add_row(net: &mut Net, diagram: &Diagram, number: usize, row: &Row) {
 /// takes its own copy and gives all of them.
 fn add_function(net: &mut Net, diagram: &Diagram, number: usize, function: &Function) {
     let label = number as u16;
-    let mut takes = vec![(place_p(number), 1)];
-    let mut gives = vec![(entry(diagram, number + 1), 1)];
-    for used in function.each_use() {
-        if used.take > 0 {
-            takes.push((diagram.taken_word(used.item, number), used.take));
-        }
-        if used.give > 0 {
-            let given = diagram.given_words(used.item);
-            gives.extend(given.map(|place| (place, used.give)));
-        }
-    }
     let running = (place_q(number), 1);
+    let mut takes = vec![(place_p(number), 1)];
+    for used in function.each_use().filter(|used| used.take > 0) {
+        takes.push((diagram.taken_word(used.item, number), used.take));
+    }
     add_at_once(net, label, takes, vec![running]);
     net.add_transition(label, function.alpha, function.beta);
     add_takes(net, vec![running]);
+    let mut gives = add_entry(net, diagram, number + 1);
+    for used in function.each_use().filter(|used| used.give > 0) {
+        let given = diagram.given_words(used.item);
+        gives.extend(given.map(|place| (place, used.give)));
+    }
     add_gives(net, gives);
 }
 
 /// "LE: takes P, clears all places of its loop's rows, gives R = count at each
-/// IT open in them and the entry after the loop."
+/// IT open in them and the entry after the loop." Where that kills, the loop lies
+/// inside the AND: its range merges with the AND's, and so does what it restores.
 fn add_loop_exit(net: &mut Net, diagram: &Diagram, number: usize, exited: &Construct) {
     net.add_transition(number as u16, 0, 0);
     add_takes(net, vec![(place_p(number), 1)]);
-    net.add_arc(Arc::Clear {
-        first: place_p(exited.open) as u16,
-        last: place_r(exited.close) as u16,
-    });
-    let inside = it_opens(diagram, exited.open, exited.close);
-    let mut gives: Vec<Weighted> = inside.map(|(row, count)| (place_r(row), count)).collect();
-    gives.push((entry(diagram, exited.close + 1), 1));
+    let gives = match entry(diagram, exited.close + 1) {
+        Some(after_loop) => {
+            let rows = exited.open..exited.close + 1;
+            add_clear(net, rows.clone());
+            restored(diagram, rows).chain([after_loop]).collect()
+        }
+        None => add_entry(net, diagram, exited.close + 1),
+    };
+    add_gives(net, gives);
+}
+
+/// A transition with the interval [0, 0] that takes and enters a row.
+fn add_entering(net: &mut Net, diagram: &Diagram, label: u16, takes: Vec<Weighted>, row: usize) {
+    net.add_transition(label, 0, 0);
+    add_takes(net, takes);
+    let gives = add_entry(net, diagram, row);
     add_gives(net, gives);
 }
 
@@ -171,6 +204,14 @@ fn add_at_once(net: &mut Net, label: u16, takes: Vec<Weighted>, gives: Vec<Weigh
     net.add_transition(label, 0, 0);
     add_takes(net, takes);
     add_gives(net, gives);
+}
+
+/// The last transition clears all places of these rows.
+fn add_clear(net: &mut Net, rows: Range<usize>) {
+    net.add_arc(Arc::Clear {
+        first: place_p(rows.start) as u16,
+        last: place_r(rows.end - 1) as u16,
+    });
 }
 
 /// Takes of the last transition.

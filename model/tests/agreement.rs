@@ -5,14 +5,14 @@
 mod common;
 
 use common::{fresh, net_of};
-use model::diagram::{parse, read, Row};
+use model::diagram::{function_record, parse, read, Row, ROW_KINDS};
 use model::diagram_step::{self, activity, check, turns};
 use model::examples;
 use model::generate::{self, Random};
 use model::history::{agreement, moves_to_try};
 use model::records::{
-    record, AND_CLOSE, AND_OPEN, BRANCH, END, FUNCTION, IT_CLOSE, IT_OPEN, LOOP_EXIT, LP_CLOSE,
-    LP_OPEN, OR_CLOSE, OR_OPEN,
+    AND_CLOSE, AND_OPEN, BRANCH, END, FUNCTION, IT_CLOSE, IT_OPEN, LOOP_EXIT, LP_CLOSE, LP_OPEN,
+    OR_CLOSE, OR_OPEN,
 };
 use std::collections::BTreeSet;
 
@@ -83,6 +83,10 @@ fn at_every_state_of_small_diagrams() {
         examples::trigger_before_plain(65_534, 65_534),
         examples::unheard_trigger(65_535),
         examples::triggers(2, 4),
+        examples::pressure_trip(),
+        examples::trip_by_loop_exit(),
+        examples::trip_after_rounds(),
+        examples::trip_in_trip(),
     ];
     let small = (0..300).map(|_| generate::diagram_up_to(&mut random, 12));
     for file in examples.into_iter().chain(small) {
@@ -100,7 +104,7 @@ fn every_small_nesting() {
     let mut accepted = 0;
     let mut unfinished: Vec<Vec<u16>> = vec![Vec::new()];
     while let Some(kinds) = unfinished.pop() {
-        for kind in FUNCTION..=END {
+        for kind in ROW_KINDS {
             let mut longer = kinds.clone();
             longer.push(kind);
             let file = of_kinds(&longer);
@@ -136,12 +140,7 @@ fn may_go_on(kinds: &[u16]) -> bool {
 }
 
 fn of_kinds(kinds: &[u16]) -> Vec<u8> {
-    let with_fields = |kind: &u16| match *kind {
-        FUNCTION => model::diagram::function_record(0, 1, &[]),
-        IT_OPEN => record(IT_OPEN, &[2]),
-        kind => record(kind, &[]),
-    };
-    let rows: Vec<Vec<u8>> = kinds.iter().map(with_fields).collect();
+    let rows = examples::rows_with(kinds, &function_record(0, 1, &[]), 2);
     model::diagram::file(&[], &rows)
 }
 
@@ -173,18 +172,20 @@ fn count_constructs(rows: usize, in_loop: bool) -> usize {
     } else {
         0
     };
-    let branched = if rows >= 4 {
+    let branched = |may_kill| -> usize {
+        if rows < 4 {
+            return 0;
+        }
         (2..=rows - 2)
-            .map(|branches| count_branches(rows - 2, branches, in_loop))
+            .map(|branches| count_branches(rows - 2, branches, in_loop, may_kill))
             .sum()
-    } else {
-        0
     };
-    function + it + lp + 2 * branched
+    function + it + lp + branched(true) + branched(false)
 }
 
-/// This many branches in this many rows, each a BRANCH, a run and perhaps LE.
-fn count_branches(rows: usize, branches: usize, in_loop: bool) -> usize {
+/// This many branches in this many rows, each a BRANCH, a run and perhaps LE; of
+/// an AND those that are not empty may kill.
+fn count_branches(rows: usize, branches: usize, in_loop: bool, may_kill: bool) -> usize {
     if branches == 0 {
         return usize::from(rows == 0);
     }
@@ -196,7 +197,9 @@ fn count_branches(rows: usize, branches: usize, in_loop: bool) -> usize {
             } else {
                 0
             };
-            (without_exit + with_exit) * count_branches(rows - first, branches - 1, in_loop)
+            let kinds = 1 + usize::from(may_kill && first >= 2);
+            let others = count_branches(rows - first, branches - 1, in_loop, may_kill);
+            kinds * (without_exit + with_exit) * others
         })
         .sum()
 }
@@ -241,7 +244,7 @@ fn kind_of(row: &Row) -> u16 {
     match row {
         Row::Function(_) => FUNCTION,
         Row::AndOpen(_) => AND_OPEN,
-        Row::AndBranch(_) | Row::OrBranch(_) => BRANCH,
+        Row::AndBranch { .. } | Row::OrBranch(_) => BRANCH,
         Row::AndClose(_) => AND_CLOSE,
         Row::OrOpen(_) => OR_OPEN,
         Row::OrClose(_) => OR_CLOSE,

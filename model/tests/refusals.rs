@@ -7,10 +7,10 @@ use common::{fresh, fresh_net, net_of, refused};
 use model::bus::{self, Telegram};
 use model::diagram::{file, file_of, function_record, read};
 use model::diagram_step::{self, activity, clock, turns};
-use model::examples::{self, rows};
+use model::examples::{self, rows, rows_with};
 use model::records::{
     record, shape, AND_CLOSE, AND_OPEN, BRANCH, END, FUNCTION, HEAD, ITEM, IT_CLOSE, IT_OPEN,
-    LOOP_EXIT, LP_CLOSE, LP_OPEN, OR_CLOSE, OR_OPEN, TRIGGER,
+    KILLING_BRANCH, LOOP_EXIT, LP_CLOSE, LP_OPEN, OR_CLOSE, OR_OPEN, TRIGGER,
 };
 use model::translate::translate;
 use model::{logs, net_step, Answer};
@@ -52,7 +52,7 @@ fn lengths_are_the_fields_lengths() {
         }
     }
     let kinds = (0..=u16::MAX).filter(|kind| shape(*kind).is_some());
-    assert_eq!(kinds.count(), 22);
+    assert_eq!(kinds.count(), 23);
 }
 
 #[test]
@@ -77,9 +77,11 @@ fn kinds_not_due() {
     for kind in [0, 1, 4, 16, 27] {
         assert_file_refused(&a_with(12, kind), 2, 10);
     }
-    for kind in [1, 2, 3, 15, 28, 32, 35, 48] {
+    for kind in [1, 2, 3, 15, 29, 30, 31, 32, 35, 48] {
         assert_file_refused(&a_with(18, kind), 2, 16);
     }
+    // 28 is due there; its length is wrong.
+    assert_file_refused(&a_with(18, KILLING_BRANCH), 3, 16);
 }
 
 #[test]
@@ -231,13 +233,7 @@ fn bytes_after_the_last_record() {
 
 /// Row kinds, an IT open with count 2 and a FUNCTION without uses.
 fn nested(kinds: &[u16]) -> Vec<u8> {
-    let with_fields = |kind: &u16| match *kind {
-        FUNCTION => function_record(0, 0, &[]),
-        IT_OPEN => record(IT_OPEN, &[2]),
-        kind => record(kind, &[]),
-    };
-    let rows: Vec<Vec<u8>> = kinds.iter().map(with_fields).collect();
-    file(&[], &rows)
+    file(&[], &rows_with(kinds, &function_record(0, 0, &[]), 2))
 }
 
 #[test]
@@ -316,6 +312,98 @@ fn loop_exit_misplaced() {
         LP_CLOSE, END,
     ];
     assert_eq!(read(&nested(&kinds)), Ok(33));
+}
+
+/// 28 as here, so that a list of kinds has room.
+const KILLS: u16 = KILLING_BRANCH;
+
+/// Refusal 44: the next row is a BRANCH of either kind or the AND's close,
+/// "whatever comes later".
+#[test]
+fn killing_branch_empty() {
+    let cases: [(&[u16], u32); 12] = [
+        // First, middle, last, each of two.
+        (&[AND_OPEN, KILLS, BRANCH, AND_CLOSE, END], 1),
+        (&[AND_OPEN, KILLS, KILLS, FUNCTION, AND_CLOSE, END], 1),
+        (&[AND_OPEN, BRANCH, KILLS, BRANCH, AND_CLOSE, END], 2),
+        (
+            &[AND_OPEN, BRANCH, KILLS, KILLS, FUNCTION, AND_CLOSE, END],
+            2,
+        ),
+        (&[AND_OPEN, BRANCH, KILLS, AND_CLOSE, END], 2),
+        (&[AND_OPEN, KILLS, FUNCTION, KILLS, AND_CLOSE, END], 3),
+        // Before a 7 of a later row: one BRANCH, another's close, an END.
+        (&[AND_OPEN, KILLS, AND_CLOSE, END], 1),
+        (&[AND_OPEN, KILLS, BRANCH, OR_CLOSE, END], 1),
+        (&[AND_OPEN, KILLS, KILLS, END, END], 1),
+        (&[AND_OPEN, KILLS, AND_CLOSE, AND_CLOSE, FUNCTION], 1),
+        // Before an 8 and a 9 of a later row.
+        (&[AND_OPEN, KILLS, BRANCH, LOOP_EXIT, AND_CLOSE, END], 1),
+        (
+            &[
+                AND_OPEN, KILLS, BRANCH, LP_OPEN, LP_OPEN, LP_OPEN, LP_OPEN, LP_OPEN, LP_OPEN,
+                LP_OPEN, LP_OPEN, LP_OPEN, LP_OPEN, LP_OPEN, LP_OPEN, END,
+            ],
+            1,
+        ),
+    ];
+    for (kinds, row) in cases {
+        assert_file_refused(&nested(kinds), 44, row);
+    }
+    // An 8 of an earlier row comes first.
+    let kinds = [LOOP_EXIT, AND_OPEN, KILLS, BRANCH, AND_CLOSE, END];
+    assert_file_refused(&nested(&kinds), 8, 0);
+    let kinds = [AND_OPEN, BRANCH, LOOP_EXIT, KILLS, AND_CLOSE, END];
+    assert_file_refused(&nested(&kinds), 8, 2);
+    // With an LE, a FUNCTION or another AND in it it is not empty.
+    let accepted: [&[u16]; 4] = [
+        &[AND_OPEN, KILLS, FUNCTION, BRANCH, AND_CLOSE, END],
+        &[AND_OPEN, BRANCH, KILLS, FUNCTION, AND_CLOSE, END],
+        &[
+            LP_OPEN, AND_OPEN, KILLS, LOOP_EXIT, KILLS, LOOP_EXIT, AND_CLOSE, LP_CLOSE, END,
+        ],
+        &[
+            AND_OPEN, KILLS, AND_OPEN, BRANCH, BRANCH, AND_CLOSE, KILLS, IT_OPEN, IT_CLOSE,
+            AND_CLOSE, END,
+        ],
+    ];
+    for kinds in accepted {
+        assert_eq!(read(&nested(kinds)), Ok(3 * kinds.len() as u32));
+    }
+}
+
+/// Row 28 where it may not stand, and behind an LE, where "as a next row it
+/// counts as any BRANCH".
+#[test]
+fn killing_branch_misplaced() {
+    let cases: [(&[u16], u32); 14] = [
+        (&[KILLS], 0),
+        (&[KILLS, END], 0),
+        (&[KILLS, AND_CLOSE, END], 0),
+        (&[OR_OPEN, KILLS, FUNCTION, BRANCH, OR_CLOSE, END], 1),
+        (&[OR_OPEN, BRANCH, KILLS, FUNCTION, OR_CLOSE, END], 2),
+        (&[OR_OPEN, BRANCH, KILLS, OR_CLOSE, END], 2),
+        (&[OR_OPEN, BRANCH, KILLS, BRANCH, OR_CLOSE, END], 2),
+        (&[IT_OPEN, KILLS, IT_CLOSE, END], 1),
+        (&[LP_OPEN, KILLS, FUNCTION, LP_CLOSE, END], 1),
+        (&[AND_OPEN, KILLS], 1),
+        (&[AND_OPEN, KILLS, FUNCTION, KILLS], 3),
+        // Not empty: another row than a BRANCH or its own close follows.
+        (&[AND_OPEN, KILLS, OR_CLOSE, END], 2),
+        (&[AND_OPEN, KILLS, END, END], 2),
+        // In an AND of one BRANCH the close is what may not follow.
+        (&[AND_OPEN, KILLS, FUNCTION, AND_CLOSE, END], 3),
+    ];
+    for (kinds, row) in cases {
+        assert_file_refused(&nested(kinds), 7, row);
+    }
+    let kinds = [LP_OPEN, OR_OPEN, BRANCH, LOOP_EXIT, KILLS, FUNCTION, END];
+    assert_file_refused(&nested(&kinds), 7, 4);
+    // The last row is 7 even where an LE stands behind AND open.
+    let kinds = [LP_OPEN, AND_OPEN, BRANCH, LOOP_EXIT, KILLS];
+    assert_file_refused(&nested(&kinds), 7, 4);
+    let kinds = [LP_OPEN, AND_OPEN, BRANCH, LOOP_EXIT, KILLS, BRANCH, END];
+    assert_file_refused(&nested(&kinds), 44, 4);
 }
 
 #[test]
@@ -412,6 +500,15 @@ fn states_off() {
     let g = examples::g();
     for (row, value) in [(0, 2), (0, 3), (1, 1), (1, 2), (2, 4), (3, 1), (3, 3)] {
         assert_state_off(&g, &with(&g, activity(row), value));
+    }
+    // A killing BRANCH too, 0 and 3.
+    let trip = examples::pressure_trip();
+    for (row, value) in [(1, 1), (1, 2), (1, 4), (3, 1), (9, 3)] {
+        assert_state_off(&trip, &with(&trip, activity(row), value));
+    }
+    for (row, value) in [(1, 3), (3, 3), (7, 3)] {
+        let mut state = with(&trip, activity(row), value);
+        assert_eq!(diagram_step::step(&trip, &mut state, 1, 0), Ok(0));
     }
     // OR open and close 0 and 1, its BRANCH 0.
     let or = nested(&[OR_OPEN, BRANCH, BRANCH, OR_CLOSE, END]);

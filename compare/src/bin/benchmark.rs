@@ -1,5 +1,5 @@
 //! `benchmark`: the time of each proved function, of the model, and their ratio, at 5, 30 and 64 rows, what one row more costs, and the same at
-//! plants with triggers, in one run; last, which ratio is the largest.
+//! plants with triggers and at plants with branches that kill, in one run; last, which ratio is the largest.
 //!
 //! Both are built for release and get the same inputs in the same order; states and areas are copied anew before each call, for both.
 //! At each size the calls go round plants of 960 rows in all, equally often: no single diagram's mix of rows decides the ratio, and the
@@ -11,12 +11,18 @@
 //! `16 x 63` is the plant of 16 triggers and 63 FUNCTIONs that take and give each of them, so that each has 63 receivers: at most, by the
 //! limits. Its moves are starts, which take from copies, waits, and ends, which give to all copies, of rows from the first to the last. Its logs
 //! are of such moves too, in an LP, which leaves room for 61.
+//!
+//! `16 trips` is an AND of 16 branches, every other of which kills, `19 rounds` one of 19 ITs that all kill, `11 deep` is ANDs one in the killing
+//! branch of the other; each in an LP. Of the moves of their calls one half kill, in the order of a random log; their logs are random too.
 
 use model::bus::Telegram;
 use model::diagram::{Diagram, MOST_ITEMS, MOST_ROWS};
 use model::diagram_step::{STEP, WAIT};
-use model::examples::{triggers, triggers_again};
+use model::examples::{
+    deep_trips_again, killing_rounds_again, triggers, triggers_again, trips_again,
+};
 use model::generate::{accepted_log, lasting_diagram, plain_diagram_up_to, Random};
+use model::kills::kill_by;
 use model::logs::{log, Log, Logged, MOST_MOVES};
 use model::translate::net_of;
 use std::fmt;
@@ -38,14 +44,19 @@ const LOGS: usize = 4;
 const ROWS_MOVED: usize = MOVES / 3;
 /// Bytes of nets in one round on a plant with triggers, or all its moves once.
 const NET_BYTES: usize = 1_000_000;
-/// A round there may be long; as many sweeps come back to it.
-const TRIGGER_ROUNDS: usize = 3;
+/// A round there, or on a plant with kills, may be long; as many sweeps come back to it.
+const LONG_ROUNDS: usize = 3;
 
 /// The plants that a time is of.
 #[derive(Clone, Copy, PartialEq, Eq)]
 enum Size {
     Rows(usize),
-    Triggers { triggers: usize, receivers: usize },
+    Triggers {
+        triggers: usize,
+        receivers: usize,
+    },
+    /// Branches that kill, the plant by its name.
+    Kills(&'static str),
 }
 
 impl fmt::Display for Size {
@@ -56,6 +67,7 @@ impl fmt::Display for Size {
                 triggers,
                 receivers,
             } => write!(to, "{triggers} x {receivers}"),
+            Size::Kills(name) => to.write_str(name),
         }
     }
 }
@@ -110,7 +122,7 @@ fn trigger_course(triggers: usize, receivers: usize) -> Course {
             receivers,
         },
         calls: turns * plant.moves.len(),
-        rounds: TRIGGER_ROUNDS,
+        rounds: LONG_ROUNDS,
         plants: vec![plant],
     }
 }
@@ -137,6 +149,47 @@ fn trigger_plant(trigger_count: usize, receivers: usize) -> Option<Plant> {
         }
     }
     Some(Plant { file, net, moves })
+}
+
+/// A plant whose branches kill, with a random log.
+fn kill_courses(name: &'static str, file: Vec<u8>) -> (Course, LogCourse) {
+    let mut random = Random::new(MOST_ROWS as u64);
+    let (logged, _) = random_log_plant(&mut random, file).expect("a plant with a log");
+    let plant = kill_plant(&logged).expect("a log with kills");
+    let size = Size::Kills(name);
+    let rows = plant.moves[0].before.len() / 3;
+    let course = Course {
+        size,
+        calls: TURNS * ROWS / rows,
+        rounds: LONG_ROUNDS,
+        plants: vec![plant],
+    };
+    let logs = LogCourse {
+        size,
+        rounds: LONG_ROUNDS,
+        plants: vec![logged],
+    };
+    (course, logs)
+}
+
+/// Its moves are the first that kill, and as many of the others.
+fn kill_plant(logged: &LogPlant) -> Option<Plant> {
+    let file = logged.file.clone();
+    let diagram = model::diagram::parse(&file).ok()?;
+    let (mut moves, mut left) = (Vec::new(), [MOVES / 2; 2]);
+    let mut state = logged.fresh.clone();
+    for made in &logged.moves {
+        let (code, argument) = (made.code, made.argument);
+        let kills = kill_by(&diagram, &state, (code, argument)).is_some();
+        let left = &mut left[usize::from(kills)];
+        if *left > 0 {
+            *left -= 1;
+            moves.push(carried(&file, state.clone(), code, argument)?);
+        }
+        state = model::diagram_step::moved(&diagram, &state, code, argument).ok()?;
+    }
+    let net = net_of(&file).ok()?;
+    (moves.len() == MOVES).then_some(Plant { file, net, moves })
 }
 
 /// The plant of a file that has just so many rows and enough accepted moves.
@@ -432,7 +485,7 @@ fn trigger_log_course(triggers: usize, receivers: usize) -> LogCourse {
             receivers,
         },
         plants: vec![plant],
-        rounds: TRIGGER_ROUNDS,
+        rounds: LONG_ROUNDS,
     }
 }
 
@@ -460,24 +513,29 @@ fn trigger_log_plant(triggers: usize, receivers: usize) -> Option<LogPlant> {
 
 /// The plant of a file whose log moves as a plant does: no standstill, several FUNCTIONs, and neither steps nor waits few.
 fn log_plant(random: &mut Random, file: Vec<u8>, rows: usize) -> Option<LogPlant> {
+    let (plant, starts) = random_log_plant(random, file)?;
+    let waits = plant.moves.iter().filter(|made| made.code == WAIT).count();
+    let started = starts.iter().filter(|(times, _)| *times >= 100).count();
+    let fits = (MOST_MOVES / 6..MOST_MOVES / 2).contains(&waits) && started >= (rows / 10).max(2);
+    fits.then_some(plant)
+}
+
+/// The plant of a file with a random log of as many moves as may be, and how often each FUNCTION row starts in it.
+fn random_log_plant(random: &mut Random, file: Vec<u8>) -> Option<(LogPlant, Vec<(usize, u16)>)> {
     let log = accepted_log(random, &file, MOST_MOVES);
     let diagram = model::diagram::parse(&file).ok()?;
     let moves: Vec<Logged> = Log::read(&log).ok()?.moves().collect();
-    let waits = moves.iter().filter(|made| made.code == WAIT).count();
-    let starts = starts_by_row(&diagram, &log)?;
-    let started = starts.iter().filter(|(times, _)| *times >= 100).count();
-    let fits = moves.len() == MOST_MOVES
-        && (MOST_MOVES / 6..MOST_MOVES / 2).contains(&waits)
-        && started >= (rows / 10).max(2);
     let fresh = model::diagram_step::fresh_state(&diagram);
-    let (_, row) = starts.into_iter().max()?;
-    fits.then_some(LogPlant {
+    let starts = starts_by_row(&diagram, &log)?;
+    let (_, row) = *starts.iter().max()?;
+    let plant = LogPlant {
         file,
         fresh,
         log,
         moves,
         row,
-    })
+    };
+    (plant.moves.len() == MOST_MOVES).then_some((plant, starts))
 }
 
 /// How often each FUNCTION row starts, with its number.
@@ -610,8 +668,15 @@ fn main() {
             with_triggers.push((trigger_course(triggers, receivers), logs));
         }
     }
+    let with_kills = [
+        kill_courses("2 trips", trips_again(2)),
+        kill_courses("16 trips", trips_again(16)),
+        kill_courses("19 rounds", killing_rounds_again(19)),
+        kill_courses("11 deep", deep_trips_again(11)),
+    ];
     let (mut calls, mut moves, mut steps) = (Vec::new(), Vec::new(), Vec::new());
     let (mut trigger_calls, mut trigger_moves) = (Vec::new(), Vec::new());
+    let (mut kill_calls, mut kill_moves) = (Vec::new(), Vec::new());
     for _ in 0..SWEEPS {
         for (course, logs) in &plain {
             compare_calls(&mut calls, course);
@@ -624,6 +689,10 @@ fn main() {
             compare_calls(&mut trigger_calls, course);
             compare_logs(&mut trigger_moves, logs);
         }
+        for (course, logs) in &with_kills {
+            compare_calls(&mut kill_calls, course);
+            compare_logs(&mut kill_moves, logs);
+        }
     }
     print_times(["a call", "proved", "model"], &calls);
     print_rows(&calls);
@@ -631,6 +700,15 @@ fn main() {
     print_times(["a move", "in the log", "step's call"], &steps);
     print_times(["triggers, call", "proved", "model"], &trigger_calls);
     print_times(["triggers, move", "proved", "model"], &trigger_moves);
-    let tables = [&calls, &moves, &trigger_calls, &trigger_moves];
+    print_times(["kills, a call", "proved", "model"], &kill_calls);
+    print_times(["kills, a move", "proved", "model"], &kill_moves);
+    let tables = [
+        &calls,
+        &moves,
+        &trigger_calls,
+        &trigger_moves,
+        &kill_calls,
+        &kill_moves,
+    ];
     print_largest(tables.into_iter().flatten());
 }

@@ -2,7 +2,8 @@
 
 use super::diagrams::random_function;
 use super::Random;
-use crate::records::{record, shape, word, END, FUNCTION, IT_OPEN, PREFIX_LENGTH};
+use crate::diagram::ROW_KINDS;
+use crate::records::{record, shape, word, FUNCTION, IT_OPEN, PREFIX_LENGTH};
 use std::ops::RangeInclusive;
 
 /// A record of any of these kinds, a FUNCTION or IT open with fields that hold.
@@ -68,7 +69,7 @@ pub(super) fn damage_bytes(random: &mut Random, bytes: &mut Vec<u8>) {
                 let more = random.below(9);
                 bytes.extend(random.bytes(more));
             }
-            _ => bytes.extend(random_record(random, FUNCTION..=END, &[])),
+            _ => bytes.extend(random_record(random, ROW_KINDS, &[])),
         }
     }
 }

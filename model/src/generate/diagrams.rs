@@ -2,11 +2,13 @@
 
 use super::damage::{damage_bytes, damage_field, damage_records, random_record, split_records};
 use super::Random;
-use crate::diagram::{file_of, function_record, MOST_ITEMS, MOST_OPEN, MOST_ROWS};
+use crate::diagram::{
+    file_of, function_record, is_branch, MOST_ITEMS, MOST_OPEN, MOST_ROWS, ROW_KINDS,
+};
 use crate::examples::receiver_rows;
 use crate::records::{
-    record, AND_CLOSE, AND_OPEN, BRANCH, END, FUNCTION, HEAD, ITEM, IT_CLOSE, IT_OPEN, LOOP_EXIT,
-    LP_CLOSE, LP_OPEN, OR_CLOSE, OR_OPEN, TRIGGER,
+    record, word, AND_CLOSE, AND_OPEN, BRANCH, END, HEAD, ITEM, IT_CLOSE, IT_OPEN, KILLING_BRANCH,
+    LOOP_EXIT, LP_CLOSE, LP_OPEN, OR_CLOSE, OR_OPEN, TRIGGER,
 };
 use std::ops::RangeInclusive;
 
@@ -35,13 +37,45 @@ pub fn diagram(random: &mut Random) -> Vec<u8> {
 
 /// An accepted diagram of at most this many rows.
 pub fn diagram_up_to(random: &mut Random, most_rows: usize) -> Vec<u8> {
-    let percent = trigger_percent(random);
-    draft_up_to(random, most_rows, percent).file()
+    let percents = Percents::some(random);
+    draft_up_to(random, most_rows, percents).file()
 }
 
-/// The same without triggers.
+/// The same without triggers and killing branches.
 pub fn plain_diagram_up_to(random: &mut Random, most_rows: usize) -> Vec<u8> {
-    draft_up_to(random, most_rows, 0).file()
+    draft_up_to(random, most_rows, Percents::NONE).file()
+}
+
+/// How many in a hundred, of what most diagrams have not.
+#[derive(Clone, Copy)]
+struct Percents {
+    /// Items that are triggers.
+    triggers: usize,
+    /// Branches of ANDs that kill.
+    kills: usize,
+}
+
+impl Percents {
+    const NONE: Percents = Percents {
+        triggers: 0,
+        kills: 0,
+    };
+
+    fn some(random: &mut Random) -> Self {
+        Percents {
+            triggers: seldom(random, 30, &[25, 50, 100]),
+            kills: seldom(random, 35, &[20, 50, 100]),
+        }
+    }
+}
+
+/// One of these percents, mostly 0.
+fn seldom(random: &mut Random, percent: usize, percents: &[usize]) -> usize {
+    if random.chance(percent) {
+        random.pick(percents, 0)
+    } else {
+        0
+    }
 }
 
 /// An accepted diagram with many triggers that most FUNCTIONs use: most of their
@@ -62,6 +96,7 @@ fn crowded_draft(random: &mut Random) -> Draft {
     let percent = random.pick(&[70, 100], 100);
     let item_kinds = random_kinds(random, item_count, percent);
     let mut builder = RowsBuilder {
+        kill_percent: seldom(random, 30, &[30, 100]),
         go_on_percent: 90,
         function_percent: 85 + random.below(16),
         lasting: None,
@@ -98,20 +133,41 @@ fn everyone_draft(triggers: usize, receivers: usize) -> Draft {
 /// an LP around all of it that no LE leaves. FUNCTIONs give back what they take;
 /// only an LE may lose it.
 pub fn lasting_diagram(random: &mut Random, row_count: usize) -> Vec<u8> {
-    lasting_with(random, row_count, 0)
+    lasting_with(random, row_count, Percents::NONE)
 }
 
 /// The same with triggers, whose copies may become more and more.
 pub fn lasting_trigger_diagram(random: &mut Random, row_count: usize) -> Vec<u8> {
-    let percent = random.pick(&[50, 100], 50);
-    lasting_with(random, row_count, percent)
+    let triggers = random.pick(&[50, 100], 50);
+    let percents = Percents {
+        triggers,
+        ..Percents::NONE
+    };
+    lasting_with(random, row_count, percents)
 }
 
-fn lasting_with(random: &mut Random, row_count: usize, trigger_percent: usize) -> Vec<u8> {
-    let item_count = random.below(4);
+/// The same with branches that kill; what a killed FUNCTION took is lost, so most
+/// have triggers or no items.
+pub fn lasting_killing_diagram(random: &mut Random, row_count: usize) -> Vec<u8> {
+    let percents = Percents {
+        triggers: random.pick(&[0, 100], 0),
+        kills: random.pick(&[30, 60, 100], 60),
+    };
+    lasting_with(random, row_count, percents)
+}
+
+fn lasting_with(random: &mut Random, row_count: usize, percents: Percents) -> Vec<u8> {
+    let item_count = match percents {
+        Percents {
+            triggers: 0,
+            kills: 1..,
+        } if random.chance(80) => 0,
+        _ => random.below(4),
+    };
     let counts = (0..item_count).map(|_| random.between(1, 3)).collect();
-    let item_kinds = random_kinds(random, item_count, trigger_percent);
+    let item_kinds = random_kinds(random, item_count, percents.triggers);
     let mut builder = RowsBuilder {
+        kill_percent: percents.kills,
         go_on_percent: 30 + random.below(60),
         function_percent: 20 + random.below(60),
         lasting: Some(random.pick(&[9, 600, 4_000, 12_000, 36_001, u16::MAX], 9)),
@@ -137,15 +193,6 @@ fn lasting_with(random: &mut Random, row_count: usize, trigger_percent: usize) -
     .file()
 }
 
-/// Chance that an item is a trigger: most diagrams have none.
-fn trigger_percent(random: &mut Random) -> usize {
-    if random.chance(30) {
-        random.pick(&[25, 50, 100], 50)
-    } else {
-        0
-    }
-}
-
 /// Kinds of items, so many in a hundred triggers.
 fn random_kinds(random: &mut Random, item_count: usize, trigger_percent: usize) -> Vec<u16> {
     let mut kinds = vec![ITEM; item_count];
@@ -167,19 +214,53 @@ fn draft(random: &mut Random) -> Draft {
         5..=7 => random.below(MOST_ROWS) + 1,
         _ => MOST_ROWS,
     };
-    let percent = trigger_percent(random);
-    draft_up_to(random, most_rows, percent)
+    let percents = Percents::some(random);
+    draft_up_to(random, most_rows, percents)
 }
 
-fn draft_up_to(random: &mut Random, most_rows: usize, trigger_percent: usize) -> Draft {
+/// An accepted diagram of short FUNCTIONs around an AND some of whose branches
+/// kill: its walks come to kills of every kind.
+pub fn killing_diagram(random: &mut Random) -> Vec<u8> {
+    killing_draft(random).file()
+}
+
+fn killing_draft(random: &mut Random) -> Draft {
+    let item_count = random.below(3);
+    let counts = (0..item_count).map(|_| random.between(1, 9)).collect();
+    let percent = random.pick(&[0, 50, 100], 0);
+    let item_kinds = random_kinds(random, item_count, percent);
+    let most_rows = random.pick(&[12, 20, 30, 45, MOST_ROWS], MOST_ROWS);
+    let mut builder = RowsBuilder {
+        kill_percent: random.pick(&[0, 30, 60], 30),
+        go_on_percent: 10 + random.below(60),
+        function_percent: 30 + random.below(50),
+        lasting: Some(9),
+        crowded: false,
+        random,
+        item_kinds: &item_kinds,
+        rows: Vec::new(),
+        left: most_rows - 1,
+    };
+    builder.killing_plant();
+    builder.plain(END);
+    let rows = builder.rows;
+    Draft {
+        item_kinds,
+        counts,
+        rows,
+    }
+}
+
+fn draft_up_to(random: &mut Random, most_rows: usize, percents: Percents) -> Draft {
     let item_count = match random.below(4) {
         0 => 0,
         1 => random.below(MOST_ITEMS + 1),
         _ => random.below(4),
     };
     let counts = (0..item_count).map(|_| item_count_word(random)).collect();
-    let item_kinds = random_kinds(random, item_count, trigger_percent);
+    let item_kinds = random_kinds(random, item_count, percents.triggers);
     let mut builder = RowsBuilder {
+        kill_percent: percents.kills,
         go_on_percent: 50 + random.below(48),
         function_percent: 20 + random.below(60),
         lasting: None,
@@ -212,8 +293,10 @@ pub(super) fn item_count_word(random: &mut Random) -> u16 {
 }
 
 /// Builds rows by runs and constructs, each of them a whole.
-struct RowsBuilder<'r> {
-    random: &'r mut Random,
+pub(super) struct RowsBuilder<'r> {
+    pub(super) random: &'r mut Random,
+    /// Chance that a branch of an AND kills.
+    kill_percent: usize,
     /// Chance that a run goes on.
     go_on_percent: usize,
     /// Chance that a construct is a FUNCTION.
@@ -226,16 +309,16 @@ struct RowsBuilder<'r> {
     lasting: Option<u16>,
     rows: Vec<Vec<u8>>,
     /// Rows that may still be added, END left out.
-    left: usize,
+    pub(super) left: usize,
 }
 
 impl RowsBuilder<'_> {
-    fn plain(&mut self, kind: u16) {
+    pub(super) fn plain(&mut self, kind: u16) {
         self.rows.push(record(kind, &[]));
     }
 
     /// A run of constructs; the outermost one tends to be long.
-    fn run(&mut self, open: usize, in_loop: bool) {
+    pub(super) fn run(&mut self, open: usize, in_loop: bool) {
         let go_on_percent = if open == 0 { 92 } else { self.go_on_percent };
         while self.left > 0 && self.random.chance(go_on_percent) {
             self.construct(open, in_loop);
@@ -243,7 +326,7 @@ impl RowsBuilder<'_> {
     }
 
     /// A construct that fits into the rows left; a FUNCTION always does.
-    fn construct(&mut self, open: usize, in_loop: bool) {
+    pub(super) fn construct(&mut self, open: usize, in_loop: bool) {
         let may_open = open < MOST_OPEN && !self.random.chance(self.function_percent);
         match self.random.below(4) {
             0 if may_open && self.left >= 4 => self.branched(AND_OPEN, AND_CLOSE, open, in_loop),
@@ -254,7 +337,7 @@ impl RowsBuilder<'_> {
                     _ => self.random.between(2, 4),
                 };
                 self.left -= 2;
-                self.rows.push(record(IT_OPEN, &[count]));
+                self.it_open(count);
                 self.run(open + 1, in_loop);
                 self.plain(IT_CLOSE);
             }
@@ -266,8 +349,12 @@ impl RowsBuilder<'_> {
         }
     }
 
+    pub(super) fn it_open(&mut self, count: u16) {
+        self.rows.push(record(IT_OPEN, &[count]));
+    }
+
     /// A FUNCTION; a lasting one of so many ticks or more.
-    fn function(&mut self, least: u16) {
+    pub(super) fn function(&mut self, least: u16) {
         let function = match self.lasting {
             Some(most) => lasting_function(self.random, self.item_kinds, least..=most),
             None if self.crowded => function_of_uses(self.random, self.item_kinds, 95),
@@ -317,8 +404,8 @@ impl RowsBuilder<'_> {
         let depth = open + usize::from(in_it);
         if in_it {
             self.left -= 2;
-            self.rows
-                .push(record(IT_OPEN, &[self.random.between(2, 4)]));
+            let count = self.random.between(2, 4);
+            self.it_open(count);
         }
         if self.random.chance(75) {
             self.branched(OR_OPEN, OR_CLOSE, depth, true);
@@ -331,7 +418,7 @@ impl RowsBuilder<'_> {
     }
 
     /// An AND or OR with two branches or more; in a loop some end in LE.
-    fn branched(&mut self, open_kind: u16, close_kind: u16, open: usize, in_loop: bool) {
+    pub(super) fn branched(&mut self, open_kind: u16, close_kind: u16, open: usize, in_loop: bool) {
         self.left -= 4;
         self.plain(open_kind);
         let mut branches = 0;
@@ -340,14 +427,30 @@ impl RowsBuilder<'_> {
                 self.left -= 1;
             }
             branches += 1;
-            self.plain(BRANCH);
-            self.run(open + 1, in_loop);
+            let may_kill = open_kind == AND_OPEN && self.left > 0 && self.kill_percent > 0;
+            if may_kill && self.random.chance(self.kill_percent) {
+                self.plain(KILLING_BRANCH);
+                self.killing_run(open + 1, in_loop);
+            } else {
+                self.plain(BRANCH);
+                self.run(open + 1, in_loop);
+            }
             if in_loop && self.left > 0 && self.random.chance(40) {
-                self.left -= 1;
-                self.plain(LOOP_EXIT);
+                self.loop_exit();
             }
         }
         self.plain(close_kind);
+    }
+
+    /// The run of a killing branch has a construct at least.
+    fn killing_run(&mut self, open: usize, in_loop: bool) {
+        self.construct(open, in_loop);
+        self.run(open, in_loop);
+    }
+
+    pub(super) fn loop_exit(&mut self) {
+        self.left -= 1;
+        self.plain(LOOP_EXIT);
     }
 }
 
@@ -441,18 +544,21 @@ fn random_use(random: &mut Random, item: u16, kind: u16) -> [u16; 3] {
 pub fn damaged_diagram(random: &mut Random) -> Vec<u8> {
     let mut damaged = match random.below(100) {
         0 => crowded_draft(random),
+        1..=12 => killing_draft(random),
         _ => draft(random),
     };
-    match random.below(10) {
+    match random.below(12) {
         0 => random_rows(random, &mut damaged),
         1 => too_deep(random, &mut damaged),
         2 => loop_exit_somewhere(random, &mut damaged),
         3 | 4 => {
             let item_kinds = &damaged.item_kinds;
-            damage_records(random, &mut damaged.rows, FUNCTION..=END, item_kinds);
+            damage_records(random, &mut damaged.rows, ROW_KINDS, item_kinds);
         }
         5 => trigger_off_somewhere(random, &mut damaged),
         6 => other_item_kind(random, &mut damaged),
+        7 => other_branch_kind(random, &mut damaged),
+        8 => empty_killing_branch(random, &mut damaged),
         _ => {}
     }
     let mut bytes = damaged.file();
@@ -461,7 +567,8 @@ pub fn damaged_diagram(random: &mut Random) -> Vec<u8> {
         3 => damage_field(random, &mut bytes),
         4 => {
             let mut records = split_records(&bytes);
-            damage_records(random, &mut records, HEAD..=END, &[]);
+            // Kinds behind the last of a row too.
+            damage_records(random, &mut records, HEAD..=KILLING_BRANCH + 3, &[]);
             bytes = records.concat();
         }
         _ => {}
@@ -472,7 +579,7 @@ pub fn damaged_diagram(random: &mut Random) -> Vec<u8> {
 /// Rows of any kinds, END last.
 fn random_rows(random: &mut Random, draft: &mut Draft) {
     let count = random.below(12);
-    let any_row = |_| random_record(random, FUNCTION..=END, &draft.item_kinds);
+    let any_row = |_| random_record(random, ROW_KINDS, &draft.item_kinds);
     draft.rows = (0..count).map(any_row).collect();
     draft.rows.push(record(END, &[]));
 }
@@ -557,4 +664,55 @@ fn trigger_off_somewhere(random: &mut Random, draft: &mut Draft) {
 fn loop_exit_somewhere(random: &mut Random, draft: &mut Draft) {
     let at = random.below(draft.rows.len() + 1);
     draft.rows.insert(at, record(LOOP_EXIT, &[]));
+}
+
+/// Puts a row in; where there is no room another one goes.
+fn put_row(random: &mut Random, draft: &mut Draft, at: usize, kind: u16) {
+    if draft.rows.len() == MOST_ROWS {
+        draft.rows.remove(random.below(MOST_ROWS));
+    }
+    let at = at.min(draft.rows.len());
+    draft.rows.insert(at, record(kind, &[]));
+}
+
+/// Numbers of the rows whose kind is one of these.
+fn rows_of(draft: &Draft, is_one: impl Fn(u16) -> bool) -> Vec<usize> {
+    let rows = draft.rows.iter().enumerate();
+    let found = rows.filter(|(_, row)| is_one(word(row, 1)));
+    found.map(|(number, _)| number).collect()
+}
+
+/// Some BRANCH rows, of an AND or OR, become killing ones or the other way
+/// round; seldom the last row becomes one.
+fn other_branch_kind(random: &mut Random, draft: &mut Draft) {
+    for at in rows_of(draft, is_branch) {
+        if random.chance(30) {
+            let kind = BRANCH + KILLING_BRANCH - word(&draft.rows[at], 1);
+            draft.rows[at] = record(kind, &[]);
+        }
+    }
+    if random.chance(10) {
+        draft.rows.pop();
+        draft.rows.push(record(KILLING_BRANCH, &[]));
+    }
+}
+
+/// A killing branch with nothing in it, before a BRANCH or close; in half of them
+/// something else is off too, before it or behind it.
+fn empty_killing_branch(random: &mut Random, draft: &mut Draft) {
+    let ends = rows_of(draft, |kind| is_branch(kind) || kind == AND_CLOSE);
+    let at = random.pick(&ends, 0);
+    put_row(random, draft, at, KILLING_BRANCH);
+    let other = random.below(draft.rows.len());
+    match random.below(8) {
+        0 | 1 => put_row(random, draft, other, LOOP_EXIT),
+        2 => drop(draft.rows.remove(other)),
+        3 => put_row(random, draft, other, KILLING_BRANCH),
+        // Around it an AND of no other branch.
+        4 => {
+            put_row(random, draft, at + 1, AND_CLOSE);
+            put_row(random, draft, at, AND_OPEN);
+        }
+        _ => {}
+    }
 }

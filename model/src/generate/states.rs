@@ -80,7 +80,7 @@ pub fn passing_state(random: &mut Random, file: &[u8]) -> Vec<u16> {
 fn busy_activity(random: &mut Random, row: &Row) -> u16 {
     match row {
         Row::Function(_) => random.between(1, 2),
-        Row::AndBranch(_) => 3,
+        Row::AndBranch { .. } => 3,
         Row::OrBranch(_) | Row::AndClose(_) => 0,
         _ => 1,
     }
