@@ -3,7 +3,7 @@
 use crate::draw::{self, escaped};
 use crate::net::{homes, place_words, transition_words, translated, Home, Net};
 use crate::plant::{Count, Plant};
-use crate::play::words::number_of;
+use crate::structure::killers;
 use crate::text::{item_lines, row_lines, time_text};
 use effbd::{refusal, Refusal};
 use std::fmt::Write;
@@ -48,13 +48,11 @@ pub fn page(plant: &Plant, file: &[u8], with_net: bool) -> Result<String, Refusa
     let annex = String::from_utf8_lossy(&effbd::annex_text(file)).into_owned();
     let title = escaped(plant.title.as_deref().unwrap_or("Plant"));
     let heading = format!(
-        "<h1>Annex: {title}</h1>\n<p>{} rows, {} items{}; the net has {} places and {} transitions. A tick is 0.1 s.</p>\n",
+        "<h1>Annex: {title}</h1>\n<p>{} rows{}, {} items{}; the net has {} places and {} transitions. A tick is 0.1 s.</p>\n",
         plant.rows.len(),
+        among(killers(plant).len(), "killing branch", "killing branches"),
         plant.items.len(),
-        match plant.triggers().count() as u64 {
-            0 => String::new(),
-            triggers => format!(", {} among them", number_of(triggers, "trigger")),
-        },
+        among(plant.triggers().count(), "trigger", "triggers"),
         net.marks.len(),
         net.transitions.len(),
     );
@@ -73,6 +71,15 @@ pub fn page(plant: &Plant, file: &[u8], with_net: bool) -> Result<String, Refusa
          <style>\n{STYLE}</style>\n</head>\n<body>\n{}</body>\n</html>\n",
         sections.concat()
     ))
+}
+
+/// How many of those just counted are special; nothing where none is.
+fn among(number: usize, one: &str, more: &str) -> String {
+    match number {
+        0 => String::new(),
+        1 => format!(", 1 {one} among them"),
+        _ => format!(", {number} {more} among them"),
+    }
 }
 
 fn section(class: &str, content: &str) -> String {

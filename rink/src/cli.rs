@@ -52,6 +52,8 @@ One item, trigger or row a line; `#` begins a comment; indentation is free.
   and [NAME]                  branches that all run: `branch`, its rows,
   or [NAME]                   one of the branches:   `branch`, its rows ..
   branch [NAME]               (two or more), then `end and`, `end or`
+  killing branch [NAME]       of an `and`, not empty: when its last row ends, the
+                              other branches end too, wherever they are
   end and, end or
   repeat COUNT [NAME]         its rows again and again, COUNT times
   end repeat
@@ -106,8 +108,8 @@ const CHECK_HELP: &str = "\
 rink check FILE [--names TEXT] [-o NAME]
 
 `accepted`, with the limits used: rows, items, depth, the net's and the state's
-size; the receivers of each trigger; whether the annex program prints the net. Or
-the refusal in words, with row and offset.
+size; the receivers of each trigger; what each killing branch kills; whether the
+annex program prints the net. Or the refusal in words, with row and offset.
 ";
 
 const NAMES_HELP: &str = "

@@ -3,8 +3,8 @@
 use crate::annex;
 use crate::net::{self, Net};
 use crate::plant::Plant;
-use crate::play::words::{number_of, rows_words};
-use crate::structure;
+use crate::play::words::{number_of, row_words, rows_words};
+use crate::structure::{self, Killer};
 use effbd::Refusal;
 use std::fmt::Write;
 
@@ -35,10 +35,23 @@ pub fn used(plant: &Plant, file: &[u8]) -> Result<String, Refusal> {
     for trigger in plant.triggers() {
         let _ = writeln!(text, "{}", trigger_line(plant, trigger));
     }
+    for killer in structure::killers(plant) {
+        let _ = writeln!(text, "{}", kill_line(plant, killer));
+    }
     if let Some(words) = annex::unprinted(net_file.len()) {
         let _ = writeln!(text, "annex: {words}");
     }
     Ok(text)
+}
+
+/// A killing branch with those that it kills. One that ends with an LE is never done: whoever drew it meant more.
+fn kill_line(plant: &Plant, killer: Killer) -> String {
+    let name = row_words(plant, killer.branch);
+    if !killer.can_kill(plant) {
+        return format!("{name}: never kills, it ends with `exit loop`");
+    }
+    let others = rows_words(plant, &killer.others(plant));
+    format!("{name}: kills {others}")
 }
 
 /// A trigger with its receivers. One that nobody takes has no count: whoever drew a give to it meant more.

@@ -1,6 +1,7 @@
 //! The net of a plant: the proved translation's bytes, taken apart, with a name for every place and transition.
 
 use crate::plant::{records, Count, Part, Plant};
+use crate::structure::killers;
 use effbd::Refusal;
 
 /// A time Petri net as its file has it.
@@ -168,7 +169,7 @@ pub fn place_words(plant: &Plant, place: usize) -> String {
     match (&plant.rows[row].part, which) {
         (Part::Repeat { .. }, 1) => format!("{name}: turns made"),
         (Part::Repeat { .. }, 2) => format!("{name}: turns left"),
-        (Part::Branch, 0) => format!("{name} done"),
+        (Part::Branch { .. }, 0) => format!("{name} done"),
         (Part::End, 0) => "the end reached".to_string(),
         (_, 0) => format!("{name} ready"),
         (Part::Function(_), 1) => format!("{name} runs"),
@@ -176,8 +177,29 @@ pub fn place_words(plant: &Plant, place: usize) -> String {
     }
 }
 
+/// The open row of the AND whose branches a transition ends: it marks a killing branch of it as done, and so the others.
+pub fn killed(plant: &Plant, net: &Net, transition: usize) -> Option<usize> {
+    let gives = &net.transitions[transition].gives;
+    let marked = |row: usize| gives.iter().any(|arc| usize::from(arc.place) == 3 * row);
+    let mut killers = killers(plant).into_iter();
+    let done = killers.find(|killer| marked(killer.branch))?;
+    Some(done.and)
+}
+
 /// A transition in words: what its firing does.
 pub fn transition_words(plant: &Plant, net: &Net, transition: usize) -> String {
+    let words = own_words(plant, net, transition);
+    match killed(plant, net, transition) {
+        None => words,
+        Some(and) => {
+            let and = plant.row_name(and);
+            format!("{words}, killing the other branches of {and}")
+        }
+    }
+}
+
+/// What the firing of a transition says of its own row.
+fn own_words(plant: &Plant, net: &Net, transition: usize) -> String {
     let row = usize::from(net.transitions[transition].label);
     let name = plant.row_name(row);
     match (&plant.rows[row].part, net.turn(transition)) {
@@ -185,7 +207,7 @@ pub fn transition_words(plant: &Plant, net: &Net, transition: usize) -> String {
         (Part::Function(_), _) => format!("{name} ends"),
         (Part::Repeat { .. }, 0) => format!("{name}: one more turn"),
         (Part::Repeat { .. }, _) => format!("{name}: turns done"),
-        (Part::Branch, _) => format!("{name} chosen"),
+        (Part::Branch { .. }, _) => format!("{name} chosen"),
         (Part::And, _) => format!("{name}: branches begin"),
         (Part::EndAnd, _) => format!("{name}: branches joined"),
         (Part::EndRepeat | Part::EndLoop, _) => format!("{name}: back"),

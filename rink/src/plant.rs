@@ -10,11 +10,16 @@ use effbd::Refusal;
 pub enum Part {
     Function(Function),
     And,
-    Branch,
+    /// One that kills stands in an AND: when it ends, the other branches end too.
+    Branch {
+        kills: bool,
+    },
     EndAnd,
     Or,
     EndOr,
-    Repeat { count: u16 },
+    Repeat {
+        count: u16,
+    },
     EndRepeat,
     Loop,
     EndLoop,
@@ -77,10 +82,10 @@ pub const TRIGGER: u16 = 3;
 const FUNCTION: u16 = 16;
 const REPEAT: u16 = 22;
 
-/// The rows without fields, with their kinds.
-const PLAIN: [(u16, Part); 10] = [
+/// The rows whose records have no fields, with their kinds.
+const PLAIN: [(u16, Part); 11] = [
     (17, Part::And),
-    (18, Part::Branch),
+    (18, Part::Branch { kills: false }),
     (19, Part::EndAnd),
     (20, Part::Or),
     (21, Part::EndOr),
@@ -89,6 +94,7 @@ const PLAIN: [(u16, Part); 10] = [
     (25, Part::EndLoop),
     (26, Part::ExitLoop),
     (27, Part::End),
+    (28, Part::Branch { kills: true }),
 ];
 
 /// A record of a file: where it stands, its kind and its fields.
@@ -174,7 +180,9 @@ impl Part {
             Part::Repeat { .. } => REPEAT,
             plain => {
                 let found = PLAIN.iter().find(|(_, part)| part == plain);
-                found.expect("every part without fields is listed").0
+                found
+                    .expect("every part of a record without fields is listed")
+                    .0
             }
         }
     }
@@ -233,12 +241,27 @@ impl Part {
         )
     }
 
+    /// Whether it begins a branch.
+    pub fn is_branch(&self) -> bool {
+        matches!(self, Part::Branch { .. })
+    }
+
+    /// Whether a branch of it may begin so: an OR's never kills.
+    pub fn may_branch(&self, branch: &Part) -> bool {
+        match self {
+            Part::And => branch.is_branch(),
+            Part::Or => *branch == Part::Branch { kills: false },
+            _ => false,
+        }
+    }
+
     /// How the text writes it, without name and fields.
     pub fn keyword(&self) -> &'static str {
         match self {
             Part::Function(_) => "function",
             Part::And => "and",
-            Part::Branch => "branch",
+            Part::Branch { kills: false } => "branch",
+            Part::Branch { kills: true } => "killing branch",
             Part::EndAnd => "end and",
             Part::Or => "or",
             Part::EndOr => "end or",

@@ -99,7 +99,10 @@ pub fn find(file: &[u8], refusal: Refusal, named: impl Fn(Subject) -> String) ->
 fn nesting(refusal: Refusal) -> bool {
     matches!(
         refusal.number,
-        refusal::NESTING_BROKEN | refusal::LOOP_EXIT_MISPLACED | refusal::TOO_MANY_OPEN
+        refusal::NESTING_BROKEN
+            | refusal::KILLING_BRANCH_EMPTY
+            | refusal::LOOP_EXIT_MISPLACED
+            | refusal::TOO_MANY_OPEN
     )
 }
 
@@ -219,6 +222,8 @@ fn nesting_words(plant: &Plant, refusal: Refusal, named: impl Fn(Subject) -> Str
     let keyword = found.part.keyword();
     let open = open_before(plant, row);
     let innermost = open.last().copied();
+    let innermost_part = innermost.map(|open| &plant.rows[open].part);
+    let takes_branch = innermost_part.is_some_and(|open| open.may_branch(&found.part));
     let around = innermost.map_or("nothing is open here".to_string(), |open| {
         format!(
             "the innermost open construct is the `{}` of {}",
@@ -229,7 +234,10 @@ fn nesting_words(plant: &Plant, refusal: Refusal, named: impl Fn(Subject) -> Str
     match refusal.number {
         refusal::TOO_MANY_OPEN => "a 13th construct would be open here: at most 12 are".to_string(),
         refusal::LOOP_EXIT_MISPLACED => exit_words(plant, row, &open, &around),
-        _ if row > 0 && needs_branch(&plant.rows[row - 1].part) && found.part != Part::Branch => {
+        refusal::KILLING_BRANCH_EMPTY => {
+            format!("nothing stands in this `{keyword}`, so nothing could end and kill: put the function that trips behind it, or write `branch`")
+        }
+        _ if row > 0 && needs_branch(&plant.rows[row - 1].part) && !found.part.is_branch() => {
             format!(
                 "`{keyword}` right behind `{}`: a `branch` is due",
                 plant.rows[row - 1].part.keyword()
@@ -241,8 +249,8 @@ fn nesting_words(plant: &Plant, refusal: Refusal, named: impl Fn(Subject) -> Str
         _ if found.part == Part::End => {
             format!("`end` stands where a construct is still open: {around}")
         }
-        _ if found.part == Part::Branch => {
-            format!("a `branch` belongs to an `and` or `or`, and {around}")
+        _ if found.part.is_branch() && !takes_branch => {
+            branch_words(&found.part, innermost_part, &around)
         }
         _ if found.part.closes()
             && innermost.is_some_and(|open| closed_by(&plant.rows[open].part) == found.part) =>
@@ -254,6 +262,20 @@ fn nesting_words(plant: &Plant, refusal: Refusal, named: impl Fn(Subject) -> Str
             format!("the last row is `{keyword}`: it has to be `end`")
         }
         _ => format!("`{keyword}` may not follow the rows before it"),
+    }
+}
+
+/// Why a branch may not stand in the innermost open construct, or in none.
+fn branch_words(branch: &Part, innermost: Option<&Part>, around: &str) -> String {
+    let keyword = branch.keyword();
+    match (branch, innermost) {
+        (Part::Branch { kills: true }, Some(Part::Or)) => {
+            format!("a `{keyword}` belongs to an `and`, and {around}: one branch of it runs alone and has no others to kill, write `branch`")
+        }
+        (Part::Branch { kills: true }, _) => {
+            format!("a `{keyword}` belongs to an `and`, and {around}")
+        }
+        _ => format!("a `{keyword}` belongs to an `and` or `or`, and {around}"),
     }
 }
 

@@ -1,6 +1,7 @@
 //! How the rows of an accepted diagram nest.
 
 use crate::plant::{Part, Plant};
+use std::ops::Range;
 
 /// A run of rows: constructs and single rows, in order.
 pub type Run = Vec<Node>;
@@ -42,7 +43,7 @@ fn run(plant: &Plant, row: &mut usize) -> Run {
     let mut nodes = Vec::new();
     while let Some(found) = plant.rows.get(*row) {
         let part = &found.part;
-        if part.closes() || *part == Part::Branch {
+        if part.closes() || part.is_branch() {
             break;
         }
         let open = *row;
@@ -64,7 +65,7 @@ fn run(plant: &Plant, row: &mut usize) -> Run {
 /// The branches behind `open`, up to the close.
 fn branched(plant: &Plant, open: usize, row: &mut usize) -> Node {
     let mut branches = Vec::new();
-    while plant.rows[*row].part == Part::Branch {
+    while plant.rows[*row].part.is_branch() {
         let branch = *row;
         *row += 1;
         let run = run(plant, row);
@@ -93,6 +94,59 @@ pub fn owners(plant: &Plant) -> Vec<Option<usize>> {
         }
     }
     owners
+}
+
+/// The BRANCH rows of the AND or OR that opens here.
+pub fn branches(plant: &Plant, open: usize) -> Vec<usize> {
+    let owners = owners(plant).into_iter().enumerate();
+    let own =
+        owners.filter(|&(row, owner)| owner == Some(open) && plant.rows[row].part.is_branch());
+    own.map(|(row, _)| row).collect()
+}
+
+/// The rows of a branch of an accepted diagram, its BRANCH row left out.
+pub fn branch_rows(plant: &Plant, branch: usize) -> Range<usize> {
+    let owners = owners(plant);
+    let first = branch + 1;
+    // Behind it stands the next branch, or the close, which belongs to what is around the construct.
+    let ends = |row: &usize| {
+        let part = &plant.rows[*row].part;
+        (part.is_branch() && owners[*row] == owners[branch])
+            || (part.closes() && owners[*row] < owners[branch])
+    };
+    let behind = (first..plant.rows.len()).find(ends);
+    first..behind.unwrap_or(first)
+}
+
+/// A branch that kills: its BRANCH row, and the row that opens its AND.
+#[derive(Clone, Copy, PartialEq, Eq, Debug)]
+pub struct Killer {
+    pub branch: usize,
+    pub and: usize,
+}
+
+/// The branches that kill, by rising rows.
+pub fn killers(plant: &Plant) -> Vec<Killer> {
+    let owners = owners(plant).into_iter().enumerate();
+    let kills = owners.filter(|&(row, _)| plant.rows[row].part == Part::Branch { kills: true });
+    kills
+        .filter_map(|(branch, owner)| owner.map(|and| Killer { branch, and }))
+        .collect()
+}
+
+impl Killer {
+    /// The BRANCH rows of the branches that it kills.
+    pub fn others(&self, plant: &Plant) -> Vec<usize> {
+        let mut others = branches(plant, self.and);
+        others.retain(|other| *other != self.branch);
+        others
+    }
+
+    /// Whether its end can come: a branch that ends with an LE is never done.
+    pub fn can_kill(&self, plant: &Plant) -> bool {
+        let last = branch_rows(plant, self.branch).last();
+        last.is_some_and(|last| plant.rows[last].part != Part::ExitLoop)
+    }
 }
 
 /// How many constructs are open together, at most.

@@ -63,7 +63,7 @@ pub const MOST_LETTERS: usize = 40;
 
 /// The words that a line begins with.
 const FIRST_WORDS: &str =
-    "plant, item, trigger, function, and, or, branch, repeat, loop, exit loop, end and, end or, end repeat, end loop, end";
+    "plant, item, trigger, function, and, or, branch, killing branch, repeat, loop, exit loop, end and, end or, end repeat, end loop, end";
 
 /// The bytes of a text's plant, accepted by the proved reader, and the plant.
 pub fn make(text: &str) -> Result<(Vec<u8>, Plant), Fault> {
@@ -155,12 +155,14 @@ impl Parsed {
             "function" => return self.function(first.place, words),
             "and" => Part::And,
             "or" => Part::Or,
-            "branch" => Part::Branch,
+            "branch" => Part::Branch { kills: false },
+            // Behind `branch` any word is its name: what kills is said before it.
+            "killing" => two_words(Part::Branch { kills: true }, "what kills", words)?,
             "repeat" => Part::Repeat {
                 count: words.number("how often it repeats, such as `repeat 3`")?,
             },
             "loop" => Part::Loop,
-            "exit" => exited(words)?,
+            "exit" => two_words(Part::ExitLoop, "what is left", words)?,
             "end" => ended(words)?,
             other => {
                 let words = format!(
@@ -169,11 +171,9 @@ impl Parsed {
                 return Err(Fault::at(first.place, words));
             }
         };
-        let name = match part {
-            Part::And | Part::Or | Part::Branch | Part::Repeat { .. } | Part::Loop => {
-                words.optional_name()?
-            }
-            _ => None,
+        let name = match part.opens() || part.is_branch() {
+            true => words.optional_name()?,
+            false => None,
         };
         self.row(first.place, part, name);
         Ok(())
@@ -295,15 +295,16 @@ impl Parsed {
     }
 }
 
-fn exited(words: &mut Words) -> Result<Part, Fault> {
-    let what = words.next("what is left: `exit loop`")?;
-    match what.text {
-        "loop" => Ok(Part::ExitLoop),
-        other => Err(Fault::at(
-            what.place,
-            format!("`exit {other}`: only `exit loop` is known"),
-        )),
+/// The part, if the second word of its keyword follows.
+fn two_words(part: Part, what: &str, words: &mut Words) -> Result<Part, Fault> {
+    let keyword = part.keyword();
+    let (first, second) = keyword.split_once(' ').unwrap_or((keyword, ""));
+    let found = words.next(&format!("{what}: `{keyword}`"))?;
+    if found.text == second {
+        return Ok(part);
     }
+    let words = format!("`{first} {}`: only `{keyword}` is known", found.text);
+    Err(Fault::at(found.place, words))
 }
 
 fn ended(words: &mut Words) -> Result<Part, Fault> {
@@ -547,7 +548,7 @@ pub fn row_lines(plant: &Plant, seconds: bool) -> Vec<String> {
 /// Where a row stands, if a run at its place stands at `indent`: a branch stands between its construct and its rows.
 fn before(part: &Part, indent: usize) -> usize {
     match part {
-        Part::Branch => indent.saturating_sub(1),
+        Part::Branch { .. } => indent.saturating_sub(1),
         Part::EndAnd | Part::EndOr => indent.saturating_sub(2),
         Part::EndRepeat | Part::EndLoop => indent.saturating_sub(1),
         _ => indent,
@@ -558,7 +559,7 @@ fn before(part: &Part, indent: usize) -> usize {
 fn behind(part: &Part, depth: usize) -> usize {
     match part {
         Part::And | Part::Or => depth + 2,
-        Part::Branch | Part::Repeat { .. } | Part::Loop => depth + 1,
+        Part::Branch { .. } | Part::Repeat { .. } | Part::Loop => depth + 1,
         _ => depth,
     }
 }

@@ -230,6 +230,7 @@ fn shipped_examples() {
         "ice-making",
         "pump-down-and-defrost",
         "door-open",
+        "pressure-trip",
     ];
     for name in names {
         let text = example(&format!("{name}.plant"));
@@ -382,7 +383,7 @@ fn receivers_told() {
     let longest = checked(&everyone(63, 16));
     has(&longest, &[
         "places         1216 of 1216",
-        "net bytes    526676 of 551304",
+        "net bytes    526676 of 584072",
         "state words    1216 of 1216",
         "annex: the net has 526676 bytes and is not printed: the annex program has room for 65536, and says \"refused 10 526676\"",
     ]);
@@ -392,6 +393,38 @@ fn receivers_told() {
         &made(&everyone(1, 1)),
     );
     says(&names, REFUSED, "makes another diagram than -");
+}
+
+/// What each killing branch kills, and one that never does.
+#[test]
+fn kills_told() {
+    let trip = rink(&["check", &example("pressure-trip.dia")]);
+    let line = "killing branch trip (row 15): kills branch compressor (row 3), branch brine (row 8) and branch defrost (row 10)";
+    assert!(
+        trip.text().lines().any(|other| other == line),
+        "{}",
+        trip.text()
+    );
+    let text = "loop\nand\nkilling branch\nexit loop\nkilling branch\nfunction f 1..2\nend and\nend loop\nend\n";
+    let file = fed(&["make", "-"], text.as_bytes()).output;
+    let checked = fed(&["check", "-"], &file);
+    let never = "killing branch (row 2): never kills, it ends with `exit loop`\nkilling branch (row 4): kills killing branch (row 2)\n";
+    assert!(checked.text().contains(never), "{}", checked.text());
+}
+
+/// An empty killing branch in a file: its row and offset.
+#[test]
+fn refused_killer() {
+    let text = "and\nbranch\nbranch\nend and\nend\n";
+    let mut file = fed(&["make", "-"], text.as_bytes()).output;
+    file[16] = 28;
+    let answer = fed(&["check", "-"], &file);
+    assert_eq!(answer.status, REFUSED);
+    let words = "row 1, offset 14: nothing stands in this `killing branch`";
+    assert!(answer.text().contains(words), "{}", answer.text());
+    file[12] = 20;
+    let words = "row 1, offset 14: a `killing branch` belongs to an `and`, and the innermost open construct is the `or` of row 0: ";
+    says(&fed(&["show", "-"], &file), REFUSED, words);
 }
 
 /// A trigger's take above 1 in a file: its row and offset.
@@ -491,6 +524,13 @@ fn other_formats() {
         assert!(door.text().lines().any(|other| other == line), "{line}");
     }
     assert!(!door.text().contains("pl p63"), "a trigger's own place");
+    let trip = rink(&["draw", "--tina", &example("pressure-trip.dia")]);
+    for line in [
+        "# t22 clears 9 to 53",
+        "tr t22 : {open-contactor ends, killing the other branches of making} [1,2] p52 -> p9 p24 p30 p35*3 p45",
+    ] {
+        assert!(trip.text().lines().any(|other| other == line), "{line}");
+    }
 }
 
 /// The page has the file's bytes and length, and needs nothing from elsewhere.
@@ -517,4 +557,13 @@ fn annex_page() {
         .text()
         .contains("<td>item 0, row 6</td><td>count of door@stop-fan</td>"));
     assert!(door.text().contains("<pre>trigger door 0</pre>"));
+    let trip = rink(&["annex", &example("pressure-trip.dia")]);
+    for words in [
+        "30 rows, 1 killing branch among them, 3 items; the net has 93 places",
+        "<td>open-contactor ends, killing the other branches of making</td>",
+        "<pre>    killing branch trip</pre>",
+        "<td>trip done</td>",
+    ] {
+        assert!(trip.text().contains(words), "{words}");
+    }
 }

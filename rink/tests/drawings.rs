@@ -1,6 +1,9 @@
 //! The drawings of random and of extreme plants: nothing overlaps, every row, place, transition and arc is there once.
 
-use model::generate::{crowded_diagram, diagram, lasting_diagram, lasting_trigger_diagram, Random};
+use model::generate::{
+    crowded_diagram, diagram, killing_diagram, lasting_diagram, lasting_killing_diagram,
+    lasting_trigger_diagram, Random,
+};
 use rink::draw::{self, Line, Node, Outline, Placed, Point, Sheet};
 use rink::formats;
 use rink::net::Net;
@@ -29,6 +32,8 @@ impl Case {
 }
 
 const RANDOM_CASES: u64 = 1000;
+const BRANCH: Part = Part::Branch { kills: false };
+const KILLER: Part = Part::Branch { kills: true };
 
 fn cases() -> Vec<Case> {
     let mut cases: Vec<Case> = (0..RANDOM_CASES).map(random_case).collect();
@@ -45,6 +50,8 @@ fn random_case(seed: u64) -> Case {
     let file = match (seed % 200, seed % 8) {
         (0, _) => crowded_diagram(&mut random),
         (_, 0) => lasting_diagram(&mut random, 64),
+        (_, 2) => lasting_killing_diagram(&mut random, 64),
+        (_, 3) => killing_diagram(&mut random),
         (_, 4) => lasting_trigger_diagram(&mut random, 64),
         _ => diagram(&mut random),
     };
@@ -63,7 +70,7 @@ fn name_all(plant: &mut Plant, random: &mut Random) {
         item.name = name(random);
     }
     for row in &mut plant.rows {
-        let may = row.part.opens() || row.part == Part::Branch;
+        let may = row.part.opens() || row.part.is_branch();
         if row.name.is_some() || (may && random.chance(30)) {
             row.name = Some(name(random));
         }
@@ -152,15 +159,15 @@ fn using(takes: &[u16], gives: &[u16]) -> Part {
 
 /// Plants of triggers: the longest net of all, and copies of all numbers.
 fn trigger_extremes() -> Vec<Case> {
-    use Part::{And, Branch, EndAnd};
+    use Part::{And, EndAnd};
     let all: Vec<u16> = (0..16).collect();
     let hall = vec![
         And,
-        Branch,
+        BRANCH,
         using(&[], &[0, 1, 2]),
-        Branch,
+        BRANCH,
         using(&[0, 1], &[1]),
-        Branch,
+        BRANCH,
         using(&[0], &[]),
         EndAnd,
     ];
@@ -173,8 +180,52 @@ fn trigger_extremes() -> Vec<Case> {
     plants.into_iter().map(triggered).collect()
 }
 
+/// Plants with branches that kill: side by side, one in the other, by every kind of last row, and some that never do.
+fn kill_extremes() -> Vec<Case> {
+    use Part::{And, EndAnd, EndLoop, EndOr, EndRepeat, ExitLoop, Loop, Or};
+    let it = Part::Repeat { count: 3 };
+    let mut killers = vec![And];
+    (0..30).for_each(|_| killers.extend([KILLER, plain()]));
+    killers.push(EndAnd);
+    let nest = [And, BRANCH, it.clone(), EndRepeat, KILLER];
+    let left = [
+        Loop,
+        And,
+        KILLER,
+        plain(),
+        ExitLoop,
+        BRANCH,
+        EndAnd,
+        EndLoop,
+    ];
+    let killing_exit = [
+        vec![And, BRANCH, it.clone(), plain(), EndRepeat, KILLER],
+        left.to_vec(),
+        vec![EndAnd],
+    ];
+    let last_rows = [
+        vec![And, KILLER, it.clone(), EndRepeat, KILLER, Loop, EndLoop],
+        vec![KILLER, Or, BRANCH, BRANCH, EndOr, KILLER, plain()],
+        vec![BRANCH, EndAnd],
+    ];
+    let never = [
+        vec![Loop, And, KILLER, ExitLoop, KILLER, plain(), ExitLoop],
+        vec![BRANCH, plain(), EndAnd, EndLoop],
+    ];
+    vec![
+        extreme("30 that kill", killers),
+        extreme(
+            "10 ANDs that kill",
+            nested(10, &nest, &[plain()], &[EndAnd]),
+        ),
+        extreme("an LE that kills", killing_exit.concat()),
+        extreme("last rows of killing branches", last_rows.concat()),
+        extreme("that never kill", never.concat()),
+    ]
+}
+
 fn extremes() -> Vec<Case> {
-    use Part::{And, Branch, EndAnd, EndLoop, EndOr, EndRepeat, ExitLoop, Loop, Or};
+    use Part::{And, EndAnd, EndLoop, EndOr, EndRepeat, ExitLoop, Loop, Or};
     let it = Part::Repeat { count: 255 };
     let uses = (0..16).map(|item| Use {
         item,
@@ -182,31 +233,31 @@ fn extremes() -> Vec<Case> {
         give: 65_535 - item,
     });
     let mut branches = vec![And];
-    (0..30).for_each(|_| branches.extend([Branch, plain()]));
+    (0..30).for_each(|_| branches.extend([BRANCH, plain()]));
     branches.push(EndAnd);
     let exits = [
         vec![
             Loop,
             it.clone(),
             And,
-            Branch,
+            BRANCH,
             plain(),
             it.clone(),
             Or,
-            Branch,
+            BRANCH,
             ExitLoop,
-            Branch,
+            BRANCH,
             plain(),
             EndOr,
         ],
         vec![
             EndRepeat,
             plain(),
-            Branch,
+            BRANCH,
             And,
-            Branch,
+            BRANCH,
             ExitLoop,
-            Branch,
+            BRANCH,
             ExitLoop,
             EndAnd,
             EndAnd,
@@ -215,10 +266,10 @@ fn extremes() -> Vec<Case> {
         vec![
             EndRepeat,
             Or,
-            Branch,
+            BRANCH,
             plain(),
             ExitLoop,
-            Branch,
+            BRANCH,
             EndOr,
             plain(),
             EndLoop,
@@ -232,17 +283,17 @@ fn extremes() -> Vec<Case> {
             it.clone(),
             EndRepeat,
             And,
-            Branch,
-            Branch,
+            BRANCH,
+            BRANCH,
             EndAnd,
         ],
         vec![
-            Or, Branch, Branch, Branch, EndOr, Loop, Or, Branch, ExitLoop, Branch, ExitLoop, EndOr,
+            Or, BRANCH, BRANCH, BRANCH, EndOr, Loop, Or, BRANCH, ExitLoop, BRANCH, ExitLoop, EndOr,
             EndLoop,
         ],
     ];
-    let in_or = [Or, Branch, Branch];
-    let exit_deep = [And, Branch, ExitLoop, Branch, EndAnd];
+    let in_or = [Or, BRANCH, BRANCH];
+    let exit_deep = [And, BRANCH, ExitLoop, BRANCH, EndAnd];
     let mut in_its = vec![Loop];
     in_its.extend(nested(
         10,
@@ -261,7 +312,7 @@ fn extremes() -> Vec<Case> {
         ),
         extreme(
             "12 ANDs",
-            nested(12, &[And, Branch, Branch], &[plain()], &[EndAnd]),
+            nested(12, &[And, BRANCH, BRANCH], &[plain()], &[EndAnd]),
         ),
         extreme("12 ORs", nested(12, &in_or, &[plain()], &[EndOr])),
         extreme("an AND of 30", branches),
@@ -271,6 +322,7 @@ fn extremes() -> Vec<Case> {
         extreme("16 uses", vec![function(uses.collect()), plain()]),
     ];
     all.extend(trigger_extremes());
+    all.extend(kill_extremes());
     all.extend(all.iter().map(widely_named).collect::<Vec<Case>>());
     all
 }
@@ -280,7 +332,7 @@ fn widely_named(case: &Case) -> Case {
     let mut plant = case.plant.clone();
     plant.title = Some("Ж".repeat(40));
     for row in &mut plant.rows {
-        let may = row.part.opens() || row.part == Part::Branch;
+        let may = row.part.opens() || row.part.is_branch();
         if may || row.name.is_some() {
             row.name = Some("W".repeat(39) + "-");
         }
@@ -547,9 +599,21 @@ fn closes(plant: &Plant) -> Vec<usize> {
 fn flow(plant: &Plant) -> Vec<(Node, Node)> {
     let (owners, closes) = (structure::owners(plant), closes(plant));
     let part = |row: usize| &plant.rows[row].part;
-    // Where the flow that goes to a row comes to: at the end of a branch it is the close.
+    let killers = structure::killers(plant);
+    let killer = |row: usize| killers.iter().find(|killer| killer.branch == row);
+    // Of a row, where the flow of the branch comes to that ends there: to the close, or before it to the sign that it kills.
+    let ended = |row: usize, open: usize| {
+        let branch = structure::branches(plant, open).into_iter();
+        let branch = branch.filter(|branch| *branch < row).max();
+        let kills = branch.filter(|branch| killer(*branch).is_some());
+        kills.map_or(Node::Row(closes[open]), Node::Kill)
+    };
     let target = |row: usize| match (part(row), owners[row]) {
-        (Part::Branch, Some(open)) => Node::Row(closes[open]),
+        (Part::Branch { .. }, Some(open)) => ended(row, open),
+        (Part::EndAnd, _) => {
+            let open = closes.iter().position(|close| *close == row);
+            ended(row, open.expect("a close has its open"))
+        }
         _ => Node::Row(row),
     };
     let mut flow = vec![(Node::Start, Node::Row(0))];
@@ -566,7 +630,7 @@ fn flow(plant: &Plant) -> Vec<(Node, Node)> {
             }
             Part::And | Part::Or => {
                 let own =
-                    |branch: &usize| *part(*branch) == Part::Branch && owners[*branch] == Some(row);
+                    |branch: &usize| part(*branch).is_branch() && owners[*branch] == Some(row);
                 let branches = (0..plant.rows.len()).filter(own);
                 flow.extend(branches.map(|branch| (from, Node::Row(branch))));
             }
@@ -575,6 +639,9 @@ fn flow(plant: &Plant) -> Vec<(Node, Node)> {
                 flow.extend(function.uses.iter().flat_map(|used| used_lines(row, used)));
             }
             _ => flow.push((from, target(row + 1))),
+        }
+        if let Some(killer) = killer(row).filter(|killer| killer.can_kill(plant)) {
+            flow.push((Node::Kill(row), Node::Row(closes[killer.and])));
         }
         if matches!(part(row), Part::Loop | Part::Repeat { .. }) {
             flow.push((Node::Row(closes[row]), from));
@@ -625,6 +692,71 @@ fn triggers_are_told_apart() {
             case.said()
         );
     }
+}
+
+/// A branch that kills has a tag of its own, and a sign at its end, if that can come.
+#[test]
+fn killing_branches_are_told_apart() {
+    let (mut with, mut without) = (0, 0);
+    for case in cases() {
+        let (plant, said) = (&case.plant, case.said());
+        let killers = structure::killers(plant);
+        let ends = killers.iter().filter(|killer| killer.can_kill(plant));
+        let ends: Vec<usize> = ends.map(|killer| killer.branch).collect();
+        let sheet = draw::diagram_sheet(plant);
+        let frames = sheet.groups.iter().flat_map(|group| &group.frames);
+        let outlines: Vec<Outline> = frames.map(|frame| frame.outline).collect();
+        let drawn = |outline| outlines.iter().filter(|other| **other == outline).count();
+        assert_eq!(drawn(Outline::KillTag), killers.len(), "{said}");
+        assert_eq!(drawn(Outline::Kill), ends.len(), "{said}");
+        let svg = draw::diagram(plant);
+        let found = elements(&svg).unwrap_or_else(|fault| panic!("{fault}: {said}"));
+        let rows = once(ends.iter().map(usize::to_string));
+        assert_eq!(counted(&found, "data-kill"), rows, "{said}");
+        assert_eq!(svg.contains("KILL, and the red tag"), !killers.is_empty());
+        with += ends.len();
+        without += killers.len() - ends.len();
+    }
+    assert!(with > 100 && without > 10, "{with} kill, {without} never");
+}
+
+/// The transitions that kill are those that clear more than a loop, or are no LE; each says so, marks all branches and has a red tag.
+#[test]
+fn killing_transitions_are_told() {
+    let mut told = 0;
+    let killing = |case: &Case| !structure::killers(&case.plant).is_empty();
+    for case in cases().into_iter().filter(killing) {
+        let (plant, net, said) = (&case.plant, case.net(), case.said());
+        let (closes, mut kills) = (closes(plant), 0);
+        for (number, transition) in net.transitions.iter().enumerate() {
+            let words = rink::net::transition_words(plant, &net, number);
+            let Some(and) = rink::net::killed(plant, &net, number) else {
+                let row = usize::from(transition.label);
+                let exit = plant.rows[row].part == Part::ExitLoop;
+                assert_eq!(!transition.clears.is_empty(), exit, "t{number}, {said}");
+                assert!(!words.contains("killing the other branches"), "{said}");
+                continue;
+            };
+            let inside = (3 * (and as u16 + 1), 3 * closes[and] as u16 - 1);
+            assert_eq!(transition.clears, [inside], "t{number}, {said}");
+            let branches = structure::branches(plant, and).into_iter();
+            let marked = |row: usize| {
+                let mut gives = transition.gives.iter();
+                gives.any(|arc| usize::from(arc.place) == 3 * row)
+            };
+            assert!(branches.into_iter().all(marked), "t{number}, {said}");
+            let and = plant.row_name(and);
+            let killing = format!(", killing the other branches of {and}");
+            assert!(words.ends_with(&killing), "{words}, {said}");
+            kills += 1;
+        }
+        let sheet = draw::net_sheet(plant, &net);
+        let frames = sheet.groups.iter().flat_map(|group| &group.frames);
+        let red = frames.filter(|frame| frame.outline == Outline::KillTag);
+        assert_eq!(red.count(), kills, "{said}");
+        told += kills;
+    }
+    assert!(told > 100, "{told} told");
 }
 
 /// Other programs know places and transitions by their names: each is said once.

@@ -1,9 +1,12 @@
 //! Games of both bus ends: lessons with their stored output, random games, the terminal on piped input, scripts that are wrong.
 
 use effbd::{Move, STEP, WAIT};
-use model::generate::{crowded_diagram, diagram, lasting_trigger_diagram, Random};
+use model::generate::{crowded_diagram, diagram, killing_diagram, lasting_trigger_diagram, Random};
 use rink::plant::{Count, Function, Item, Part, Plant, Row, Use};
-use rink::play::{parse, screen, scripted, terminal, Command, Game, Outcome, Then, Which};
+use rink::play::{
+    parse, screen, scripted, terminal, Activity, Command, Game, Outcome, Then, Which,
+};
+use rink::structure;
 
 const STATION: u16 = 7;
 /// Characters of a line, at most.
@@ -78,15 +81,15 @@ fn feeding() -> Game {
         &[("oil", 1), ("brine", 65_535)],
         vec![
             row(Part::And, "start-up"),
-            row(Part::Branch, ""),
+            row(Part::Branch { kills: false }, ""),
             function("fill", 2, 5, &[(0, 1, 0)]),
-            row(Part::Branch, ""),
+            row(Part::Branch { kills: false }, ""),
             function("pump", 10, 20, &[]),
             row(Part::EndAnd, ""),
             row(Part::Or, "choose"),
-            row(Part::Branch, "by-air"),
+            row(Part::Branch { kills: false }, "by-air"),
             function("fan", 0, 0, &[(0, 2, 0)]),
-            row(Part::Branch, "by-brine"),
+            row(Part::Branch { kills: false }, "by-brine"),
             function("feed", 1, 3, &[(1, 0, 1)]),
             row(Part::EndOr, ""),
             row(Part::End, ""),
@@ -149,15 +152,61 @@ fn every_refusal_of_play() {
     }
 }
 
+/// The game of a text's plant.
+fn of_text(text: &str) -> Game {
+    let (file, plant) = rink::text::make(text).expect("an accepted text");
+    Game::new(plant, file, STATION).expect("an accepted text")
+}
+
 /// The shipped plant with a trigger, by its names.
 #[test]
 fn an_order_to_everyone() {
-    let text = include_str!("../../examples/door-open.plant");
-    let (file, plant) = rink::text::make(text).expect("an accepted example");
-    let game = Game::new(plant, file, STATION).expect("an accepted example");
+    let game = of_text(include_str!("../../examples/door-open.plant"));
     let script = include_str!("games/door.script");
     let stored = include_str!("games/door.txt");
     plays_as_stored(game, script, "door.txt", stored);
+}
+
+/// The shipped plant with a branch that kills, by its names.
+#[test]
+fn a_pressure_trip() {
+    let game = of_text(include_str!("../../examples/pressure-trip.plant"));
+    let script = include_str!("games/trip.script");
+    let stored = include_str!("games/trip.txt");
+    plays_as_stored(game, script, "trip.txt", stored);
+}
+
+/// What a kill clears is told, whatever row ends the branch: an IT that has made its turns, an LE, a close; and when nothing was left.
+#[test]
+fn kills_in_words() {
+    let pump = "branch\nfunction pump 5..9\n";
+    let after = |last: &str, script: &str| {
+        let text = format!("and plant\n{pump}killing branch trip\n{last}end and\nend\n");
+        let script = format!("auto on\nstep plant\n{script}\nexpect done trip\nexpect agree\n");
+        let printed = scripted(of_text(&text), &script);
+        let printed = printed.unwrap_or_else(|fault| panic!("{fault}\n{}", fault.output));
+        printed.replace("\n    ", " ")
+    };
+    let kills = "kills the other branches of and plant (row 0); cleared: ";
+    let turns = "repeat 2 turns\nend repeat\n";
+    let printed = after(turns, "step turns\nstep 5\nstep turns\nstep 5\nstep turns");
+    let words =
+        format!("all 2 turns are made; {kills}pump (row 2) ready; done now: branch (row 1)");
+    assert!(printed.contains(&words), "{printed}");
+    assert!(printed.contains("fires, turns: turns done, killing the other branches of plant"));
+    let left =
+        "loop\nand guard\nbranch\nexit loop\nbranch\nfunction watch 1..2\nend and\nend loop\n";
+    let printed = after(left, "step pump\nstep 4\nstep guard\nstep watch\nstep 7");
+    let words = format!(
+        "leaves its loop, all of which goes idle; {kills}pump (row 2) running 0.0 s of 0.5 to 0.9 s; done now: "
+    );
+    assert!(printed.contains(&words), "{printed}");
+    assert!(printed.contains("loop left, killing the other branches of plant"));
+    let joined = "and inner\nbranch\nfunction watch 7..9\nbranch\nend and\n";
+    let script = "step inner\nstep pump\nstep watch\nwait 7\nstep pump\nstep watch\nstep 8";
+    let printed = after(joined, script);
+    let words = format!("its branches join; {kills}nothing; done now: killing branch trip (row 3)");
+    assert!(printed.contains(&words), "{printed}");
 }
 
 /// What a give reaches, and the copy that is full, are told by the names of the copies.
@@ -361,6 +410,7 @@ fn random_games() {
         let file = match (seed % 80, seed % 8) {
             (0, _) => crowded_diagram(&mut random),
             (_, 0..=2) => lasting_trigger_diagram(&mut random, 24),
+            (_, 3..=4) => killing_diagram(&mut random),
             _ => diagram(&mut random),
         };
         let mut case = Case {
@@ -404,6 +454,40 @@ fn random_games() {
     }
     assert!(moves > 4_000, "random games that hardly move: {moves}");
     assert!(of_copies > 1_000, "and hardly with copies: {of_copies}");
+}
+
+/// Moves of the list alone, on plants with branches that kill: every kill is told, and the ends agree behind it.
+#[test]
+fn random_kills() {
+    let mut kills = 0;
+    for seed in 0..200 {
+        let mut random = Random::new(seed);
+        let file = killing_diagram(&mut random);
+        let plant = Plant::read(&file).expect("an accepted file");
+        let killers = structure::killers(&plant);
+        let mut game = Game::new(plant, file.clone(), STATION).expect("an accepted file");
+        game.act(&Command::Auto(true)).expect("no expectation");
+        for _ in 0..60 {
+            let done = |game: &Game| {
+                let state = game.diagram_state();
+                let mut branches = killers.iter().map(|killer| killer.branch);
+                branches.any(|row| state.activity(row) == Activity::Done)
+            };
+            let (before, choices) = (done(&game), game.choices().len());
+            let pick = Command::Pick(1 + random.below(choices.max(1)));
+            let report = game.act(&pick).expect("no expectation");
+            let told = report.lines[0].contains("; kills the other branches of ");
+            assert!(!told || done(&game), "seed {seed}, {:?}", report.lines);
+            assert!(
+                told || before || !done(&game),
+                "seed {seed}, {:?}",
+                report.lines
+            );
+            agrees_as_the_model_says(&game, &file);
+            kills += usize::from(told);
+        }
+    }
+    assert!(kills > 50, "games that hardly kill: {kills}");
 }
 
 /// What the terminal prints for this input.
@@ -661,7 +745,8 @@ fn a_fault_keeps_what_was_printed() {
 fn a_close_names_its_own_branches() {
     let part = |part| row(part, "");
     let and = || {
-        let parts = [Part::And, Part::Branch, Part::Branch, Part::EndAnd];
+        let branch = || Part::Branch { kills: false };
+        let parts = [Part::And, branch(), branch(), Part::EndAnd];
         parts.into_iter().map(part)
     };
     let rows = and().chain(and()).chain([part(Part::End)]);

@@ -1,10 +1,11 @@
 //! Texts and diagram files: what `show` writes `make` gives back, and every wrong text is told where and why.
 
 use model::generate::{
-    crowded_diagram, damaged_diagram, diagram, diagram_up_to, lasting_diagram,
+    crowded_diagram, damaged_diagram, diagram, diagram_up_to, killing_diagram, lasting_diagram,
     lasting_trigger_diagram, Random,
 };
-use rink::plant::{Plant, Row};
+use rink::plant::{Part, Plant, Row};
+use rink::structure::killers;
 use rink::text::{self, Fault, Place, Style};
 
 const ROUND_TRIPS: usize = 10_000;
@@ -17,7 +18,8 @@ fn accepted_file(random: &mut Random) -> Vec<u8> {
             1..=9 => lasting_diagram(random, 64),
             10..=19 => lasting_trigger_diagram(random, 64),
             20..=29 => diagram_up_to(random, 64),
-            30..=39 => damaged_diagram(random),
+            30..=34 => damaged_diagram(random),
+            35..=39 => killing_diagram(random),
             _ => diagram(random),
         };
         if effbd::read_diagram(&file).is_ok() {
@@ -43,7 +45,7 @@ fn renamed(mut plant: Plant, random: &mut Random) -> Plant {
     for Row { part, name } in &mut plant.rows {
         if name.is_some() {
             *name = Some(random_name(random).unwrap_or("take".to_string()));
-        } else if part.opens() || *part == rink::plant::Part::Branch {
+        } else if part.opens() || part.is_branch() {
             *name = random_name(random);
         }
     }
@@ -53,12 +55,13 @@ fn renamed(mut plant: Plant, random: &mut Random) -> Plant {
 /// `make` after `show` gives the same bytes, with made-up names and with any others, and the same names.
 #[test]
 fn shown_and_made_again() {
-    let mut with_triggers = 0;
+    let (mut with_triggers, mut with_killers) = (0, 0);
     for seed in 0..ROUND_TRIPS as u64 {
         let random = &mut Random::new(seed);
         let file = accepted_file(random);
         let plant = Plant::read(&file).expect("accepted");
         with_triggers += plant.triggers().count().min(1);
+        with_killers += killers(&plant).len().min(1);
         let named = renamed(plant.clone(), random);
         for plant in [plant, named] {
             let style = Style {
@@ -77,6 +80,10 @@ fn shown_and_made_again() {
     assert!(
         with_triggers > ROUND_TRIPS / 5,
         "{with_triggers} with triggers"
+    );
+    assert!(
+        with_killers > ROUND_TRIPS / 10,
+        "{with_killers} with branches that kill"
     );
 }
 
@@ -118,7 +125,7 @@ fn refused_files_are_not_shown() {
 /// Any bytes are made or told where they are wrong, inside the text or right behind it.
 #[test]
 fn any_text_is_answered() {
-    const WORDS: [&str; 26] = [
+    const WORDS: [&str; 27] = [
         "plant",
         "item",
         "trigger",
@@ -126,6 +133,7 @@ fn any_text_is_answered() {
         "and",
         "or",
         "branch",
+        "killing",
         "repeat",
         "loop",
         "exit",
@@ -290,8 +298,21 @@ fn wrong_words() {
         "take oil stands twice",
     );
     wrong("repeat\nend repeat\nend\n", 1, 7, "missing: how often");
-    wrong("exit\nend\n", 1, 5, "missing: what is left");
+    wrong("exit\nend\n", 1, 5, "missing: what is left: `exit loop`");
     wrong("exit and\nend\n", 1, 6, "only `exit loop`");
+    wrong(
+        "killing\nend\n",
+        1,
+        8,
+        "missing: what kills: `killing branch`",
+    );
+    wrong(
+        "killing or\nend\n",
+        1,
+        9,
+        "`killing or`: only `killing branch`",
+    );
+    wrong("killing branch a b\nend\n", 1, 18, "`b` is too much");
     wrong("end if\n", 1, 5, "`end if`");
     wrong("end loop now\n", 1, 10, "`now` is too much");
     wrong("fun\u{1}ction\n", 1, 4, "control character");
@@ -360,6 +381,73 @@ fn refused_texts() {
     );
     let loops = format!("{}{}end\n", "loop\n".repeat(13), "end loop\n".repeat(13));
     wrong(&loops, 13, 1, "13th construct");
+}
+
+/// A branch that kills has something in it, and belongs to an AND.
+#[test]
+fn refused_killers() {
+    let empty = "nothing stands in this `killing branch`, so nothing could end and kill: put the function that trips behind it, or write `branch` (refusal 44, ";
+    for (text, line) in [
+        ("and\nkilling branch\nbranch\nend and\nend\n", 2),
+        ("and\nbranch\nkilling branch\nend and\nend\n", 3),
+        (
+            "and\nkilling branch\nkilling branch trip\nend and\nend\n",
+            2,
+        ),
+        // Whatever comes later, and before an LE that is misplaced.
+        ("and\nkilling branch\nbranch\nend or\n", 2),
+        ("and\nkilling branch\nend and\nend\n", 2),
+        ("and\nkilling branch\nbranch\nexit loop\nend and\nend\n", 2),
+    ] {
+        wrong(text, line, 1, empty);
+    }
+    let in_or = "a `killing branch` belongs to an `and`, and the innermost open construct is the `or` of line 1: one branch of it runs alone and has no others to kill, write `branch` (refusal 7, ";
+    wrong("or\nkilling branch\nbranch\nend or\nend\n", 2, 1, in_or);
+    wrong("or\nbranch\nkilling branch\nend or\nend\n", 3, 1, in_or);
+    wrong(
+        "loop\nkilling branch\nend loop\nend\n",
+        2,
+        1,
+        "a `killing branch` belongs to an `and`, and the innermost open construct is the `loop` of line 1 (refusal 7, ",
+    );
+    wrong(
+        "killing branch\nend\n",
+        1,
+        1,
+        "belongs to an `and`, and nothing is open here (refusal 7, ",
+    );
+    let last = "and\nbranch\nkilling branch\n";
+    wrong(
+        last,
+        3,
+        1,
+        "the last row is `killing branch`: it has to be `end`",
+    );
+    wrong(
+        "and\nbranch\n",
+        2,
+        1,
+        "the last row is `branch`: it has to be `end`",
+    );
+    wrong(
+        "and\nkilling branch\nfunction f 1..2\nend and\nend\n",
+        4,
+        1,
+        "after one branch",
+    );
+}
+
+/// A branch that kills and one that is called so.
+#[test]
+fn shown_killers() {
+    let text = "and\n  branch killing\n  killing branch\n    function f 1..2\n  killing branch branch\n    function g 1..2\nend and\nend\n";
+    let (file, plant) = text::make(text).expect("made");
+    assert_eq!(text::show(&plant, Style::default()), text);
+    assert_eq!(file[14..22], [4, 0, 18, 0, 4, 0, 28, 0]);
+    let kills = |row: usize| plant.rows[row].part == Part::Branch { kills: true };
+    assert_eq!([1, 2, 4].map(kills), [false, true, true]);
+    assert_eq!(plant.rows[1].name.as_deref(), Some("killing"));
+    assert_eq!(plant.rows[4].name.as_deref(), Some("branch"));
 }
 
 /// A trigger's take and give are 1 at most; the line and the use are told, behind whatever else is wrong with the record.

@@ -101,6 +101,10 @@ fn notes(plant: &Plant) -> Vec<String> {
             "AND: all branches run, side by side; behind it the flow goes on when all are done.",
         ),
         (
+            has(|part| *part == Part::Branch { kills: true }),
+            "KILL, and the red tag: a branch that kills. When the flow gets to KILL, the other branches of this AND end too, wherever they are.",
+        ),
+        (
             has(|part| *part == Part::Or),
             "OR: one of the branches is chosen.",
         ),
@@ -143,19 +147,25 @@ impl Cells for Blocks<'_> {
                 }
             }
             Part::End => self.end_mark(row),
-            Part::Branch => return None,
+            Part::Branch { .. } => return None,
         })
     }
 
     fn start(&self, row: usize) -> Option<Cell> {
         let mut words = vec![row_words(row)];
         words.extend(self.name(row));
-        let tag = Frame::around(Outline::Tag, words, 6, 2);
-        Some(passed(row, tag))
+        let outline = match self.plant.rows[row].part {
+            Part::Branch { kills: true } => Outline::KillTag,
+            _ => Outline::Tag,
+        };
+        Some(passed(row, Frame::around(outline, words, 6, 2)))
     }
 
-    fn end(&self, _: usize) -> Option<Cell> {
-        None
+    /// A killing branch whose end can come has a sign there.
+    fn end(&self, row: usize) -> Option<Cell> {
+        let mut killers = structure::killers(self.plant).into_iter();
+        let killer = killers.find(|killer| killer.branch == row)?;
+        killer.can_kill(self.plant).then(|| kill(row))
     }
 }
 
@@ -163,9 +173,20 @@ fn row_words(row: usize) -> Words {
     Words::plain(format!("row {row}"), 10)
 }
 
-/// A cell of one box that the flow passes.
+/// A row's cell of one box that the flow passes.
 fn passed(row: usize, frame: Frame) -> Cell {
-    let node = Node::Row(row);
+    boxed(Node::Row(row), ("data-row", row), frame)
+}
+
+/// Where the flow of a killing branch ends the others.
+fn kill(row: usize) -> Cell {
+    let label = vec![Words::bold("KILL", 12)];
+    let sign = Frame::sign(Outline::Kill, CIRCLE, CIRCLE, label);
+    boxed(Node::Kill(row), ("data-kill", row), sign)
+}
+
+/// A cell of one box that the flow passes, with the attribute that says whose it is.
+fn boxed(node: Node, (attribute, row): (&'static str, usize), frame: Frame) -> Cell {
     let axis = frame.level();
     Cell {
         width: frame.right(),
@@ -179,7 +200,7 @@ fn passed(row: usize, frame: Frame) -> Cell {
             node,
             at: (frame.right(), axis),
         }),
-        groups: vec![Group::new("data-row", row, vec![frame])],
+        groups: vec![Group::new(attribute, row, vec![frame])],
         ..Cell::default()
     }
 }

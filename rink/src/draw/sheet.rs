@@ -12,6 +12,8 @@ pub enum Node {
     Row(usize),
     /// The flow behind the loop that this row closes.
     Behind(usize),
+    /// The end of the killing branch that this row begins.
+    Kill(usize),
     /// An item at the row that uses it.
     Item {
         row: usize,
@@ -38,6 +40,10 @@ pub enum Outline {
     Circle,
     /// With rounded corners.
     Tag,
+    /// As a tag, of what kills.
+    KillTag,
+    /// With eight corners: the end of a branch that kills.
+    Kill,
     /// Rounded all the way, as items are.
     Pill,
     /// Pointed at the right, as triggers are.

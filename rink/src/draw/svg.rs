@@ -7,8 +7,8 @@ use std::fmt::Write;
 
 const FONTS: &str = "DejaVu Sans, Helvetica, Arial, sans-serif";
 const INK: &str = "#111";
-/// Of lines that leave a loop.
-const EXIT_INK: &str = "#b00020";
+/// Of what ends more than itself: lines that leave a loop, branches that kill.
+const RED: &str = "#b00020";
 /// Length of a flag's point.
 const FLAG_POINT: i32 = 9;
 /// How far a corner is rounded.
@@ -60,8 +60,8 @@ fn arc_attributes(line: &Line) -> String {
 fn line_svg(line: &Line) -> String {
     let (ink, look) = match line.style {
         Style::Flow => (INK, "stroke-width=\"1.5\""),
-        Style::Dashed => (EXIT_INK, "stroke-width=\"1.5\" stroke-dasharray=\"6 4\""),
-        Style::Exit => (EXIT_INK, "stroke-width=\"1.3\""),
+        Style::Dashed => (RED, "stroke-width=\"1.5\" stroke-dasharray=\"6 4\""),
+        Style::Exit => (RED, "stroke-width=\"1.3\""),
         Style::Use => (INK, "stroke-width=\"1\""),
     };
     let attributes = arc_attributes(line);
@@ -150,9 +150,10 @@ fn frame_svg(frame: &Frame) -> String {
         height,
         ..
     } = frame;
-    let rounded = |radius: i32, look: &str| {
-        format!("<rect x=\"{x}\" y=\"{y}\" width=\"{width}\" height=\"{height}\" rx=\"{radius}\" stroke=\"{INK}\" {look}/>")
+    let rounded_in = |ink: &str, radius: i32, look: &str| {
+        format!("<rect x=\"{x}\" y=\"{y}\" width=\"{width}\" height=\"{height}\" rx=\"{radius}\" stroke=\"{ink}\" {look}/>")
     };
+    let rounded = |radius: i32, look: &str| rounded_in(INK, radius, look);
     let circle = |look: &str| {
         let (cx, cy, r) = (frame.middle(), frame.level(), width / 2);
         format!("<circle cx=\"{cx}\" cy=\"{cy}\" r=\"{r}\" {look}/>")
@@ -163,6 +164,8 @@ fn frame_svg(frame: &Frame) -> String {
         Outline::Block => rounded(0, "stroke-width=\"2\" fill=\"#fff\""),
         Outline::Circle => circle(&line),
         Outline::Tag => rounded(3, "stroke-width=\"1\" fill=\"#f2f2f2\""),
+        Outline::KillTag => rounded_in(RED, 3, "stroke-width=\"2.5\" fill=\"#fff\""),
+        Outline::Kill => octagon_svg(frame),
         Outline::Pill => rounded(height / 2, "stroke-width=\"1\" fill=\"#f2f2f2\""),
         Outline::Flag => flag_svg(frame),
         Outline::Copy => rounded(
@@ -182,6 +185,17 @@ fn flag_svg(frame: &Frame) -> String {
     let (right, point) = (frame.right() - FLAG_POINT, frame.right());
     format!(
         "<path d=\"M{left} {top}L{right} {top}L{point} {level}L{right} {bottom}L{left} {bottom}z\" stroke=\"{INK}\" stroke-width=\"1\" fill=\"#f2f2f2\"/>"
+    )
+}
+
+/// The sign that says stop on every road.
+fn octagon_svg(frame: &Frame) -> String {
+    let (left, top, right, bottom) = (frame.x, frame.y, frame.right(), frame.bottom());
+    // A side of a regular one is about 0.41 of its width.
+    let cut = frame.width * 29 / 100;
+    let (west, east, north, south) = (left + cut, right - cut, top + cut, bottom - cut);
+    format!(
+        "<path d=\"M{west} {top}L{east} {top}L{right} {north}L{right} {south}L{east} {bottom}L{west} {bottom}L{left} {south}L{left} {north}z\" stroke=\"{RED}\" stroke-width=\"2.5\" fill=\"#fff\"/>"
     )
 }
 

@@ -3,8 +3,8 @@
 use super::lines::{capitalised, shortened, table, Entry, COLUMNS};
 use super::states::Activity;
 use super::words::{
-    activity_words, clock_words, few_copies, is_branch, move_words, number_of, seconds,
-    title_words, MOST_COPIES,
+    activity_words, clock_words, few_copies, move_words, number_of, seconds, title_words,
+    MOST_COPIES,
 };
 use super::{step, Game, UnderWay};
 use crate::net::{home, place_words, transition_words, Home};
@@ -139,7 +139,7 @@ fn shown_rows(game: &Game, everything: bool) -> Vec<(usize, usize)> {
         shown[row] = true;
         let telling = |outer: &usize| {
             let outer = &plant.rows[*outer];
-            !is_branch(&outer.part) || outer.name.is_some()
+            !outer.part.is_branch() || outer.name.is_some()
         };
         for outer in around[row].iter().copied().filter(telling) {
             shown[outer] = true;
@@ -156,18 +156,18 @@ fn around(plant: &Plant) -> Vec<Vec<usize>> {
     let mut around = Vec::new();
     let in_branch = |open: &[usize]| {
         let last = open.last();
-        last.is_some_and(|&row| is_branch(&plant.rows[row].part))
+        last.is_some_and(|&row| plant.rows[row].part.is_branch())
     };
     for (row, found) in plant.rows.iter().enumerate() {
         let part = &found.part;
-        if (part.closes() || is_branch(part)) && in_branch(&open) {
+        if (part.closes() || part.is_branch()) && in_branch(&open) {
             open.pop();
         }
         if part.closes() {
             open.pop();
         }
         around.push(open.clone());
-        if part.opens() || is_branch(part) {
+        if part.opens() || part.is_branch() {
             open.push(row);
         }
     }

@@ -1,7 +1,7 @@
 //! Both ends in a line each, as lessons print them.
 
 use super::screen::{shown_places, transition_clock};
-use super::words::{activity_words, few_copies, number_of, row_words, seconds};
+use super::words::{busy_words, few_copies, number_of, seconds};
 use super::Game;
 use crate::net::{home, place_words, Home};
 use crate::plant::Count;
@@ -42,10 +42,7 @@ pub fn bus_short(game: &Game) -> String {
 fn panel_short(game: &Game) -> String {
     let (plant, state) = (&game.plant, game.diagram_state());
     let busy = (0..plant.rows.len()).filter(|&row| state.busy(row));
-    let rows = busy.map(|row| {
-        let words = activity_words(plant, state, row);
-        format!("{} {words}", row_words(plant, row))
-    });
+    let rows = busy.map(|row| busy_words(plant, state, row));
     let counts = state.counts().filter(|(_, value)| *value > 0);
     let (counts, more) = few_copies(counts.collect(), |(count, _)| count.is_copy());
     short_line(game, rows.collect(), counts, more)

@@ -3,7 +3,7 @@
 use super::states::{Activity, DiagramState};
 use super::Game;
 use crate::plant::{Count, Part, Plant};
-use crate::structure::owners;
+use crate::structure::{branch_rows, branches, killers, owners};
 use crate::times;
 use effbd::{refusal, Move, Refusal};
 
@@ -62,8 +62,12 @@ pub fn row_words(plant: &Plant, row: usize) -> String {
 
 /// These rows, at most four of them by name.
 pub fn rows_words(plant: &Plant, rows: &[usize]) -> String {
-    let shown = rows.iter().take(4).map(|&row| row_words(plant, row));
-    let mut words: Vec<String> = shown.collect();
+    few_rows(rows, |row| row_words(plant, row))
+}
+
+/// What is said of these rows, of at most four of them.
+fn few_rows(rows: &[usize], said: impl Fn(usize) -> String) -> String {
+    let mut words: Vec<String> = rows.iter().take(4).map(|&row| said(row)).collect();
     if rows.len() > words.len() {
         words.push(format!("{} more", rows.len() - words.len()));
     }
@@ -113,13 +117,21 @@ pub fn activity_words(plant: &Plant, state: DiagramState, row: usize) -> String 
     }
 }
 
-/// What a step does to the panel's state: to its row, to the rows that it makes ready or done, to the items. A wait only lets time pass.
+/// A row with its number, and what it does now: `pump-down (row 0) ready`.
+pub fn busy_words(plant: &Plant, state: DiagramState, row: usize) -> String {
+    let words = activity_words(plant, state, row);
+    format!("{} {words}", row_words(plant, row))
+}
+
+/// What a step does to the panel's state: to its row, to those that it kills or makes ready or done, to the items. A wait only lets time pass.
 pub fn effect_words(game: &Game, made: Move, before: &[u16], after: &[u16]) -> Option<String> {
     let Move::Step(row) = made else {
         return None;
     };
     let (plant, before, after) = (&game.plant, game.reading(before), game.reading(after));
-    let mut words = vec![step_words(plant, usize::from(row), before, after)];
+    let row = usize::from(row);
+    let mut words = vec![step_words(plant, row, before, after)];
+    words.extend(kill_words(plant, row, before, after));
     let mut ready = became(before, after, Activity::Ready);
     let end = ready.pop_if(|row| plant.rows[*row].part == Part::End);
     for (rows, said) in [
@@ -142,6 +154,28 @@ fn became(before: DiagramState, after: DiagramState, activity: Activity) -> Vec<
         .collect()
 }
 
+/// What a step killed, if a killing branch is done now: the other branches of its AND, with what stood in them.
+fn kill_words(
+    plant: &Plant,
+    stepped: usize,
+    before: DiagramState,
+    after: DiagramState,
+) -> Option<String> {
+    let done = became(before, after, Activity::Done);
+    let mut killers = killers(plant).into_iter();
+    let and = killers.find(|killer| done.contains(&killer.branch))?.and;
+    let branches = branches(plant, and).into_iter();
+    let branches = branches.map(|branch| branch_rows(plant, branch));
+    let others = branches.filter(|rows| !rows.contains(&stepped));
+    let cleared = others.flatten().filter(|row| before.busy(*row));
+    let cleared: Vec<usize> = cleared.collect();
+    let cleared = few_rows(&cleared, |row| busy_words(plant, before, row));
+    let and = row_words(plant, and);
+    Some(format!(
+        "kills the other branches of {and}; cleared: {cleared}"
+    ))
+}
+
 /// What a step does to its own row.
 fn step_words(plant: &Plant, row: usize, before: DiagramState, after: DiagramState) -> String {
     let turns = after.turns(row);
@@ -150,7 +184,7 @@ fn step_words(plant: &Plant, row: usize, before: DiagramState, after: DiagramSta
         Part::Function(_) => "ends".to_string(),
         Part::And => "its branches begin".to_string(),
         Part::EndAnd => "its branches join".to_string(),
-        Part::Branch => "chosen".to_string(),
+        Part::Branch { .. } => "chosen".to_string(),
         Part::Repeat { count } if turns > before.turns(row) => {
             format!("turn {turns} of {count} begins")
         }
@@ -244,28 +278,22 @@ fn not_standing(game: &Game, row: usize) -> String {
             format!("{name} is not stepped itself: one of its branches is chosen: {branches}")
         }
         Part::EndAnd => format!("{name} waits for its branches: {}", undone(game, row)),
-        branch if is_branch(branch) => match owner {
+        Part::Branch { kills } => match owner {
             Some(open) if plant.rows[open].part == Part::Or => {
                 let open = row_words(plant, open);
                 format!("{name} cannot be chosen: {open} is not ready")
             }
-            _ => format!("{name} is never stepped: its and begins it, its last row ends it"),
+            _ => {
+                let others = if *kills {
+                    " and the other branches"
+                } else {
+                    ""
+                };
+                format!("{name} is never stepped: its and begins it, its last row ends it{others}")
+            }
         },
         _ => format!("{name} is idle: it is not its turn"),
     }
-}
-
-/// Whether a row begins a branch.
-pub fn is_branch(part: &Part) -> bool {
-    matches!(part, Part::Branch)
-}
-
-/// The BRANCH rows of a construct.
-fn branches(plant: &Plant, open: usize) -> Vec<usize> {
-    let owners = owners(plant).into_iter().enumerate();
-    let own =
-        owners.filter(|&(row, owner)| owner == Some(open) && is_branch(&plant.rows[row].part));
-    own.map(|(row, _)| row).collect()
 }
 
 /// The branches of the AND with this close that are not done.

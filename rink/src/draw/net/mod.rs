@@ -12,7 +12,7 @@ use super::page::Page;
 use super::sheet::{Frame, Group, Line, Node, Outline, Sheet};
 use super::text::Words;
 use super::tree;
-use crate::net::{homes, place_words, Arc, Home, Net};
+use crate::net::{homes, killed, place_words, Arc, Home, Net};
 use crate::plant::{Count, Part, Plant};
 use crate::structure;
 use signs::{side_by_side, Column, BAR, PLACE};
@@ -58,6 +58,12 @@ fn notes(plant: &Plant, net: &Net) -> Vec<String> {
         notes.push(format!(
             "{name}@ and a row: the copy of trigger {name} that the row takes from. {name}@*: all its copies, with an arc to each."
         ));
+    }
+    if (0..net.transitions.len()).any(|number| killed(plant, net, number).is_some()) {
+        notes.push(
+            "Red clears: a transition that kills. It clears all places inside its AND, gives each IT there its turns back, and marks all branches as done."
+                .to_string(),
+        );
     }
     notes
 }

@@ -4,7 +4,7 @@ use super::{Bundle, Marked};
 use crate::draw::cell::{Cell, Port};
 use crate::draw::sheet::{Frame, Group, Line, Node, Outline, Point, Style};
 use crate::draw::text::{wrapped, Words};
-use crate::net::{place_range, place_words, transition_words, Home};
+use crate::net::{killed, place_range, place_words, transition_words, Home};
 
 pub const PLACE: i32 = 32;
 pub const BAR: (i32, i32) = (10, 40);
@@ -147,10 +147,14 @@ impl Marked<'_> {
     }
 
     fn clears(&self, number: usize) -> impl Iterator<Item = Frame> + '_ {
+        let outline = match killed(self.plant, self.net, number) {
+            Some(_) => Outline::KillTag,
+            None => Outline::Tag,
+        };
         let clears = self.net.transitions[number].clears.iter();
-        clears.map(|(first, last)| {
+        clears.map(move |(first, last)| {
             let words = Words::plain(format!("clears {first}..{last}"), 10);
-            Frame::around(Outline::Tag, vec![words], 6, 2)
+            Frame::around(outline, vec![words], 6, 2)
         })
     }
 
