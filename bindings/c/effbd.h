@@ -13,9 +13,10 @@
  *     uint64_t answer = effbd_step(file, file_count, state, state_count, EFFBD_WAIT, 20);
  *     if (effbd_number(answer) == EFFBD_WAIT_HELD) { .. a step is due before time may pass .. }
  *
- * Order of refusals. A file is looked at first (1 to 9; 43 right after 5 at the same record, 44 between 7 and 8 at the same row), then the
- * number of words of a state (20), its words (20), the move (21 to 26), the leader's count (27), the area (10). The follower looks at the
- * telegram (30 to 33) before all of these. Of a log, after the file: its length (40), the row (41), its moves (42).
+ * Order of refusals. A file is looked at first (1 to 9; 43 right after 5 at the same record, 44 between 7 and 8 at the same row; 45 where no
+ * row is refused), then the number of words of a state (20), its words (20), the move (21 to 26), the leader's count (27), the area (10).
+ * The follower looks at the telegram (30 to 33) before all of these. Of a log, after the file: its length (40), the row (41), its moves
+ * (42).
  */
 #ifndef EFFBD_H
 #define EFFBD_H
@@ -75,6 +76,7 @@ enum effbd_refusal {
     EFFBD_MOVE_REFUSED = 42,
     EFFBD_TRIGGER_OFF = 43,
     EFFBD_KILLING_BRANCH_EMPTY = 44,
+    EFFBD_LOOP_SPENDS_NO_TIME = 45,
 };
 
 /* Number (EFFBD_ACCEPTED or a refusal) and value of an answer. */
@@ -174,6 +176,7 @@ static inline const char *effbd_words(uint32_t number) {
     case EFFBD_MOVE_REFUSED: return "a move of the log refused";
     case EFFBD_TRIGGER_OFF: return "trigger's take or give above 1";
     case EFFBD_KILLING_BRANCH_EMPTY: return "killing branch empty";
+    case EFFBD_LOOP_SPENDS_NO_TIME: return "loop spends no time";
     default: return "no number of the table";
     }
 }

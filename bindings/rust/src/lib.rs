@@ -4,9 +4,9 @@
 //! the table of documents 01 and 02. A refusal alters nothing that was lent. What each call promises is proved in the Rattle crate that has it
 //! (`crates/*/src`); this file only passes lists on as pointer and number of elements.
 //!
-//! A file is looked at first (refusals 1 to 9; 43 right after 5 at the same record, 44 between 7 and 8 at the same row), then a state (20), the
-//! move (21 to 26), the leader's count (27), the area (10). The follower looks at the telegram (30 to 33) before all of these. Of a log, after
-//! the file: its length (40), the row (41), its moves (42).
+//! A file is looked at first (refusals 1 to 9; 43 right after 5 at the same record, 44 between 7 and 8 at the same row; 45 where no row is
+//! refused), then a state (20), the move (21 to 26), the leader's count (27), the area (10). The follower looks at the telegram (30 to 33)
+//! before all of these. Of a log, after the file: its length (40), the row (41), its moves (42).
 //!
 //! Example A of document 01, one move over the bus:
 //!
@@ -184,6 +184,7 @@ refusals! {
     42 MOVE_REFUSED "a move of the log refused"
     43 TRIGGER_OFF "trigger's take or give above 1"
     44 KILLING_BRANCH_EMPTY "killing branch empty"
+    45 LOOP_SPENDS_NO_TIME "loop spends no time"
 }
 
 impl fmt::Display for Refusal {

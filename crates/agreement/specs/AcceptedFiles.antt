@@ -7,18 +7,19 @@ use mathlib.Core.List.{List, [], _∷_}
 use native.Mathlib.Omega.{arith}
 use lib.ListN.{length, getD, drop}
 use lib.Dec.{leb, ltb, eqb}
-use borrow.Author.Tests.{ltb-false, leb-true, eqb-true, eqb-false, lt-ltb}
-use Rattle.effbd.specs.Answers.{accepted, refused}
+use borrow.Author.Tests.{leb-true, eqb-false, lt-ltb}
+use Rattle.effbd.specs.Answers.{accepted}
 use Rattle.effbd.specs.Diagrams.{Diagram, Item, Kind, Row, Use, and-close, and-open, branch, end, function, headFault, isKind, it-close, it-open, item, itemAt, itemFault, itemTotal, kind, loop-exit, lp-close, lp-open, noItem, or-close, or-open, plain, row, rowAt, rowCount, rowFault, rowFaultIn, rowFine, rowRight, triggersFine, usesAt}
-use Rattle.effbd.specs.Nesting.{afterItems, afterRows, exitMisplaced, firstFaulty, follows, inAndOr, innermostIs, killerEmpty, nested, nestingBroken, nestingFault, readDiagram, someOpen, stack, standsAs, thirteenthOpen}
+use Rattle.effbd.specs.Nesting.{afterItems, afterRows, exitMisplaced, follows, inAndOr, innermostIs, killerEmpty, loopFault, nested, nestingBroken, nestingFault, readDiagram, someOpen, stack, standsAs, thirteenthOpen, unlessRow}
 use Rattle.effbd.specs.Records.{Got, areBytes, kindAt, lengthAt, lengthOf, readMany, word}
 use Rattle.effbd.specs.Ranges.{allBelow, howMany}
 use Rattle.ranges.specs.Tests.{and-intro, and-left, and-right, clash, decide, not-false, not-true, or-split}
-use Rattle.ranges.specs.RangeLaws.{all-intro, least-found, many-le}
+use Rattle.ranges.specs.RangeLaws.{all-intro, many-le}
 use Rattle.ranges.specs.Outcomes.{else-none}
-use Rattle.agreement.specs.ByteLaws.{Clean, adding-inv, bind-inv, bytes-drop, never, next-inv, none-clean, word-fits}
+use Rattle.agreement.specs.ByteLaws.{Clean, adding-inv, bind-inv, bytes-drop, next-inv, none-clean, word-fits}
 use Rattle.agreement.specs.Nested.{mayStand, wellNested}
 use Rattle.agreement.specs.Basics.{same-eq}
+use Rattle.agreement.specs.RowFaults.{rows-clean}
 
 -- every element of a list
 abbrev pub AllOf : {A : Type 0} → (A → Type 0) → List A → Type 0
@@ -172,19 +173,21 @@ module _ (d : Diagram) where
         (or-split (not (eqb (suc (rowCount d - 1)) (rowCount d))) (isKind d end (rowCount d - 1)) (all (rowCount d - 1) (omega arith) .ends)
         (λ z. absurd (eqb-false (suc (rowCount d - 1)) (rowCount d) (not-true _ z) (omega arith))) (λ z y. y)))
 
-  nest-clean : (e : Diagram) → nested d ≡ accepted e → (d ≡ e) × ((q : ℕ) → q < rowCount d → nestingFault d q ≡ 0)
-  unfolding nested
-  nest-clean e h = go (ltb (firstFaulty d) (rowCount d)) refl h
-    where
-      none : ltb (firstFaulty d) (rowCount d) ≡ false → (q : ℕ) → q < rowCount d → nestingFault d q ≡ 0
-      none f q l = decide (eqb (nestingFault d q) 0) (λ z. eqb-true (nestingFault d q) 0 z)
-          (λ z. let w = least-found (rowCount d) (λ q. not (eqb (nestingFault d q) 0)) q l (rw z) .1 in
-          let y : firstFaulty d ≤ q = unfold firstFaulty in w in
-          let x = ltb-false (firstFaulty d) (rowCount d) f in absurd (omega arith))
+  pub well-nested : ((q : ℕ) → q < rowCount d → nestingFault d q ≡ 0) → 1 ≤ rowCount d → wellNested d ≡ true
+  well-nested fine some = nested-accepted (λ q l. stands q (fine q l)) some
 
-      go : (b : Bool) → ltb (firstFaulty d) (rowCount d) ≡ b → cond b (refused (nestingFault d (firstFaulty d)) (firstFaulty d)) (accepted d) ≡ accepted e → (d ≡ e) × ((q : ℕ) → q < rowCount d → nestingFault d q ≡ 0)
-      go true f z = never z
-      go false f z = (cc, none f)
+  -- the diagram is the one that was judged; no row is at fault in the walk, no LP behind it
+  pub record Clear (e : Diagram) : Type 0 where
+    pub same : d ≡ e
+    pub walk : (q : ℕ) → q < rowCount d → nestingFault d q ≡ 0
+    pub loops : (q : ℕ) → q < rowCount d → loopFault d q ≡ 0
+
+  pub nested-clear : (e : Diagram) → nested d ≡ accepted e → Clear e
+  unfolding nested
+  nested-clear e h =
+      let w = rows-clean d (nestingFault d) (unlessRow d (loopFault d) (accepted d)) e h in
+      let l = rows-clean d (loopFault d) (accepted d) e (w .1) in
+      record { same = (let z : accepted d ≡ accepted e = l .1 in cc); walk = w .0; loops = l .0 }
 
 -- the last of 64 rows is END, so that 63 may be FUNCTIONs
 few-works : (d : Diagram) → wellNested d ≡ true → rowCount d ≤ 64 → howMany (rowCount d) (isKind d function) ≤ 63
@@ -212,7 +215,7 @@ held file d b e =
     whole : (items : List Item) (rows : List Row) → headFault file ≡ 0 → AllOf (λ (x : Item). x .initial ≤ 65535) items → length items ≡ word file 8
         → AllOf (RowOk items) rows → length rows ≡ word file 6 → nested (record { rows = rows; items = items }) ≡ accepted d → Held d
     whole items rows h i m r n e =
-        subst Held (z .0) (record {
+        subst Held (z .same) (record {
           some = rw n (leb-true 1 (word file 6) (and-left (leb 1 (word file 6)) _ f));
           rows = few;
           works = few-works d′ acc few;
@@ -225,8 +228,8 @@ held file d b e =
         d′ : Diagram
         d′ = record { rows = rows; items = items }
 
-        z : (d′ ≡ d) × ((q : ℕ) → q < rowCount d′ → nestingFault d′ q ≡ 0)
-        z = nest-clean d′ d e
+        z : Clear d′ d
+        z = nested-clear d′ d e
 
         c : Clean file (eqb (kindAt file) 1) (eqb (lengthAt file) (lengthOf 1)) (eqb (word file 4) 1 && (leb 1 (word file 6) && (leb (word file 6) 64 && leb (word file 8) 16)))
         c = none-clean file (eqb (kindAt file) 1) (eqb (lengthAt file) (lengthOf 1)) (eqb (word file 4) 1 && (leb 1 (word file 6) && (leb (word file 6) 64 && leb (word file 8) 16))) 3 (unfold headFault in h)
@@ -238,4 +241,4 @@ held file d b e =
         few = rw n (leb-true (word file 6) 64 (and-left (leb (word file 6) 64) _ (and-right (leb 1 (word file 6)) _ f)))
 
         acc : wellNested d′ ≡ true
-        acc = nested-accepted d′ (λ q l. stands d′ q (z .1 q l)) (rw n (leb-true 1 (word file 6) (and-left (leb 1 (word file 6)) _ f)))
+        acc = well-nested d′ (z .walk) (rw n (leb-true 1 (word file 6) (and-left (leb 1 (word file 6)) _ f)))

@@ -20,6 +20,7 @@ pub mod Moves
 pub mod Formed
 pub mod ByteLaws
 pub mod NetFiles
+pub mod RowFaults
 pub mod AcceptedFiles
 pub mod Arcs
 pub mod NetSteps

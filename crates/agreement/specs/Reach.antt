@@ -51,7 +51,7 @@ module _ (d : Diagram) (acc : wellNested d ≡ true) where
   branch-opens b e = let w = in-branch b e in rw (owner-top d acc b w) (w .ok .opener)
 
   -- a close that takes off its construct's frame
-  in-close : (c : ℕ) → isClose d c ≡ true → Top d acc c × (stack d (suc c) ≡ pop (stack d c))
+  pub in-close : (c : ℕ) → isClose d c ≡ true → Top d acc c × (stack d (suc c) ≡ pop (stack d c))
   unfolding stack
   in-close c h = or-split (isKind d and-close c || isKind d or-close c || isKind d it-close c) (isKind d lp-close c) h
       (λ h₁. or-split (isKind d and-close c || isKind d or-close c) (isKind d it-close c) h₁

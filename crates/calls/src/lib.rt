@@ -90,7 +90,7 @@ pub fn make_call(
         let code = words::word(call, 4);
         let argument = words::word(call, 6);
         let start = area_start(call.len());
-        let answer = bus::offer(
+        let answer = bus_leader::offer(
             file,
             leader,
             sent,
@@ -107,7 +107,7 @@ pub fn make_call(
             },
         };
     }
-    let answer = bus::take(net, follower, taken, station, words::tail(call, 4));
+    let answer = bus_follower::take(net, follower, taken, station, words::tail(call, 4));
     CallResult {
         answer: answer,
         counts: Counts {

@@ -18,6 +18,7 @@ use Rattle.effbd.specs.Layout.{byPlace, places, placeOf}
 use Rattle.effbd.specs.States.{stateWords, enteredAs, enteredRow, endsKiller, killed, entered, fresh, freshWords}
 use Rattle.ranges.specs.RangeLaws.{getD-tab}
 use Rattle.ranges.specs.Tests.{decide, clash, and-left, and-right}
+use Rattle.agreement.specs.AcceptedFiles.{nested-clear}
 use Rattle.nesting.specs.Runs.{partOf}
 use Rattle.diagram.specs.FreshWords.{countsPut, freshPut, Freshened}
 use Rattle.diagram_table.specs.Cells.{plainPlaces, sharedIn}
@@ -77,7 +78,7 @@ module _ (d : Diagram) (acc : nested d ≡ accepted d) (some : 0 < rowCount d) w
   first : (enteredRow d 0 ≡ 0) × (isKind d branch 0 ≡ false) × (isKind d and-close 0 ≡ false)
   unfolding enteredRow
   first = first-as (kind d 0) (isKind d and-open (owner d 0))
-      (decide (ending (does d 0)) (λ e. absurd (held d acc 0 some e (unfold stack in refl))) (λ e. e))
+      (decide (ending (does d 0)) (λ e. absurd (held d (nested-clear d d acc .walk) 0 some e (unfold stack in refl))) (λ e. e))
 
   quiet : endsKiller d 0 ≡ false
   unfolding endsKiller

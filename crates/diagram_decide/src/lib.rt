@@ -11,7 +11,7 @@ mod steps;
 pub mod uses;
 mod waits;
 
-// What a move of a state is told, with nothing written: 21 to 26, or accepted. The state is taken as it is: refusal 20 is crate diagram_state's. Of the
+// What a move of a state is told, with nothing written: 21 to 26, or accepted. The state is taken as it is: refusal 20 is crate diagram_check's. Of the
 // table that crate diagram_file makes of an accepted file, and a state that passes, this is document 01's outcome (theorem `made-is` of
 // crate diagram_moves).
 pub fn decide(

@@ -1,4 +1,1 @@
-pub mod Fields
-pub mod RecordsRead
-pub mod Files
 pub mod Promises

@@ -11,16 +11,17 @@ use borrow.Author.Tests.{le-leb}
 use Rattle.effbd.specs.Answers.{Outcome, accepted, refused, unless, andThen, refusalNumber, refusalValue}
 use Rattle.effbd.specs.Records.{word, lengthAt, areBytes}
 use Rattle.effbd.specs.Diagrams.{mostRows, function, end, sameKind, Use, Row, plain, Diagram, rowCount, kind, isKind, usesAt}
-use Rattle.effbd.specs.Nesting.{nested, readDiagram, fromRow, Part, partIn, usesPartOf, usesPart}
+use Rattle.effbd.specs.Nesting.{nestingFault, unlessRow, nested, readDiagram, fromRow, Part, partIn, usesPartOf, usesPart}
 use Rattle.effbd.specs.Counts.{countTotal}
 use Rattle.effbd.specs.Layout.{places}
 use Rattle.effbd.specs.States.{stateLength}
-use Rattle.diagram_file.specs.declared.records.Reached.{Reached}
+use Rattle.diagram_records.specs.declared.Reached.{Reached}
 use Rattle.nesting.specs.declared.Judgement.{Judgement}
 use Rattle.diagram.specs.declared.Diagram.{Diagram as Parse}
 use Rattle.diagram_file.specs.declared.Refusal.{Refusal}
-use Rattle.diagram_file.specs.Reading.{Tabled, Recorded}
+use Rattle.diagram_records.specs.Reading.{Tabled, Recorded}
 use Rattle.nesting.specs.Runs.{Kinds, NestingRead}
+use Rattle.loop_times.specs.Loops.{LoopsRead}
 use Rattle.diagram_structure.specs.Structure.{putStructure, structured, structureFilled}
 use Rattle.diagram_structure.proofs.Filled.{filled-is}
 use Rattle.diagram_file.specs.Tables.{Judged, Filled, Parsed, PartIs}
@@ -28,10 +29,11 @@ use Rattle.diagram_table.specs.declared.Part.{Part as Lies}
 use Rattle.diagram_table.specs.Cells.{cellOf, itemCell, someTriggerCell, cellTotal, someTriggerIn, usesStartIn, usesNumberIn, usesPartIn, usesBytes, usesOf, usesIn}
 use Rattle.diagram_table.specs.Held.{Tabulated, Holds, HoldsUses, HoldsFile}
 use Rattle.ranges.specs.Outcomes.{unless-refused}
-use Rattle.agreement.specs.AcceptedFiles.{held}
+use Rattle.agreement.specs.AcceptedFiles.{held, nested-clear}
+use Rattle.agreement.specs.RowFaults.{rows-clean}
 use Rattle.agreement.specs.Sources.{counts-are, no-copies}
 use Rattle.copies.specs.Promised.{CopyTotal}
-use Rattle.diagram_file.proofs.Files.{two-parts}
+use Rattle.diagram_records.proofs.Files.{two-parts}
 use Rattle.nesting.proofs.Stacks.{owner-low, loop-low, close-low}
 use Rattle.diagram_structure.proofs.Columns.{Sound, sound, close-is}
 
@@ -90,28 +92,46 @@ module _ {file t : List ℕ} (w : Tabled file t) where
   read-nested : readDiagram file ≡ nested dia
   read-nested = two-parts file ∙ ap (λ x. andThen x nested) (w .read)
 
+  judged-fine : readDiagram file ≡ accepted dia → Judged file t (record { number = 0; value = 0 })
+  judged-fine r = record { number = ap refusalNumber (sym r); value = ap refusalValue (sym r); tabled = λ _. w; read = λ _. r }
+
+  -- the walk
   module _ {j : Judgement} {rows : ℕ} (e : rows ≡ word file 6) (n : NestingRead t rows j) where
-    judged : readDiagram file ≡ unless (j .number) (j .row) (accepted dia)
-    judged = read-nested ∙ subst (λ (x : ℕ). NestingRead t x j) e n .judged dia kinds-in
+    walked : (on : Outcome Diagram) → unlessRow dia (nestingFault dia) on ≡ unless (j .number) (j .row) on
+    walked = subst (λ (x : ℕ). NestingRead t x j) e n .judged dia kinds-in
 
     pub refused-nesting : j .number ≢ 0 → Judged file t (record { number = j .number; value = j .row })
-    refused-nesting ne = refused-is (j .number) (j .row) ne (judged ∙ unless-refused (j .number) (j .row) (accepted dia) ne)
+    unfolding nested
+    refused-nesting ne = refused-is (j .number) (j .row) ne (read-nested ∙ (walked _ ∙ unless-refused (j .number) (j .row) _ ne))
 
-    pub judged-fine : j .number ≡ 0 → Judged file t (record { number = 0; value = 0 })
-    judged-fine z =
-        let r : readDiagram file ≡ accepted dia = judged ∙ ap (λ (x : ℕ). unless x (j .row) (accepted dia)) z in
-        record { number = ap refusalNumber (sym r); value = ap refusalValue (sym r); tabled = λ _. w; read = λ _. r }
+    -- and behind it the loops
+    module _ (z : j .number ≡ 0) {i : Judgement} (m : LoopsRead t rows i) where
+      passed : (on : Outcome Diagram) → unlessRow dia (nestingFault dia) on ≡ on
+      passed on = walked on ∙ ap (λ (x : ℕ). unless x (j .row) on) z
+
+      judged : readDiagram file ≡ unless (i .number) (i .row) (accepted dia)
+      unfolding nested
+      judged = read-nested ∙ (passed _ ∙ subst (λ (x : ℕ). LoopsRead t x i) e m .judged dia kinds-in (rows-clean dia (nestingFault dia) (accepted dia) dia (passed _) .0) (accepted dia))
+
+      pub refused-loops : i .number ≢ 0 → Judged file t (record { number = i .number; value = i .row })
+      refused-loops ne = refused-is (i .number) (i .row) ne (judged ∙ unless-refused (i .number) (i .row) (accepted dia) ne)
+
+      pub loops-fine : i .number ≡ 0 → Judged file t (record { number = 0; value = 0 })
+      loops-fine y = judged-fine (judged ∙ ap (λ (x : ℕ). unless x (i .row) (accepted dia)) y)
 
   -- ---- the structure of an accepted file
   module _ (got : readDiagram file ≡ accepted dia) (long : length t ≡ cellTotal) where
     acc : nested dia ≡ accepted dia
     acc = sym read-nested ∙ got
 
+    fine : (q : ℕ) → q < rowCount dia → nestingFault dia q ≡ 0
+    fine = nested-clear dia dia acc .walk
+
     abbrev pass : List ℕ
     pass = structured (word file 6) (word file 6 - 1) (putStructure (word file 6) 0 0 0 0 t)
 
-    found : Sound dia (word file 6) (w .tabulated .rowsAre) acc few-rows t (word file 6 - 1) (word file 6 - 1) pass
-    found = sound dia (word file 6) (w .tabulated .rowsAre) acc few-rows t long (kinds-in .cell) (word file 6 - 1) (let a = some-row in omega arith)
+    found : Sound dia (word file 6) (w .tabulated .rowsAre) fine few-rows t (word file 6 - 1) (word file 6 - 1) pass
+    found = sound dia (word file 6) (w .tabulated .rowsAre) fine few-rows t long (kinds-in .cell) (word file 6 - 1) (let a = some-row in omega arith)
 
     tabulated : Tabulated dia (word file 6) (word file 8) pass
     tabulated =
@@ -141,7 +161,7 @@ module _ {file t : List ℕ} (w : Tabled file t) where
           records = tabulated;
           owners = λ r l. s .owners r (omega arith);
           branches = λ r l. s .branches r (omega arith);
-          closes = λ r l. close-is dia (word file 6) (b .rowsAre) acc few t long (kinds-in .cell) (word file 6 - 1) (omega arith) pass s r l;
+          closes = λ r l. close-is dia (word file 6) (b .rowsAre) fine few t long (kinds-in .cell) (word file 6 - 1) (omega arith) pass s r l;
           loops = λ r l. s .loops r (omega arith);
           ownerLow = owner-low dia;
           loopLow = loop-low dia;

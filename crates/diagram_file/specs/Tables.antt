@@ -3,14 +3,14 @@ use Prim.Native.Nat.{ℕ, _+_, _≤_, _<_}
 use mathlib.Core.Path.{_≡_}
 use mathlib.Core.List.{List}
 use lib.ListN.{length}
-use Rattle.effbd.specs.Answers.{accepted, refused, refusalNumber, refusalValue}
+use Rattle.effbd.specs.Answers.{accepted, refusalNumber, refusalValue}
 use Rattle.effbd.specs.Records.{word}
 use Rattle.effbd.specs.Nesting.{readDiagram, Part}
 use Rattle.diagram_table.specs.declared.Part.{Part as Lies}
 use Rattle.diagram_table.specs.Held.{HoldsFile}
 use Rattle.diagram.specs.declared.Diagram.{Diagram as Parse}
 use Rattle.diagram_file.specs.declared.Refusal.{Refusal}
-use Rattle.diagram_file.specs.Reading.{Tabled}
+use Rattle.diagram_records.specs.Reading.{Tabled}
 
 -- a file's records and their nesting were judged: where nothing is refused, the table has the records' columns
 pub record Judged (file table : List ℕ) (r : Refusal) : Type 0 where

@@ -12,20 +12,18 @@ use diagram_table::Part;
 use diagram_table::SOME_TRIGGER;
 use effbd::Answer;
 
-mod records;
-
 // A refusal's number and value, 0 and 0 for none.
 pub(crate) struct Refusal {
     pub number: u16,
     pub value: u32,
 }
 
-// Judges a file, its records and then their nesting; a zeroed table is left with the records' columns.
+// Judges a file: its records, their nesting, then its loops; a zeroed table is left with the records' columns.
 fn judge(file: &[u8], table: &mut [u16]) -> Refusal
     requires { ⌜ length (now table) ≡ cellTotal ⌝ }
     ensures { λ r. ⌜ Judged (now (file .entry)) (now (table .exit)) r ⌝ }
 {
-    let reached = records::read_records(file, table);
+    let reached = diagram_records::read_records(file, table);
     if reached.fault != 0 {
         return Refusal {
             number: reached.fault,
@@ -38,6 +36,13 @@ fn judge(file: &[u8], table: &mut [u16]) -> Refusal
         return Refusal {
             number: judgement.number,
             value: judgement.row as u32,
+        };
+    }
+    let loops = loop_times::read_loops(table, rows);
+    if loops.number != 0 {
+        return Refusal {
+            number: loops.number,
+            value: loops.row as u32,
         };
     }
     Refusal {

@@ -10,9 +10,8 @@ use lib.ListN.{length, getD, set, length-set}
 use lib.Seq.{getD-set-same, getD-set-other}
 use lib.Dec.{eqb}
 use borrow.Author.Tests.{eqb-true, eqb-false, eq-eqb, ne-eqb}
-use Rattle.effbd.specs.Answers.{accepted}
 use Rattle.effbd.specs.Diagrams.{mostRows, lp-open, numberOf, Diagram, rowCount, kind}
-use Rattle.effbd.specs.Nesting.{Frame, turnTo, innermostOpen, latestBranch, stack, owner, branchEnded, innermost, loop, close, isClose, nested}
+use Rattle.effbd.specs.Nesting.{Frame, turnTo, innermostOpen, latestBranch, stack, owner, branchEnded, innermost, loop, close, isClose, nestingFault}
 use Rattle.ranges.specs.Tests.{decide, clash}
 use Rattle.ranges.specs.RangeLaws.{least-is, least-none}
 use Rattle.diagram_structure.specs.declared.Around.{Around}
@@ -117,7 +116,7 @@ same-set t u o v h s = record {
   above = λ j l. getD-set-other u (cellOf 7 o) j v 0 (λ z. omega arith) ∙ s .above j l;
 }
 
-module _ (d : Diagram) (rows : ℕ) (er : rows ≡ rowCount d) (acc : nested d ≡ accepted d) (few : rows ≤ mostRows) where
+module _ (d : Diagram) (rows : ℕ) (er : rows ≡ rowCount d) (fine : (q : ℕ) → q < rowCount d → nestingFault d q ≡ 0) (few : rows ≤ mostRows) where
   -- v is the close of row o as far as the rows below m tell: none so far, or the first
   pub record CloseBelow (m o v : ℕ) : Type 0 where
     pub none : v ≡ rows → (c : ℕ) → c < m → closesOf d o c ≡ false
@@ -200,7 +199,7 @@ module _ (d : Diagram) (rows : ℕ) (er : rows ≡ rowCount d) (acc : nested d �
 
         once : (c : ℕ) → c < n → closesOf d (owner d n) c ≡ false
         once c h = decide (isClose d c)
-            (λ x. rw (x, ne-eqb (owner d c) (owner d n) (λ y. absurd (closes-once d (owner d c) c n h (closing-is (does d c) (sym (close-part d c) ∙ x)) refl (held d acc n (omega arith) (ap ending e)) (sym y)))))
+            (λ x. rw (x, ne-eqb (owner d c) (owner d n) (λ y. absurd (closes-once d (owner d c) c n h (closing-is (does d c) (sym (close-part d c) ∙ x)) refl (held d fine n (omega arith) (ap ending e)) (sym y)))))
             (λ x. rw x)
           where
             closing-is : (p : Part) → closing p ≡ true → p ≡ Closes
@@ -232,7 +231,7 @@ module _ (d : Diagram) (rows : ℕ) (er : rows ≡ rowCount d) (acc : nested d �
           (rw (kind-here, s .loops n (omega arith)) (sym (ap (innermost d lp-open) k)))
       nextAs Turns e =
           let k = stack-next d n Turns e in
-          let w = turned (stack d n) (held d acc n (omega arith) (ap ending e)) in
+          let w = turned (stack d n) (held d fine n (omega arith) (ap ending e)) in
           hung n (getD t (cellOf 5 n) 0) n (getD t (cellOf 8 n) 0) t l (met-other n t (ap closing e) s)
           (s .owners n (omega arith) ∙ sym (ap innermostOpen k ∙ w .0)) (sym (ap latestBranch k ∙ w .1)) (s .loops n (omega arith) ∙ sym (ap (innermost d lp-open) k ∙ w .2))
       nextAs Closes e =
@@ -277,4 +276,4 @@ module _ (d : Diagram) (rows : ℕ) (er : rows ≡ rowCount d) (acc : nested d �
         sym (least-is (rowCount d) (closesOf d q) (getD t (cellOf 7 q) 0) (omega arith) (w .1) (w .2)))
       where
         ended : closing (does d n) ≡ false
-        ended = ap closing (last-stays d acc n (e ∙ er))
+        ended = ap closing (last-stays d fine n (e ∙ er))

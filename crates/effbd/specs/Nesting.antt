@@ -1,13 +1,14 @@
--- Document 01, "Nesting", and 02, CR 3: which constructs are open at each row, what may stand there (refusals 7, 44, 8, 9), a whole diagram file. Assumes nothing.
+-- Document 01, "Nesting", and 02, CR 3 and CR 4: which constructs are open at each row, what may stand there (refusals 7, 44, 8, 9), loops that spend no time (45),
+-- a whole diagram file. Assumes nothing.
 use Prim.Native.Nat.{ℕ, zero, suc, _+_, _-_, _*_}
 use mathlib.Core.Bool.{Bool, true, false, not, cond, _&&_, _||_}
 use mathlib.Core.List.{List, [], _∷_}
 use lib.ListN.{length, take, drop}
 use lib.Dec.{leb, ltb, eqb}
-use Rattle.effbd.specs.Ranges.{least, only, within}
+use Rattle.effbd.specs.Ranges.{allBelow, least, only, within, between}
 use Rattle.effbd.specs.Answers.{Outcome, accepted, refused, unless, andThen}
 use Rattle.effbd.specs.Records.{word, lengthAt, Got, readMany}
-use Rattle.effbd.specs.Diagrams.{Kind, function, and-open, branch, and-close, or-open, or-close, it-open, it-close, lp-open, lp-close, loop-exit, end, Row, Item, Diagram, rowCount, kind, isKind, kills, headFault, itemFault, itemAt, rowAt, rowFaultIn}
+use Rattle.effbd.specs.Diagrams.{Kind, function, and-open, branch, and-close, or-open, or-close, it-open, it-close, lp-open, lp-close, loop-exit, end, Row, Item, Diagram, rowCount, kind, isKind, alpha, kills, headFault, itemFault, itemAt, rowAt, rowFaultIn}
 
 -- a construct that is open: its open row, and its latest BRANCH (at first the row after the open, which must be one)
 pub record Frame : Type 0 where
@@ -146,11 +147,27 @@ module _ (d : Diagram) where
   unfoldable pub nestingFault : ℕ → ℕ
   nestingFault q = cond (nestingBroken q) 7 (cond (killerEmpty q) 44 (cond (exitMisplaced q) 8 (cond (thirteenthOpen q) 9 0)))
 
-  unfoldable pub firstFaulty : ℕ
-  firstFaulty = least (rowCount d) (λ q. not (eqb (nestingFault q) 0))
+  -- "FUNCTION of α at least 1"
+  abbrev pub spendsTime : ℕ → Bool
+  spendsTime q = isKind d function q && leb 1 (alpha d q)
 
+  -- 45: "An LP with no FUNCTION of α at least 1 between open and close", at its open
+  unfoldable pub spendsNoTime : ℕ → Bool
+  spendsNoTime o = isKind d lp-open o && allBelow (rowCount d) (λ q. not (between o (close o) q && spendsTime q))
+
+  abbrev pub loopFault : ℕ → ℕ
+  loopFault q = cond (spendsNoTime q) 45 0
+
+  -- the lowest row with a fault; turned away there, or on
+  unfoldable pub firstFaulty : (fault : ℕ → ℕ) → ℕ
+  firstFaulty fault = least (rowCount d) (λ q. not (eqb (fault q) 0))
+
+  unfoldable pub unlessRow : (fault : ℕ → ℕ) → Outcome Diagram → Outcome Diagram
+  unlessRow fault on = cond (ltb (firstFaulty fault) (rowCount d)) (refused (fault (firstFaulty fault)) (firstFaulty fault)) on
+
+  -- "Then rows upward"; 45 "lowest such LP row, after the whole walk up to 9"
   unfoldable pub nested : Outcome Diagram
-  nested = cond (ltb firstFaulty (rowCount d)) (refused (nestingFault firstFaulty) firstFaulty) (accepted d)
+  nested = unlessRow nestingFault (unlessRow loopFault (accepted d))
 
 -- a diagram file: the head, M items, N rows; "after the last, 6"; then the nesting
 unfoldable pub afterRows : List ℕ → List Item → Got (List Row) → Outcome Diagram

@@ -52,3 +52,5 @@ pub const MOVE_REFUSED: u16 = 42;
 pub const TRIGGER_OFF: u16 = 43;
 
 pub const KILLING_BRANCH_EMPTY: u16 = 44;
+
+pub const LOOP_SPENDS_NO_TIME: u16 = 45;

@@ -92,7 +92,7 @@ pub extern "C" fn tpn_fresh(net: &[u8], state: &mut [u16]) -> u64
     ensures { λ r. ⌜ r ≡ packed (returningZero (freshNet (now (net .entry)) (now (state .entry)))) ⌝ }
     ensures { λ _. ⌜ now (state .exit) ≡ afterwards (now (state .entry)) (freshNet (now (net .entry)) (now (state .entry))) ⌝ }
 {
-    pack(net_step::fresh(net, state))
+    pack(net_fresh::fresh(net, state))
 }
 
 // A step or wait of a net.
@@ -119,7 +119,7 @@ pub extern "C" fn leader_offer(
     ensures { λ _. ⌜ now (state .exit) ≡ offered (now (file .entry)) (now (state .entry)) count station code argument (now (area .entry)) .state ⌝ }
     ensures { λ _. ⌜ now (area .exit) ≡ offered (now (file .entry)) (now (state .entry)) count station code argument (now (area .entry)) .area ⌝ }
 {
-    pack(bus::offer(file, state, count, station, code, argument, area))
+    pack(bus_leader::offer(file, state, count, station, code, argument, area))
 }
 
 // The follower's call.
@@ -134,7 +134,7 @@ pub extern "C" fn follower_take(
     ensures { λ r. ⌜ r ≡ packed (taken (now (net .entry)) (now (state .entry)) count station (now (telegram .entry)) .answer) ⌝ }
     ensures { λ _. ⌜ now (state .exit) ≡ taken (now (net .entry)) (now (state .entry)) count station (now (telegram .entry)) .state ⌝ }
 {
-    pack(bus::take(net, state, count, station, telegram))
+    pack(bus_follower::take(net, state, count, station, telegram))
 }
 
 // The most starts of a FUNCTION row in any hour of a log.

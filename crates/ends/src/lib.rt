@@ -70,7 +70,7 @@ fn fresh_ends(file: &[u8], net: &[u8], leader: &mut [u16], follower: &mut [u16])
     let leader_words = words_of(diagram_file::read(file));
     let follower_words = words_of(net_file::read(net));
     diagram_step::fresh(file, &mut leader[0..leader_words as usize]);
-    net_step::fresh(net, &mut follower[0..follower_words as usize]);
+    net_fresh::fresh(net, &mut follower[0..follower_words as usize]);
     StateSizes {
         leader: leader_words,
         follower: follower_words,

@@ -69,7 +69,7 @@ pub fn make_move(
     ensures { λ r. ⌜ said r ≡ returningZero (withIndex index (tableMove (now (table .entry)) rows items (now (file .entry)) (now (state .entry)) code argument)) ⌝ }
     ensures { λ _. ⌜ now (state .exit) ≡ afterwards (now (state .entry)) (tableMove (now (table .entry)) rows items (now (file .entry)) (now (state .entry)) code argument) ⌝ }
 {
-    let answer = diagram_step::make_move(code, argument, table, state, rows, items, file);
+    let answer = table_move::make_move(code, argument, table, state, rows, items, file);
     match answer {
         Answer::Accepted(_) => Answer::Accepted(0),
         Answer::Refused(_, _) => Answer::Refused(refusals::MOVE_REFUSED, index),

@@ -6,15 +6,13 @@ use mathlib.Core.Bool.{Bool, true, false, not, cond, _&&_, _||_}
 use mathlib.Core.List.{List, [], _∷_}
 use native.Mathlib.Omega.{arith}
 use native.Mathlib.Numerals.{add-one}
-use lib.Dec.{ltb, eqb}
-use borrow.Author.Tests.{ltb-false, eqb-true, eq-eqb, ne-eqb, not-false}
-use Rattle.effbd.specs.Answers.{accepted, refused}
-use Rattle.effbd.specs.Ranges.{least, only}
+use lib.Dec.{eqb}
+use borrow.Author.Tests.{eqb-true, eq-eqb, ne-eqb, not-false}
+use Rattle.effbd.specs.Ranges.{only}
 use Rattle.effbd.specs.Diagrams.{lp-open, end, numberOf, Diagram, rowCount, kind, isKind}
-use Rattle.effbd.specs.Nesting.{Frame, pop, innermostOpen, stack, owner, isClose, close, innermost, loop, follows, standsAs, nestingBroken, killerEmpty, exitMisplaced, thirteenthOpen, nestingFault, firstFaulty, nested}
+use Rattle.effbd.specs.Nesting.{Frame, pop, innermostOpen, stack, owner, isClose, close, innermost, loop, follows, standsAs, nestingBroken, killerEmpty, exitMisplaced, thirteenthOpen, nestingFault}
 use Rattle.ranges.specs.Tests.{decide, clash, or-false-right}
-use Rattle.ranges.specs.RangeLaws.{least-found, least-low}
-use Rattle.agreement.specs.ByteLaws.{never}
+use Rattle.ranges.specs.RangeLaws.{least-low}
 use Rattle.nesting.specs.declared.Part.{Part}
 use Rattle.nesting.specs.declared.Part.the-variants.{Opens, Turns, Closes, Stays}
 use Rattle.nesting.specs.Runs.{partOf}
@@ -137,20 +135,8 @@ module _ (d : Diagram) where
   pub not-closing : (o c : ℕ) → closing (does c) ≡ false → closesOf o c ≡ false
   not-closing o c h = rw (close-part c, h)
 
-  -- ---- of an accepted diagram
-  module _ (acc : nested d ≡ accepted d) where
-    pub fine : (q : ℕ) → q < rowCount d → nestingFault d q ≡ 0
-    unfolding nested firstFaulty
-    fine q l = decide (eqb (nestingFault d q) 0) (λ e. eqb-true (nestingFault d q) 0 e)
-        (λ e. let h = least-found (rowCount d) (λ r. not (eqb (nestingFault d r) 0)) q l (rw e) .1 in
-        go (ltb (least (rowCount d) (λ r. not (eqb (nestingFault d r) 0))) (rowCount d)) refl h acc)
-      where
-        go : (b : Bool) → ltb (least (rowCount d) (λ r. not (eqb (nestingFault d r) 0))) (rowCount d) ≡ b → least (rowCount d) (λ r. not (eqb (nestingFault d r) 0)) ≤ q
-            → cond b (refused (nestingFault d (least (rowCount d) (λ r. not (eqb (nestingFault d r) 0)))) (least (rowCount d) (λ r. not (eqb (nestingFault d r) 0)))) (accepted d) ≡ accepted d
-            → nestingFault d q ≡ 0
-        go true e h z = never z
-        go false e h z = let y = ltb-false (least (rowCount d) (λ r. not (eqb (nestingFault d r) 0))) (rowCount d) e in absurd (omega arith)
-
+  -- ---- of a diagram with no row at fault
+  module _ (fine : (q : ℕ) → q < rowCount d → nestingFault d q ≡ 0) where
     -- a BRANCH and a close stand in a construct
     pub held : (q : ℕ) → q < rowCount d → ending (does q) ≡ true → stack d q ≡ [] → ⊥
     held q l h e = let a = bare-faulty d q e h in let b = fine q l in absurd (omega arith)

@@ -2,19 +2,17 @@
 use Prim.Native.Nat.{ℕ, _+_, _≤_, _<_}
 use mathlib.Core.Path.{_≡_, refl, sym, _∙_, ap, subst}
 use mathlib.Core.Logic.{_≢_}
-use mathlib.Core.Bool.{Bool, true, false, not, _&&_}
+use mathlib.Core.Bool.{Bool, true, false, _&&_}
 use mathlib.Core.List.{List, _∷_}
 use native.Mathlib.Omega.{arith}
 use native.Mathlib.Numerals.{add-one}
 use lib.ListN.{length}
 use lib.Dec.{ltb, eqb}
-use borrow.Author.Tests.{eqb-true, eqb-false, ltb-true, ltb-false, lt-ltb, le-ltb, lt-leb, le-leb}
-use Rattle.effbd.specs.Answers.{accepted, unless}
-use Rattle.effbd.specs.Ranges.{least}
+use borrow.Author.Tests.{eqb-true, eqb-false, ltb-true, ltb-false, lt-leb, le-leb}
+use Rattle.effbd.specs.Answers.{Outcome, refused, unless}
 use Rattle.effbd.specs.Diagrams.{Diagram, numberOf, rowCount, kind}
-use Rattle.effbd.specs.Nesting.{Frame, stack, nestingFault, firstFaulty, nested}
+use Rattle.effbd.specs.Nesting.{Frame, stack, nestingFault, unlessRow}
 use Rattle.ranges.specs.Tests.{decide, and-left, and-right}
-use Rattle.ranges.specs.RangeLaws.{least-is, least-none}
 use Rattle.nesting.specs.declared.Part.{Part}
 use Rattle.nesting.specs.declared.Part.the-variants.{Opens, Turns, Closes, Stays}
 use Rattle.nesting.specs.declared.Open.{Open}
@@ -24,6 +22,7 @@ use Rattle.nesting.specs.declared.Construct.{Construct}
 use Rattle.nesting.specs.declared.Construct.the-variants.{Judged as WasJudged, Closed as WasClosed}
 use Rattle.nesting.specs.Runs.{partOf, kindIn, topIn, isAndOr, loopsIn, closesIn, lastFault, openFault, Kinds, Shows, At, Clean, AllJudged, Reached, Ends, RunEnded, RunWithin, RunRead, ConstructEnded, ConstructWithin, ConstructRead, NestingRead}
 use Rattle.ranges.specs.Outcomes.{unless-refused}
+use Rattle.agreement.specs.RowFaults.{rows-faultless, rows-faulty}
 use Rattle.nesting.proofs.Rules.{faultIn, passingBy, opening, ending, stack-next, free-behind, free-next, kind-is, open-fault-is, fault-is, last-fault-is, bare-faulty}
 
 clean-none : (d : Diagram) (a : ℕ) → Clean d a a
@@ -288,18 +287,12 @@ module _ (table : List ℕ) (rows opened : ℕ) (o : Open) (latest q depth : ℕ
 abbrev pub nothing : Open
 nothing = record { depth = 0; opened = 0; latest = 0; looped = false }
 
-abbrev faulty : Diagram → ℕ → Bool
-faulty d q = not (eqb (nestingFault d q) 0)
-
-judged-is : (d : Diagram) (number row : ℕ) → AllJudged d 0 number row → nested d ≡ unless number row (accepted d)
-unfolding nested firstFaulty
-judged-is d number row j = decide (eqb number 0)
-    (λ e. let z = eqb-true number 0 e in let c = j .good z in
-    let n : least (rowCount d) (faulty d) ≡ rowCount d = least-none (rowCount d) (faulty d) (λ q l. rw (c .fine q (omega arith) l)) in
-    rw (n, le-ltb (rowCount d) (rowCount d) (omega arith), z))
+judged-is : (d : Diagram) (number row : ℕ) → AllJudged d 0 number row → (on : Outcome Diagram) → unlessRow d (nestingFault d) on ≡ unless number row on
+judged-is d number row j on = decide (eqb number 0)
+    (λ e. let z = eqb-true number 0 e in rw z (rows-faultless d (nestingFault d) (λ q l. j .good z .fine q (omega arith) l) on))
     (λ e. let ne = eqb-false number 0 e in let w = j .bad ne in
-    let n : least (rowCount d) (faulty d) ≡ row = least-is (rowCount d) (faulty d) row (w .1) (rw (w .2, e)) (λ q l. rw (w .3 .fine q (omega arith) l)) in
-    rw (n, lt-ltb row (rowCount d) (w .1), w .2) (sym (unless-refused number row (accepted d) ne)))
+    rows-faulty d (nestingFault d) row (w .1) (λ z. ne (sym (w .2) ∙ z)) (λ q l. w .3 .fine q (omega arith) l) on
+    ∙ (ap (λ (n : ℕ). refused n row) (w .2) ∙ sym (unless-refused number row on ne)))
 
 pub no-rows : (table : List ℕ) (rows : ℕ) → rows ≡ 0 → NestingRead table rows (record { number = 0; row = 0 })
 no-rows table rows e = record {

@@ -6,9 +6,9 @@ use mathlib.Core.Bool.{Bool, true, false, cond, _&&_, _||_}
 use mathlib.Core.List.{List}
 use lib.ListN.{length, getD}
 use lib.Dec.{ltb, eqb}
-use Rattle.effbd.specs.Answers.{accepted, unless}
+use Rattle.effbd.specs.Answers.{Outcome, unless}
 use Rattle.effbd.specs.Diagrams.{mostRows, Diagram, lp-open, numberOf, rowCount, row, kind}
-use Rattle.effbd.specs.Nesting.{Frame, innermostOpen, latestBranch, stack, someOpen, follows, nestingFault, nested}
+use Rattle.effbd.specs.Nesting.{Frame, innermostOpen, latestBranch, stack, someOpen, follows, nestingFault, unlessRow}
 use Rattle.nesting.specs.declared.Part.{Part}
 use Rattle.nesting.specs.declared.Part.the-variants.{Opens, Turns, Closes, Stays}
 use Rattle.nesting.specs.declared.Open.{Open}
@@ -133,9 +133,9 @@ pub record ConstructRead (table : List ℕ) (rows opened : ℕ) (o : Open) (r : 
   pub within : ConstructWithin opened rows r
   pub ended : (d : Diagram) → At table rows opened o d → partOf (numberOf (kind d opened)) ≡ Opens → ConstructEnded d opened r
 
--- the nesting of the table's rows was judged: of every diagram that has their kinds and first fields, `nested` refuses that row with that number, or accepts
+-- the nesting of the table's rows was judged: every diagram that has their kinds and first fields is turned away at that row with that number, or goes on
 pub record NestingRead (table : List ℕ) (rows : ℕ) (r : Judgement) : Type 0 where
   pub within : r .row ≤ rows
   -- "0 and 0 for none"
   pub none : r .number ≡ 0 → r .row ≡ 0
-  pub judged : (d : Diagram) → Kinds d rows table → nested d ≡ unless (r .number) (r .row) (accepted d)
+  pub judged : (d : Diagram) → Kinds d rows table → (on : Outcome Diagram) → unlessRow d (nestingFault d) on ≡ unless (r .number) (r .row) on

@@ -5,3 +5,4 @@ pub mod Places
 pub mod Standing
 pub mod Accepted
 pub mod Headed
+pub mod Answers

@@ -1,32 +1,19 @@
--- Walks over the words of a state: fresh words, who holds a wait, new clocks.
-use Prim.Native.Nat.{ℕ, zero, suc, _+_, _-_, _≤_, _<_}
+-- Walks over the words of a state: who holds a wait, new clocks.
+use Prim.Native.Nat.{ℕ, suc, _+_, _-_, _≤_, _<_}
 use mathlib.Core.Path.{_≡_, refl, ap, sym, _∙_}
 use mathlib.Core.Bool.{Bool, true, false, cond, _||_}
-use mathlib.Core.List.{List, [], _∷_, _++_, append-nil}
-use native.Mathlib.Nat.{sub-zero, not-suc-le-zero, le-of-suc-le-suc}
+use mathlib.Core.List.{List, [], _∷_, _++_}
+use native.Mathlib.Nat.{sub-zero}
 use native.Mathlib.Numerals.{add-one}
 use native.Mathlib.Omega.{arith}
 use lib.ListN.{length, drop, getD, set, length-append, drop-of-length-le}
 use lib.Seq.{drop-cons, getD-at, set-at, append-snoc}
 use lib.Dec.{eqb}
-use Rattle.effbd.specs.Ranges.{tabulate}
 use Rattle.net_walk.specs.Walked.{covered}
 use Rattle.effbd.specs.Nets.{Transition}
 use Rattle.net_file.specs.Contents.{transitionIn, afterTransition, transitionsIn}
 use Rattle.net_file.proofs.Walks.{transitions-more, transitions-none}
 use Rattle.net_step.specs.Stepping.{keptClock, clocksBy, holdsWait, waitHeld}
-
--- a list written from the front: its first n words are f 0, f 1, ..
-front-suc : (to : List ℕ) (f : ℕ → ℕ) (n : ℕ) → n < length to → set (tabulate n f ++ drop n to) n (f n) ≡ tabulate (suc n) f ++ drop (suc n) to
-front-suc [] f n h = absurd (not-suc-le-zero h)
-front-suc (x ∷ to) f zero h = refl
-front-suc (x ∷ to) f (suc n) h = ap (λ (l : List ℕ). f zero ∷ l) (front-suc to (λ i. f (suc i)) n (le-of-suc-le-suc h))
-
-pub front-more : (to : List ℕ) (f : ℕ → ℕ) (n : ℕ) → n < length to → set (tabulate n f ++ drop n to) n (f n) ≡ tabulate (n + 1) f ++ drop (n + 1) to
-front-more to f n h = rw add-one (front-suc to f n h)
-
-pub front-all : (to : List ℕ) (f : ℕ → ℕ) (n : ℕ) → n ≡ length to → tabulate n f ++ drop n to ≡ tabulate (length to) f
-front-all to f n e = let h : length to ≤ n = omega arith in rw (drop-of-length-le to h, append-nil (tabulate n f), e)
 
 -- who holds a wait
 module _ (ticks : ℕ) (marks : List ℕ) (count x : ℕ) (rest clocks : List ℕ) where

@@ -1,5 +1,5 @@
 -- A net's moves as the code makes them, transition by transition in the file's order, on the words of a state. Assumes nothing.
-use Prim.Native.Nat.{ℕ, _+_, _-_, _*_, _≤_}
+use Prim.Native.Nat.{ℕ, _+_, _-_, _≤_}
 use mathlib.Core.Path.{_≡_}
 use mathlib.Core.Bool.{Bool, false, cond, _&&_, _||_}
 use mathlib.Core.List.{List, [], _∷_, _++_}
@@ -7,7 +7,6 @@ use lib.ListN.{length, getD}
 use lib.Dec.{leb, ltb, eqb}
 use Rattle.effbd.specs.Answers.{Outcome, accepted, refused, andThen, afterwards, returningZero, said}
 use Rattle.effbd.specs.declared.Answer.{Answer}
-use Rattle.effbd.specs.Records.{word}
 use Rattle.effbd.specs.Nets.{Transition, giveArc}
 use Rattle.net_walk.specs.Walked.{covered, applied, reduced, sums, lowest}
 use Rattle.net_step.specs.declared.Renewal.{Renewal}
@@ -73,7 +72,3 @@ smallPlaces = 208
 pub record Sized (most places count : ℕ) (state : List ℕ) : Type 0 where
   pub few : places ≤ most
   pub words : length state ≡ places + count
-
--- word i of a fresh state: the marks that a file of so many places gives, clocks 0
-unfoldable pub freshWord : List ℕ → ℕ → ℕ → ℕ
-freshWord file places i = cond (ltb i places) (word file (8 + 6 * i + 4)) 0

@@ -19,12 +19,11 @@ ghost use mathlib.Core.List.{_++_};
 ghost use Prim.Native.Nat.{_+_, _≤_};
 ghost use lib.ListN.{length, take, drop};
 ghost use Rattle.effbd.specs.Answers.{said, afterwards, returningZero};
-ghost use Rattle.effbd.specs.Ranges.{tabulate};
 ghost use Rattle.effbd.specs.Nets.{giveArc, mostPlaces};
-ghost use Rattle.effbd.specs.Firing.{stepNet, freshNet};
+ghost use Rattle.effbd.specs.Firing.{stepNet};
 ghost use Rattle.net_file.specs.Contents.{arcsIn, transitionIn, transitionsIn};
 ghost use Rattle.net_walk.specs.Walked.{applied};
-ghost use Rattle.net_step.specs.Stepping.{keptClock, grownClock, renewedClock, clocksBy, holdsWait, waitHeld, firedWords, steppedWords, waitedWords, movedWords, Answered, smallPlaces, Sized, freshWord};
+ghost use Rattle.net_step.specs.Stepping.{keptClock, grownClock, renewedClock, clocksBy, holdsWait, waitHeld, firedWords, steppedWords, waitedWords, movedWords, Answered, smallPlaces, Sized};
 
 // A net without copies has no more places, and its steps zero no more marks.
 const SMALL_PLACES: usize = PLAIN_PLACES as usize;
@@ -321,45 +320,6 @@ pub fn step(net: &[u8], state: &mut [u16], code: u16, argument: u16) -> Answer
             let count = words::word(net, 6);
             let transitions = words::tail(net, HEAD_LENGTH + PLACE_LENGTH * places);
             move_sized(places, state, transitions, count, code, argument)
-        }
-    }
-}
-
-// Word i of a fresh state. A place's mark stands behind its length and its kind.
-fn fresh_word(net: &[u8], places: u16, i: usize) -> u16
-    ensures { λ r. ⌜ r ≡ freshWord (now (net .entry)) places i ⌝ }
-{
-    if i < places as usize {
-        return words::word(net, HEAD_LENGTH + PLACE_LENGTH * i + 4);
-    }
-    0
-}
-
-// Every word of a fresh state.
-fn fill(net: &[u8], places: u16, state: &mut [u16])
-    ensures { λ _. ⌜ now (state .exit) ≡ tabulate (length (now (state .entry))) (freshWord (now (net .entry)) places) ⌝ }
-{
-    let mut i: usize = 0;
-    while i < state.len() {
-        state[i] = fresh_word(net, places, i);
-        i += 1;
-    }
-}
-
-// Makes the state fresh: the file's marks, all clocks 0; refused by the file's own numbers or 20.
-pub fn fresh(net: &[u8], state: &mut [u16]) -> Answer
-    ensures { λ r. ⌜ said r ≡ returningZero (freshNet (now (net .entry)) (now (state .entry))) ⌝ }
-    ensures { λ _. ⌜ now (state .exit) ≡ afterwards (now (state .entry)) (freshNet (now (net .entry)) (now (state .entry))) ⌝ }
-{
-    let read = net_file::read(net);
-    match read {
-        Answer::Refused(number, value) => Answer::Refused(number, value),
-        Answer::Accepted(size) => {
-            if state.len() != size as usize {
-                return Answer::Refused(STATE_OFF, 0);
-            }
-            fill(net, words::word(net, 4), state);
-            Answer::Accepted(0)
         }
     }
 }

@@ -6,7 +6,7 @@ use Rattle.effbd.specs.Answers.{accepted}
 use Rattle.effbd.specs.Records.{areBytes, kindTable, entryIn, lengthOf, fieldsOf, faultAt, readMany}
 use Rattle.effbd.specs.Diagrams.{kindOf, headFault, itemFault, usesAt, usesFine, rowAt, rowRight, rowFine, rowFault, triggersFine, rowFaultIn}
 use Rattle.effbd.specs.Counts.{copiesOf, copies, tallies, countTotal, tally, takes, gives, initialCount}
-use Rattle.effbd.specs.Nesting.{stack, owner, close, branchOf, loop, nestingBroken, killerEmpty, exitMisplaced, thirteenthOpen, nestingFault, firstFaulty, nested, afterRows, afterItems, readDiagram}
+use Rattle.effbd.specs.Nesting.{stack, owner, close, branchOf, loop, nestingBroken, killerEmpty, exitMisplaced, thirteenthOpen, nestingFault, firstFaulty, spendsNoTime, unlessRow, nested, afterRows, afterItems, readDiagram}
 use Rattle.effbd.specs.Layout.{placeOf}
 use Rattle.effbd.specs.States.{stateWords, stateOf, enteredRow, endsKiller, killed, entered, branchEntries, freshWords}
 use Rattle.effbd.specs.Moves.{moveOf, lowestItem, wordsOutcome, moveWords, checkedMove, stepDiagram}
@@ -27,7 +27,7 @@ use Rattle.plantroom.specs.Starts.{questions, answered, startsHold}
 pub examples-hold : tableHolds ≡ true
 unfolding areBytes kindTable entryIn lengthOf fieldsOf faultAt readMany
     kindOf headFault itemFault usesAt usesFine rowAt rowRight rowFine rowFault triggersFine rowFaultIn copiesOf copies tallies countTotal tally takes gives initialCount
-    stack owner close branchOf loop nestingBroken killerEmpty exitMisplaced thirteenthOpen nestingFault firstFaulty nested afterRows afterItems readDiagram
+    stack owner close branchOf loop nestingBroken killerEmpty exitMisplaced thirteenthOpen nestingFault firstFaulty spendsNoTime unlessRow nested afterRows afterItems readDiagram
     placeOf stateWords stateOf enteredRow endsKiller killed entered branchEntries freshWords moveOf lowestItem wordsOutcome moveWords checkedMove stepDiagram
     arcBytes transitionBytes markBytes netBytes arcDue arcFine above transitionFine netHeadFault markFault arcFault transitionFault readTail afterPlaces readNet
     weightAt clearedAt effectOf covers takenAndCleared firedState overflows fire fireLowest letsPass tickedState netWait netMove checkedNetMove stepNet freshNetWords
@@ -39,7 +39,7 @@ examples-hold = refl
 pub requests-hold : requestsHold ≡ true
 unfolding areBytes kindTable entryIn lengthOf fieldsOf faultAt readMany
     kindOf headFault itemFault usesAt usesFine rowAt rowRight rowFine rowFault triggersFine rowFaultIn copiesOf copies tallies countTotal tally takes gives initialCount
-    stack owner close branchOf loop nestingBroken killerEmpty exitMisplaced thirteenthOpen nestingFault firstFaulty nested afterRows afterItems readDiagram
+    stack owner close branchOf loop nestingBroken killerEmpty exitMisplaced thirteenthOpen nestingFault firstFaulty spendsNoTime unlessRow nested afterRows afterItems readDiagram
     placeOf stateWords stateOf enteredRow endsKiller killed entered branchEntries freshWords moveOf lowestItem wordsOutcome moveWords checkedMove stepDiagram
     arcBytes transitionBytes markBytes netBytes arcDue arcFine above transitionFine netHeadFault markFault arcFault transitionFault readTail afterPlaces readNet
     weightAt clearedAt effectOf covers takenAndCleared firedState overflows fire fireLowest letsPass tickedState netWait netMove checkedNetMove stepNet freshNetWords
@@ -51,7 +51,7 @@ requests-hold = refl
 pub calls-hold : (readDiagram (fileA 3) ≡ accepted diagramA) × MayBeHanded (fileA 3) diagramA 9 calls × (callsHold ≡ true)
 unfolding areBytes kindTable entryIn lengthOf fieldsOf faultAt readMany
     kindOf headFault itemFault usesAt usesFine rowAt rowRight rowFine rowFault triggersFine rowFaultIn copiesOf copies tallies countTotal tally takes gives initialCount
-    stack owner close branchOf loop nestingBroken killerEmpty exitMisplaced thirteenthOpen nestingFault firstFaulty nested afterRows afterItems readDiagram
+    stack owner close branchOf loop nestingBroken killerEmpty exitMisplaced thirteenthOpen nestingFault firstFaulty spendsNoTime unlessRow nested afterRows afterItems readDiagram
     placeOf stateWords stateOf enteredRow endsKiller killed entered branchEntries freshWords moveOf lowestItem wordsOutcome moveWords checkedMove stepDiagram
     arcBytes transitionBytes markBytes netBytes arcDue arcFine above transitionFine netHeadFault markFault arcFault transitionFault readTail afterPlaces readNet
     weightAt clearedAt effectOf covers takenAndCleared firedState overflows fire fireLowest letsPass tickedState netWait netMove checkedNetMove stepNet freshNetWords
@@ -63,7 +63,7 @@ calls-hold = (refl, (offers, (offers, (offers, (wrote-before 1 (omega arith) ref
 pub starts-hold : startsHold ≡ true
 unfolding kindTable entryIn lengthOf fieldsOf faultAt readMany
     kindOf headFault itemFault usesAt usesFine rowAt rowRight rowFine rowFault triggersFine rowFaultIn copiesOf copies tallies countTotal tally takes gives initialCount
-    stack owner close branchOf loop nestingBroken killerEmpty exitMisplaced thirteenthOpen nestingFault firstFaulty nested afterRows afterItems readDiagram
+    stack owner close branchOf loop nestingBroken killerEmpty exitMisplaced thirteenthOpen nestingFault firstFaulty spendsNoTime unlessRow nested afterRows afterItems readDiagram
     placeOf stateWords stateOf enteredRow endsKiller killed entered branchEntries freshWords moveOf lowestItem wordsOutcome moveWords
     setpointsAt setpoints logFault made stateFrom playedFrom isStart startsFrom fallIn busiestFrom startsOf logStarts
     fileOf questions answered startsHold

@@ -1,4 +1,4 @@
--- Document 02, CR 2 and CR 3: closed examples of one diagram, and files that are turned away (document 02 gives none). Assumes nothing.
+-- Document 02, CR 2 to CR 4: closed examples of one diagram, and files that are turned away (document 02 gives none). Assumes nothing.
 use Prim.Native.Nat.{ℕ}
 use mathlib.Core.Bool.{Bool, false, _&&_}
 use mathlib.Core.List.{List, [], _∷_, _++_}
@@ -64,6 +64,15 @@ requests =
       diagramAfter = 0 ∷ 0 ∷ 0 ∷ 0 ∷ 0 ∷ 0 ∷ 0 ∷ 0 ∷ 0 ∷ 0 ∷ 0 ∷ 0 ∷ 0 ∷ 0 ∷ 0 ∷ 0 ∷ 0 ∷ 0 ∷ 1 ∷ 0 ∷ 0 ∷ 0 ∷ 1 ∷ [];
       netAfter = 0 ∷ 0 ∷ 0 ∷ 0 ∷ 0 ∷ 0 ∷ 0 ∷ 0 ∷ 0 ∷ 0 ∷ 0 ∷ 0 ∷ 0 ∷ 0 ∷ 0 ∷ 0 ∷ 0 ∷ 0 ∷ 1 ∷ 0 ∷ 0 ∷ 0 ∷ 1 ∷ 0 ∷ 0 ∷ 0 ∷ 0 ∷ 0 ∷ 0 ∷ [];
     }
+    -- CR 4: a FUNCTION of α 2 in the inner one of two LPs is in both
+    ∷ record {
+      file = fileOf (head 6 0 ++ row 24 ++ row 24 ++ function 2 5 ++ row 25 ++ row 25 ++ row 27);
+      fileLength = 38;
+      netLength = 272;
+      offers = step 0 yes yes ∷ step 1 yes yes ∷ step 2 yes yes ∷ step 2 (refused 24 2) (refused 24 2) ∷ wait 2 yes ∷ step 2 yes yes ∷ step 3 yes yes ∷ step 1 yes yes ∷ [];
+      diagramAfter = 0 ∷ 0 ∷ 0 ∷ 0 ∷ 0 ∷ 0 ∷ 1 ∷ 0 ∷ 0 ∷ 0 ∷ 0 ∷ 0 ∷ 0 ∷ 0 ∷ 0 ∷ 0 ∷ 0 ∷ 0 ∷ [];
+      netAfter = 0 ∷ 0 ∷ 0 ∷ 0 ∷ 0 ∷ 0 ∷ 1 ∷ 0 ∷ 0 ∷ 0 ∷ 0 ∷ 0 ∷ 0 ∷ 0 ∷ 0 ∷ 0 ∷ 0 ∷ 0 ∷ 0 ∷ 0 ∷ 0 ∷ 0 ∷ 0 ∷ 0 ∷ [];
+    }
     ∷ []
 
 -- refused, with this number and value
@@ -74,7 +83,13 @@ turnsAway (refused n v) number value = eqb n number && eqb v value
 unfoldable pub refusals : Bool
 refusals = turnsAway (readDiagram (fileOf (head 2 1 ++ (6 ∷ 3 ∷ 0 ∷ []) ++ (14 ∷ 16 ∷ 0 ∷ 1 ∷ 0 ∷ 2 ∷ 0 ∷ []) ++ row 27))) 43 16
     && (turnsAway (readDiagram (fileOf (head 5 0 ++ row 17 ++ row 28 ++ row 18 ++ row 19 ++ row 27))) 44 1
-    && (turnsAway (readDiagram (fileOf (head 6 0 ++ row 20 ++ row 28 ++ function 0 1 ++ row 18 ++ row 21 ++ row 27))) 7 1))
+    && (turnsAway (readDiagram (fileOf (head 6 0 ++ row 20 ++ row 28 ++ function 0 1 ++ row 18 ++ row 21 ++ row 27))) 7 1
+    -- CR 4: an empty LP; an LP whose only FUNCTION has α 0; the inner one of two, with a FUNCTION of α 1 behind it; the lower of two; behind the walk
+    && (turnsAway (readDiagram (fileOf (head 3 0 ++ row 24 ++ row 25 ++ row 27))) 45 0
+    && (turnsAway (readDiagram (fileOf (head 5 0 ++ function 3 3 ++ row 24 ++ function 0 3 ++ row 25 ++ row 27))) 45 1
+    && (turnsAway (readDiagram (fileOf (head 7 0 ++ row 24 ++ row 24 ++ function 0 1 ++ row 25 ++ function 1 1 ++ row 25 ++ row 27))) 45 1
+    && (turnsAway (readDiagram (fileOf (head 6 0 ++ row 24 ++ row 24 ++ row 25 ++ row 25 ++ function 1 1 ++ row 27))) 45 0
+    && turnsAway (readDiagram (fileOf (head 4 0 ++ row 24 ++ row 25 ++ row 25 ++ row 27))) 7 2))))))
 
 unfoldable pub requestsHold : Bool
 requestsHold = allHold requests && refusals

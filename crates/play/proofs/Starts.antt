@@ -18,7 +18,7 @@ use Rattle.effbd.specs.Firing.{netWordCount, wordsOf, freshNetWords, freshNet}
 use Rattle.effbd.specs.Patterns.{netOf}
 use Rattle.effbd.specs.History.{Seen, freshEnds, netFileOf}
 use Rattle.ranges.specs.Tests.{decide}
-use Rattle.bus.specs.Demand.{demand-3}
+use Rattle.play.specs.Demand.{demand-3}
 use Rattle.calls.specs.CallList.{callsOf, listAfter}
 use Rattle.ends.specs.ReadyEnds.{netLength, NetOf}
 use Rattle.calls.specs.LiveEnds.{Live, AllCalled}

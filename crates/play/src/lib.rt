@@ -27,7 +27,7 @@ fn start(
 ) -> Counts
     ensures { λ r. ⌜ AllCalled (now (file .entry)) (now (net .entry)) station (record { leader = now (leader .entry); sent = 0; follower = afterwards (now (follower .entry)) (freshNet (now (net .entry)) (now (follower .entry))); taken = 0 }) (now (calls .entry)) (now (leader .exit)) (now (follower .exit)) (now (calls .exit)) (r .sent) (r .taken) ⌝ }
 {
-    net_step::fresh(net, follower);
+    net_fresh::fresh(net, follower);
     calls::make_calls(file, net, leader, follower, station, calls)
 }
 

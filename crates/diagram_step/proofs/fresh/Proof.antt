@@ -1,5 +1,6 @@
 use Rattle.diagram_step.proofs.Plants.{plain-room, plain-placed}
-use Rattle.diagram_step.proofs.Answered.{fresh-turned, answered-as}
+use Rattle.diagram_step.proofs.Answered.{fresh-turned}
+use Rattle.table_move.proofs.Answered.{answered-as}
 use borrow.Author.Needs.{needs}
 use Rattle.diagram_step.proofs.fresh.Statement.{statement}
 use Rattle.diagram_step.proofs.fresh.Tie as tie

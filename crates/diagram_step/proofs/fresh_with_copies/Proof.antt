@@ -1,5 +1,5 @@
 use Rattle.diagram_step.proofs.Plants.{wide-room, wide-placed}
-use Rattle.diagram_step.proofs.Answered.{answered-as}
+use Rattle.table_move.proofs.Answered.{answered-as}
 use Rattle.agreement.specs.ByteLaws.{bytes-are}
 use native.Mathlib.Omega.{arith}
 use mathlib.Core.Path.{refl, sym}

@@ -1,6 +1,6 @@
 use Rattle.effbd.specs.Answers.{accepted}
 use Rattle.diagram_moves.specs.Changes.{freshPlaced}
-use Rattle.diagram_step.proofs.Answered.{told-accepted, told-refused}
+use Rattle.table_move.proofs.Answered.{told-accepted, told-refused}
 use borrow.Author.Tests.{eq-eqb, ne-eqb}
 use native.Mathlib.Nat.{sub-zero}
 use mathlib.Core.Path.{sym, ap}

@@ -1,5 +1,6 @@
 use Rattle.diagram_step.proofs.Plants.{plain-table}
-use Rattle.diagram_step.proofs.Answered.{answered-as, step-turned}
+use Rattle.diagram_step.proofs.Answered.{step-turned}
+use Rattle.table_move.proofs.Answered.{answered-as}
 use Rattle.diagram_moves.specs.FileMoves.{step-is}
 use Rattle.agreement.specs.ByteLaws.{bytes-are}
 use native.Mathlib.Omega.{arith}

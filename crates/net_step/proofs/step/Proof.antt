@@ -1,4 +1,5 @@
-use Rattle.net_step.proofs.Calls.{read-of, step-refused, step-length, step-moves}
+use Rattle.net_step.proofs.Calls.{step-refused, step-length, step-moves}
+use Rattle.net_file.proofs.Answers.{read-of}
 use Rattle.net_walk.proofs.Effects.{Words}
 use Rattle.effbd.specs.Answers.{said, returningZero, afterwards}
 use mathlib.Core.Path.{ap, sym, _∙_}

@@ -1,4 +1,0 @@
-pub mod Written
-pub mod Judged
-pub mod Ends
-pub mod Withheld

@@ -1,2 +1,0 @@
-pub mod Telegrams
-pub mod Demand

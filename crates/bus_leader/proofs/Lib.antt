@@ -1,0 +1,3 @@
+pub mod Written
+mod Offered
+mod Withheld

@@ -1,2 +1,0 @@
-pub mod CountsChanged
-mod BranchWalks

@@ -1,0 +1,4 @@
+mod Fields
+mod RecordsRead
+mod Laid
+pub mod Files

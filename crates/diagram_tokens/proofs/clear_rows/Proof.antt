@@ -1,0 +1,34 @@
+use Rattle.diagram_moves.specs.Changes.{rowsCleared}
+use borrow.Author.Needs.{needs}
+use Rattle.diagram_tokens.proofs.clear_rows.Statement.{statement}
+use Rattle.diagram_tokens.proofs.clear_rows.Tie as tie
+
+mul-clear-words : tie.Need-mul-clear-words
+mul-clear-words c = search needs
+
+add-clear-words : tie.Need-add-clear-words
+add-clear-words c = search needs
+
+mul-clear-words-2 : tie.Need-mul-clear-words-2
+mul-clear-words-2 c = search needs
+
+clear-words-requires : tie.Need-clear-words-requires
+clear-words-requires c κs = search needs
+
+same-length : tie.Need-same-length
+same-length c = search needs
+
+returns : tie.Need-returns
+unfolding rowsCleared
+returns c = c .before .before .clear-words .ensures
+
+pub clear-rows-spec : {M : Type 1} → statement M
+clear-rows-spec =
+    tie.close
+    (tie.spec
+    mul-clear-words
+    add-clear-words
+    mul-clear-words-2
+    clear-words-requires
+    same-length
+    returns)
