@@ -2,6 +2,7 @@
  * begin with `old_` (tests/old-plants.sh). Of each call the least of many rounds, the two libraries in turn, in nanoseconds. */
 #include <stdint.h>
 #include <stdio.h>
+#include <stdlib.h>
 #include <string.h>
 #include <time.h>
 
@@ -15,7 +16,7 @@ uint64_t old_tpn_read(const uint8_t *, size_t);
 uint64_t old_tpn_fresh(const uint8_t *, size_t, uint16_t *, size_t);
 uint64_t old_tpn_step(const uint8_t *, size_t, uint16_t *, size_t, uint16_t, uint16_t);
 
-enum { ROUNDS = 100, CALLS = 200, FUNCTION = 16, AND_OPEN = 17, BRANCH = 18, AND_CLOSE = 19, END = 27 };
+enum { ROUNDS = 100, CALLS = 200, FUNCTION = 16, AND_OPEN = 17, BRANCH = 18, AND_CLOSE = 19, LP_OPEN = 24, LP_CLOSE = 25, END = 27 };
 
 /* A plant, its fresh states, and its net by the old library. */
 static uint8_t file[8192], net[EFFBD_NET_ROOM], area[EFFBD_NET_ROOM];
@@ -55,6 +56,16 @@ static void branches(int count) {
     row(AND_OPEN);
     for (int number = 0; number < count; number++) row(BRANCH), function(2);
     row(AND_CLOSE);
+    row(END);
+    first_step = 0;
+}
+
+/* So many LPs, one in the other, around so many FUNCTIONs that use two items. */
+static void loops(int count, int functions) {
+    head(2 * count + functions + 1, 2);
+    for (int number = 0; number < count; number++) row(LP_OPEN);
+    for (int number = 0; number < functions; number++) function(2);
+    for (int number = 0; number < count; number++) row(LP_CLOSE);
     row(END);
     first_step = 0;
 }
@@ -117,6 +128,8 @@ static uint64_t step_net(int old) {
 
 static void compare_plant(const char *plant) {
     state_count = effbd_value(old_effbd_read(file, file_count));
+    /* A plant that only one of them accepts says nothing. */
+    if (effbd_read(file, file_count) != old_effbd_read(file, file_count)) fprintf(stderr, "%s: read otherwise\n", plant), exit(1);
     if (old_effbd_fresh(file, file_count, fresh, state_count) != 0) fprintf(stderr, "%s: refused\n", plant);
     net_count = effbd_value(old_effbd_translate(file, file_count, net, sizeof net));
     net_state_count = effbd_value(old_tpn_read(net, net_count));
@@ -139,5 +152,7 @@ int main(void) {
     chain(64, 16), compare_plant("64 x 16");
     branches(14), compare_plant("AND of 14");
     branches(30), compare_plant("AND of 30");
+    loops(3, 4), compare_plant("3 loops");
+    loops(12, 39), compare_plant("12 loops");
     return sink == 1;
 }

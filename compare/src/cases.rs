@@ -1,7 +1,7 @@
 //! One case of each kind, made from random numbers.
 
 use crate::calls::{self, equal, hex, End};
-use crate::met::Met;
+use crate::met::{Met, Sight};
 use crate::Verdict;
 use model::bus::Telegram;
 use model::diagram::{Row, MOST_ROWS};
@@ -9,11 +9,13 @@ use model::diagram_step::{fresh_state, moved, STEP};
 use model::generate::{
     accepted_log, bus_list, crowded_diagram, damaged_diagram, damaged_log, damaged_net, diagram,
     foreign_net, killing_diagram, lasting_diagram, lasting_killing_diagram,
-    lasting_trigger_diagram, net_state, odd_state, passing_state, round_log, walk, Random,
+    lasting_trigger_diagram, looping_diagram, net_state, odd_state, passing_state, round_log,
+    timeless_diagram, walk, Random,
 };
 use model::history::{moves_to_try, Call, History};
 use model::kills::{has_kills, kill_by};
 use model::logs::{Log, MOST_MOVES};
+use model::refusal::LOOP_SPENDS_NO_TIME;
 use model::translate::net_of;
 
 /// A kind of case.
@@ -43,15 +45,17 @@ fn plant(random: &mut Random) -> Vec<u8> {
     match random.below(100) {
         0 => crowded_diagram(random),
         1..=15 => killing_diagram(random),
+        16..=20 => looping_diagram(random),
         _ => diagram(random),
     }
 }
 
-/// A file: accepted, damaged, or any bytes.
+/// A file: accepted, with loops that may spend no time, damaged, or any bytes.
 fn any_diagram(random: &mut Random) -> Vec<u8> {
-    match random.below(8) {
+    match random.below(10) {
         0..=3 => plant(random),
-        4..=6 => damaged_diagram(random),
+        4 | 5 => timeless_diagram(random),
+        6..=8 => damaged_diagram(random),
         _ => {
             let length = random.below(200);
             random.bytes(length)
@@ -61,10 +65,10 @@ fn any_diagram(random: &mut Random) -> Vec<u8> {
 
 /// A file that is mostly accepted.
 fn likely_diagram(random: &mut Random) -> Vec<u8> {
-    if random.chance(90) {
-        plant(random)
-    } else {
-        any_diagram(random)
+    match random.below(20) {
+        0 | 1 => any_diagram(random),
+        2 => timeless_diagram(random),
+        _ => plant(random),
     }
 }
 
@@ -122,10 +126,10 @@ fn any_length(random: &mut Random, right: usize) -> usize {
 
 fn diagram_file(random: &mut Random, met: &mut Met) -> Verdict {
     let file = any_diagram(random);
+    note_sights(met, "read and translate", &file, kills_of(&file));
     calls::read_diagram(met, &file)?;
     let needed = net_of(&file).map_or(20, |net| net.len());
     let length = any_net_area_length(random, needed);
-    met.note_kills("translate", kills_of(&file));
     calls::translate(met, &file, &any_area(random, length))?;
     let words = model::diagram::read(&file).unwrap_or(7) as usize;
     let length = any_length(random, words);
@@ -135,7 +139,7 @@ fn diagram_file(random: &mut Random, met: &mut Met) -> Verdict {
 /// Any area for the net, and one for the text that is near the text's length or far from it.
 fn annex_text(random: &mut Random, met: &mut Met) -> Verdict {
     let file = any_diagram(random);
-    met.note_kills("annex", kills_of(&file));
+    note_sights(met, "annex", &file, kills_of(&file));
     let needed = net_of(&file).map_or(20, |net| net.len());
     let length = any_net_area_length(random, needed);
     let net = any_area(random, length);
@@ -151,7 +155,7 @@ fn uses_of_rows(random: &mut Random, met: &mut Met) -> Verdict {
     } else {
         any_diagram(random)
     };
-    met.note_kills("uses", kills_of(&file));
+    note_sights(met, "uses", &file, kills_of(&file));
     let rows = model::diagram::parse(&file).map_or(8, |diagram| diagram.rows.len() as u16);
     for row in (0..rows + 2).chain([63, 64, 65, 65_535, random.word()]) {
         calls::uses(&file, row)?;
@@ -194,6 +198,18 @@ fn kills_of(file: &[u8]) -> usize {
     usize::from(kills)
 }
 
+/// 1 for a file that is refused for a loop that spends no time.
+fn timeless_of(file: &[u8]) -> usize {
+    let is_timeless = |refused: model::Refusal| refused.number == LOOP_SPENDS_NO_TIME;
+    usize::from(model::diagram::parse(file).is_err_and(is_timeless))
+}
+
+/// Notes what a call that reads this file meets.
+fn note_sights(met: &mut Met, call: &'static str, file: &[u8], kills: usize) {
+    met.note_sight(Sight::Kills, call, kills);
+    met.note_sight(Sight::TimelessLoop, call, timeless_of(file));
+}
+
 /// How many of these moves are accepted at a state and kill.
 fn kills_among(file: &[u8], state: &[u16], moves: &[(u16, u16)]) -> usize {
     let Ok(diagram) = model::diagram::parse(file) else {
@@ -219,7 +235,8 @@ fn diagram_steps(random: &mut Random, met: &mut Met) -> Verdict {
     let file = likely_diagram(random);
     let state = any_state(random, &file);
     let moves = moves(random, &file, &state);
-    met.note_kills("diagram step", kills_among(&file, &state, &moves));
+    let kills = kills_among(&file, &state, &moves);
+    note_sights(met, "diagram step", &file, kills);
     for (code, argument) in moves {
         calls::step_diagram(met, &file, &state, code, argument)?;
     }
@@ -264,7 +281,8 @@ fn plant_net_steps(random: &mut Random, met: &mut Met) -> Verdict {
     let state = any_state(random, &file);
     let marks = model::image::image(&file, &state).unwrap_or_default();
     let moves = moves(random, &file, &state);
-    met.note_kills("net step", kills_among(&file, &state, &moves));
+    let kills = kills_among(&file, &state, &moves);
+    met.note_sight(Sight::Kills, "net step", kills);
     for (code, argument) in moves {
         calls::step_net(met, &net, &marks, code, argument)?;
     }
@@ -323,7 +341,8 @@ fn bus_ends(random: &mut Random, met: &mut Met) -> Verdict {
     };
     let marks = model::image::image(&file, &state).unwrap_or_default();
     let moves = moves(random, &file, &state);
-    met.note_kills("offer and take", kills_among(&file, &state, &moves));
+    let kills = kills_among(&file, &state, &moves);
+    note_sights(met, "offer and take", &file, kills);
     for made in moves {
         let end = End {
             count: any_count(random),
@@ -416,7 +435,7 @@ fn play(met: &mut Met, file: &[u8], station: u16, list: &[Call]) -> Verdict {
     let history = model::history::history(file, station, list).map_err(refused)?;
     for (state, telegram) in history.states.iter().zip(&history.telegrams) {
         let made = (telegram.code, telegram.argument);
-        met.note_kills("list", kills_among(file, state, &[made]));
+        met.note_sight(Sight::Kills, "list", kills_among(file, state, &[made]));
     }
     let due = areas_due(list, &history);
     equal("accepted and taken, call by call", &history.counted, &seen)?;
@@ -437,7 +456,7 @@ fn logging_diagram(random: &mut Random) -> Vec<u8> {
     let row_count = match random.below(10) {
         0..=5 => 4 + random.below(12),
         6 => 4 + random.below(61),
-        7..=8 => return plant(random),
+        7..=8 => return likely_diagram(random),
         _ => return any_diagram(random),
     };
     match random.below(8) {
@@ -531,7 +550,7 @@ fn starts_in_logs(random: &mut Random, met: &mut Met) -> Verdict {
         let log = any_log(random, &file);
         (file, log)
     };
-    met.note_kills("log", kills_in_log(&file, &log));
+    note_sights(met, "log", &file, kills_in_log(&file, &log));
     for row in rows_to_ask(random, &file) {
         calls::log_starts(met, &file, &log, row, random.draw() as u32)?;
     }

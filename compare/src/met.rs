@@ -1,4 +1,4 @@
-//! Which answers a run has met, held against the list of refusals, and which calls have met kills.
+//! Which answers a run has met, held against the list of refusals, and which calls have met kills and loops that spend no time.
 
 use effbd::Answer;
 use std::collections::BTreeMap;
@@ -15,11 +15,20 @@ pub fn listed() -> impl Iterator<Item = (u32, &'static str)> {
     })
 }
 
-/// How often each number was answered; 0 is accepted. How often each call met a kill.
+/// What each call should meet in a run of some length, whatever else it meets.
+#[derive(Clone, Copy, PartialEq, Eq, PartialOrd, Ord, Debug)]
+pub enum Sight {
+    /// A plant with branches that kill, or a move that kills.
+    Kills,
+    /// A file that is refused for a loop that spends no time.
+    TimelessLoop,
+}
+
+/// How often each number was answered; 0 is accepted. How often each call met each sight.
 #[derive(Default)]
 pub struct Met {
     times: BTreeMap<u32, u64>,
-    kills: BTreeMap<&'static str, u64>,
+    sights: BTreeMap<(Sight, &'static str), u64>,
 }
 
 impl Met {
@@ -44,20 +53,20 @@ impl Met {
             .collect()
     }
 
-    /// Notes how many kills a call met, be it none.
-    pub fn note_kills(&mut self, call: &'static str, kills: usize) {
-        *self.kills.entry(call).or_default() += kills as u64;
+    /// Notes how often a call met a sight, be it never.
+    pub fn note_sight(&mut self, sight: Sight, call: &'static str, times: usize) {
+        *self.sights.entry((sight, call)).or_default() += times as u64;
     }
 
-    /// How often each call met a kill; in a run of some length each should.
-    pub fn kills(&self) -> &BTreeMap<&'static str, u64> {
-        &self.kills
+    /// How often each call met each sight.
+    pub fn sights(&self) -> &BTreeMap<(Sight, &'static str), u64> {
+        &self.sights
     }
 
-    /// The calls that never met one.
-    pub fn without_kills(&self) -> Vec<&'static str> {
-        let never = self.kills.iter().filter(|(_, times)| **times == 0);
-        never.map(|(call, _)| *call).collect()
+    /// The sights that a call never met.
+    pub fn unseen(&self) -> Vec<(Sight, &'static str)> {
+        let never = self.sights.iter().filter(|(_, times)| **times == 0);
+        never.map(|(sight, _)| *sight).collect()
     }
 
     /// The refusal that came least often: times, number, name.

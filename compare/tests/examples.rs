@@ -166,7 +166,7 @@ fn sixty_four_rows_and_no_more() {
 
 #[test]
 fn twelve_open_and_no_more() {
-    compare_file(&examples::many_open(12), Ok(75));
+    compare_file(&examples::many_open(12), Ok(78));
     compare_file(&examples::many_open(13), refused(9, 12));
 }
 

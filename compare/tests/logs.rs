@@ -1,12 +1,12 @@
 //! Request 1 of document 02 at its edges, through the proved function: an hour's last tick, starts at one tick, equal hours, the longest log.
 
 use effbd::{log_starts, most_starts, refusal, Refusal, Starts, MOST_LOG_MOVES, SETPOINT_LENGTH};
-use model::examples::{again, log_of_rounds, log_of_starts, AGAIN_ROW};
+use model::examples::{again, log_of_rounds, log_of_starts, rounds, AGAIN_ROW, ROUNDS_ROW};
 
-/// What the model says of a log of `again`.
-fn by_model(log: &[u8]) -> Starts {
+/// What the model says of a row of a log.
+fn by_model(file: &[u8], log: &[u8], row: u16) -> Starts {
     let mut at = 0;
-    let most = model::logs::log_starts(&again(), log, AGAIN_ROW, &mut at).expect("an accepted log");
+    let most = model::logs::log_starts(file, log, row, &mut at).expect("an accepted log");
     Starts { most, at }
 }
 
@@ -26,7 +26,7 @@ fn hours_at_their_edges() {
         (&[0, 40_000, 40_001, 65_000, 65_001], 4, 40_000),
     ];
     for (times, most, at) in expected {
-        let found = most_starts(&again(), &log_of_starts(times), AGAIN_ROW);
+        let found = most_starts(&rounds(), &log_of_starts(times), ROUNDS_ROW);
         assert_eq!(found, Ok(Starts { most, at }), "{times:?}");
     }
 }
@@ -56,26 +56,28 @@ fn gaps_of_every_size() {
     for gap in (1..=600).chain(near_an_hour).chain([u16::MAX]) {
         let log = log_of_rounds(gap, 200);
         let found = most_starts(&again(), &log, AGAIN_ROW);
-        assert_eq!(found, Ok(by_model(&log)), "rounds of {gap}");
+        let expected = by_model(&again(), &log, AGAIN_ROW);
+        assert_eq!(found, Ok(expected), "rounds of {gap}");
     }
     // Gaps of one byte and of two, one after another.
     let times: Vec<u16> = (0..500)
         .map(|start| start / 3 * 255 + start % 3 / 2)
         .collect();
     let log = log_of_starts(&times);
-    let found = most_starts(&again(), &log, AGAIN_ROW);
-    assert_eq!(found, Ok(by_model(&log)));
+    let found = most_starts(&rounds(), &log, ROUNDS_ROW);
+    assert_eq!(found, Ok(by_model(&rounds(), &log, ROUNDS_ROW)));
 }
 
 #[test]
 fn as_many_starts_as_a_log_has_room_for() {
-    let at_one_tick = log_of_starts(&[0; 16_383]);
-    let found = most_starts(&again(), &at_one_tick, AGAIN_ROW);
-    let (most, at) = (16_383, 0);
+    let at_one_tick = log_of_starts(&[0; 16_336]);
+    let found = most_starts(&rounds(), &at_one_tick, ROUNDS_ROW);
+    let (most, at) = (16_336, 0);
     assert_eq!(found, Ok(Starts { most, at }));
     for ticks in [1, 2, 3, 40] {
         let log = log_of_rounds(ticks, MOST_LOG_MOVES);
         let found = most_starts(&again(), &log, AGAIN_ROW);
-        assert_eq!(found, Ok(by_model(&log)), "a tick or more a round: {ticks}");
+        let expected = by_model(&again(), &log, AGAIN_ROW);
+        assert_eq!(found, Ok(expected), "a tick or more a round: {ticks}");
     }
 }

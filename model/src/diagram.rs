@@ -1,6 +1,6 @@
 //! Diagram files: "Diagram records" (refusals 1 to 6) and "Nesting" (7 to 9);
-//! document 02's requests 2, "Triggers reach everyone" (43), and 3, "Branches
-//! that kill" (44).
+//! document 02's requests 2, "Triggers reach everyone" (43), 3, "Branches that
+//! kill" (44), and 4, "Loops that spend no time" (45).
 
 use crate::records::{
     record, word, Reader, Record, AND_CLOSE, AND_OPEN, BRANCH, END, FUNCTION, HEAD, ITEM, IT_CLOSE,
@@ -8,7 +8,7 @@ use crate::records::{
 };
 use crate::refusal::{
     refusal, Answer, Refusal, FIELD_OFF, HEAD_VALUE_OFF, KILLING_BRANCH_EMPTY, LOOP_EXIT_MISPLACED,
-    NESTING_BROKEN, TOO_MANY_OPEN, TRIGGER_OFF,
+    LOOP_SPENDS_NO_TIME, NESTING_BROKEN, TOO_MANY_OPEN, TRIGGER_OFF,
 };
 use std::ops::{Range, RangeInclusive};
 
@@ -270,7 +270,8 @@ pub fn uses_place(file: &[u8], row: u16) -> (usize, usize) {
     (part.as_ptr().addr() - file.as_ptr().addr(), part.len())
 }
 
-/// Head, items, rows, nothing behind them; then the nesting of the rows.
+/// Head, items, rows, nothing behind them; then the nesting of the rows; then
+/// the loops' time.
 pub fn parse(file: &[u8]) -> Result<Diagram<'_>, Refusal> {
     let mut reader = Reader::new(file);
     let head = reader.due(|kind| kind == HEAD, 0)?;
@@ -293,6 +294,9 @@ pub fn parse(file: &[u8]) -> Result<Diagram<'_>, Refusal> {
         return Err(reader.refuse_more());
     }
     let (rows, constructs) = nest(&records)?;
+    if let Some(timeless) = timeless_loop(&rows, &constructs) {
+        return Err(refusal(LOOP_SPENDS_NO_TIME, timeless.open));
+    }
     let mut diagram = Diagram {
         items,
         rows,
@@ -509,6 +513,19 @@ impl Nesting {
         let is_loop = |index: &&usize| self.constructs[**index].kind == LP_OPEN;
         self.still_open().iter().rev().find(is_loop).copied()
     }
+}
+
+/// The lowest "LP with no FUNCTION of α at least 1 between open and close", at
+/// any depth.
+fn timeless_loop<'a>(rows: &[Row], constructs: &'a [Construct]) -> Option<&'a Construct> {
+    let mut loops = constructs
+        .iter()
+        .filter(|construct| construct.kind == LP_OPEN);
+    loops.find(|lp| !rows[lp.inside()].iter().any(spends_time))
+}
+
+fn spends_time(row: &Row) -> bool {
+    matches!(row, Row::Function(function) if function.alpha >= 1)
 }
 
 /// A row that kills counts "as a next row as any BRANCH".

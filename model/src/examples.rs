@@ -1,7 +1,7 @@
 //! The diagrams of "Plant-room examples". C and D run A; I runs B's net. Then
 //! plants for the requests of document 02, with logs.
 
-use crate::diagram::{file, file_of, function_record, MOST_ITEMS, MOST_ROWS};
+use crate::diagram::{file, file_of, function_record, MOST_ITEMS, MOST_OPEN, MOST_ROWS};
 use crate::diagram_step::{STEP, WAIT};
 use crate::logs::log;
 use crate::records::{
@@ -23,6 +23,24 @@ pub fn rows_with(kinds: &[u16], function: &[u8], count: u16) -> Vec<Vec<u8>> {
         kind => record(kind, &[]),
     };
     kinds.iter().map(with_fields).collect()
+}
+
+/// A FUNCTION that spends no time, as a kind of row of `nested`.
+pub const TIMELESS: u16 = 100 + FUNCTION;
+
+/// A file of these kinds of rows: ITs of count 2, FUNCTIONs of 1 to 2 ticks,
+/// timeless ones of 0 to 1.
+pub fn nested(kinds: &[u16]) -> Vec<u8> {
+    let mut rows = Vec::new();
+    for kind in kinds {
+        let (kind, alpha) = match *kind {
+            TIMELESS => (FUNCTION, 0),
+            kind => (kind, 1),
+        };
+        let function = function_record(alpha, alpha + 1, &[]);
+        rows.extend(rows_with(&[kind], &function, 2));
+    }
+    file(&[], &rows)
 }
 
 /// "FUNCTION α 2, β 5 taking 1 of item 0; END", with this initial count.
@@ -72,12 +90,18 @@ pub fn many_rows(count: usize) -> Vec<u8> {
     file(&[], &many)
 }
 
-/// "12 and 13 open": this many LP one in the other.
+/// "12 and 13 open": this many LP one in the other, a FUNCTION in the innermost.
 pub fn many_open(count: usize) -> Vec<u8> {
-    let mut kinds = vec![LP_OPEN; count];
-    kinds.extend(vec![LP_CLOSE; count]);
-    kinds.push(END);
-    file(&[], &rows(&kinds))
+    file(&[], &in_loops(count, &[function_record(1, 9, &[])]))
+}
+
+/// Rows in this many LP one in the other, so that they go on for ever, and END.
+fn in_loops(count: usize, inside: &[Vec<u8>]) -> Vec<Vec<u8>> {
+    let mut looped = rows(&vec![LP_OPEN; count]);
+    looped.extend_from_slice(inside);
+    looped.extend(rows(&vec![LP_CLOSE; count]));
+    looped.push(record(END, &[]));
+    looped
 }
 
 /// "An item at 65,534 and 65,535 given 1."
@@ -154,9 +178,7 @@ pub fn receiver_rows(triggers: usize, receivers: usize) -> Vec<Vec<u8>> {
 
 /// The same in an LP, so that it goes on for ever.
 pub fn triggers_again(triggers: usize, receivers: usize) -> Vec<u8> {
-    let mut again = rows(&[LP_OPEN]);
-    again.extend(receiver_rows(triggers, receivers));
-    again.extend(rows(&[LP_CLOSE, END]));
+    let again = in_loops(1, &receiver_rows(triggers, receivers));
     file_of(&vec![record(TRIGGER, &[1]); triggers], &again)
 }
 
@@ -266,8 +288,7 @@ pub fn trip_in_trip() -> Vec<u8> {
 
 /// Rows in an LP, so that they go on for ever.
 fn again_and_again(inside: &[u16]) -> Vec<u8> {
-    let kinds = [&[LP_OPEN], inside, &[LP_CLOSE, END]].concat();
-    file(&[], &trip_rows(&kinds))
+    file(&[], &in_loops(1, &trip_rows(inside)))
 }
 
 /// An AND of so many branches, again and again: every other one is a FUNCTION
@@ -301,28 +322,68 @@ pub fn deep_trips_again(depth: usize) -> Vec<u8> {
     again_and_again(&kinds)
 }
 
-/// LP, FUNCTION of any number of ticks, LP close, END: it runs again and again.
+/// LP, a FUNCTION of this α that may last, LP close, END: "an LP with no FUNCTION
+/// of α at least 1" if it is 0.
+pub fn loop_of_alpha(alpha: u16) -> Vec<u8> {
+    file(&[], &in_loops(1, &[function_record(alpha, u16::MAX, &[])]))
+}
+
+/// "A drawing let the panel spin in a loop between two ticks", row 1: FUNCTIONs
+/// spend time right before its open and right behind its close, none between.
+pub fn spinning_panel() -> Vec<u8> {
+    let mut panel = in_loops(1, &[function_record(0, u16::MAX, &[])]);
+    let spends_time = function_record(1, 9, &[]);
+    panel.insert(0, spends_time.clone());
+    panel.insert(panel.len() - 1, spends_time);
+    file(&[], &panel)
+}
+
+/// As many LP one in the other as may be open, in as many rows as there may be:
+/// of the FUNCTIONs in the innermost one only the last spends time.
+pub fn deep_loops() -> Vec<u8> {
+    let functions = MOST_ROWS - 2 * MOST_OPEN - 1;
+    let mut inside = vec![function_record(0, 9, &[]); functions - 1];
+    inside.push(function_record(1, 9, &[]));
+    file(&[], &in_loops(MOST_OPEN, &inside))
+}
+
+/// A FUNCTION of a tick or more that runs again and again.
 pub fn again() -> Vec<u8> {
-    let mut again = rows(&[LP_OPEN]);
-    again.push(function_record(0, u16::MAX, &[]));
-    again.extend(rows(&[LP_CLOSE, END]));
-    file(&[], &again)
+    loop_of_alpha(1)
 }
 
 /// The FUNCTION of `again`.
 pub const AGAIN_ROW: u16 = 1;
 
-/// A log of `again` whose FUNCTION starts at these times, the first at 0; it
+/// An IT in an IT, with the most turns that they may have, around a FUNCTION of
+/// any number of ticks: it may run again at the same tick.
+pub fn rounds() -> Vec<u8> {
+    let kinds = [IT_OPEN, IT_OPEN, FUNCTION, IT_CLOSE, IT_CLOSE, END];
+    let function = function_record(0, u16::MAX, &[]);
+    file(&[], &rows_with(&kinds, &function, MOST_TURNS))
+}
+
+/// The FUNCTION of `rounds`.
+pub const ROUNDS_ROW: u16 = 2;
+const MOST_TURNS: u16 = 255;
+
+/// A log of `rounds` whose FUNCTION starts at these times, the first at 0; it
 /// ends at the tick at which it starts again.
 pub fn log_of_starts(times: &[u16]) -> Vec<u8> {
     let mut moves = Vec::new();
     let mut now = 0;
-    for time in times {
-        if !moves.is_empty() {
+    for (number, time) in times.iter().enumerate() {
+        let mut steps = Vec::new();
+        if number > 0 {
             moves.extend((*time > now).then(|| (WAIT, time - now)));
-            moves.extend([(STEP, AGAIN_ROW), (STEP, 2)]);
+            steps.extend([ROUNDS_ROW, 3]);
         }
-        moves.extend([(STEP, 0), (STEP, AGAIN_ROW)]);
+        if number % usize::from(MOST_TURNS) == 0 {
+            // The inner IT has had its turns: the outer one turns.
+            steps.extend(if number > 0 { &[1, 4, 0][..] } else { &[0] });
+        }
+        steps.extend([1, ROUNDS_ROW]);
+        moves.extend(steps.into_iter().map(|row| (STEP, row)));
         now = *time;
     }
     log(&moves)

@@ -6,12 +6,14 @@ mod diagrams;
 mod kills;
 mod lists;
 mod logs;
+mod loops;
 mod nets;
 mod states;
 
 pub use diagrams::{
     crowded_diagram, damaged_diagram, diagram, diagram_up_to, killing_diagram, lasting_diagram,
-    lasting_killing_diagram, lasting_trigger_diagram, plain_diagram_up_to,
+    lasting_killing_diagram, lasting_trigger_diagram, looping_diagram, plain_diagram_up_to,
+    timeless_diagram,
 };
 pub use lists::bus_list;
 pub use logs::{accepted_log, damaged_log, round_log};

@@ -12,6 +12,7 @@
 //! | `bus`, `history` | Bus ends |
 //! | `logs` | 1, Starts in any hour |
 //! | `diagram`, `diagram_step`, `translate` | 2, Triggers reach everyone; 3, Branches that kill |
+//! | `diagram` | 4, Loops that spend no time |
 //! | `examples`, `annex` | Plant-room examples |
 //! | `generate` | random diagrams, nets, states, lists and logs for comparisons |
 //! | `kills` | which moves kill, for comparisons |

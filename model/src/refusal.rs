@@ -47,3 +47,4 @@ pub const NOT_FUNCTION: u32 = 41;
 pub const MOVE_REFUSED: u32 = 42;
 pub const TRIGGER_OFF: u32 = 43;
 pub const KILLING_BRANCH_EMPTY: u32 = 44;
+pub const LOOP_SPENDS_NO_TIME: u32 = 45;

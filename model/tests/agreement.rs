@@ -5,9 +5,9 @@
 mod common;
 
 use common::{fresh, net_of};
-use model::diagram::{function_record, parse, read, Row, ROW_KINDS};
+use model::diagram::{parse, read, Row, ROW_KINDS};
 use model::diagram_step::{self, activity, check, turns};
-use model::examples;
+use model::examples::{self, nested, TIMELESS};
 use model::generate::{self, Random};
 use model::history::{agreement, moves_to_try};
 use model::records::{
@@ -97,17 +97,17 @@ fn at_every_state_of_small_diagrams() {
     }
 }
 
-/// Every accepted nesting of up to 7 rows, FUNCTIONs with [0, 1], IT with
-/// count 2.
+/// Every accepted nesting of up to 7 rows, FUNCTIONs with [1, 2] and [0, 1], IT
+/// with count 2.
 #[test]
 fn every_small_nesting() {
     let mut accepted = 0;
     let mut unfinished: Vec<Vec<u16>> = vec![Vec::new()];
     while let Some(kinds) = unfinished.pop() {
-        for kind in ROW_KINDS {
+        for kind in ROW_KINDS.chain([TIMELESS]) {
             let mut longer = kinds.clone();
             longer.push(kind);
-            let file = of_kinds(&longer);
+            let file = nested(&longer);
             match read(&file) {
                 Ok(_) => {
                     accepted += 1;
@@ -134,74 +134,84 @@ fn may_go_on(kinds: &[u16]) -> bool {
     [FUNCTION, BRANCH, AND_CLOSE, OR_CLOSE].iter().any(|next| {
         let mut longer = kinds.to_vec();
         longer.extend([*next, END]);
-        read(&of_kinds(&longer))
-            .map_or_else(|refused| refused.value as usize >= row_count, |_| true)
+        read(&nested(&longer)).map_or_else(|refused| refused.value as usize >= row_count, |_| true)
     })
-}
-
-fn of_kinds(kinds: &[u16]) -> Vec<u8> {
-    let rows = examples::rows_with(kinds, &function_record(0, 1, &[]), 2);
-    model::diagram::file(&[], &rows)
 }
 
 /// Number of accepted nestings of 1 to `most` rows, counted by a grammar that
 /// knows nothing of the reader.
 fn count_nestings(most: usize) -> usize {
-    (1..=most).map(|rows| count_runs(rows - 1, false)).sum()
+    let outermost = Runs {
+        in_loop: false,
+        timeless: false,
+    };
+    (1..=most).map(|rows| outermost.count(rows - 1)).sum()
 }
 
-/// Runs of exactly this many rows.
-fn count_runs(rows: usize, in_loop: bool) -> usize {
-    if rows == 0 {
-        return 1;
+/// Runs of constructs.
+#[derive(Clone, Copy)]
+struct Runs {
+    in_loop: bool,
+    /// Those without a FUNCTION of α at least 1.
+    timeless: bool,
+}
+
+impl Runs {
+    /// Those of exactly this many rows.
+    fn count(self, rows: usize) -> usize {
+        if rows == 0 {
+            return 1;
+        }
+        (1..=rows)
+            .map(|first| self.count_constructs(first) * self.count(rows - first))
+            .sum()
     }
-    (1..=rows)
-        .map(|first| count_constructs(first, in_loop) * count_runs(rows - first, in_loop))
-        .sum()
-}
 
-fn count_constructs(rows: usize, in_loop: bool) -> usize {
-    let function = usize::from(rows == 1);
-    let it = if rows >= 2 {
-        count_runs(rows - 2, in_loop)
-    } else {
-        0
-    };
-    let lp = if rows >= 2 {
-        count_runs(rows - 2, true)
-    } else {
-        0
-    };
-    let branched = |may_kill| -> usize {
-        if rows < 4 {
+    fn count_constructs(self, rows: usize) -> usize {
+        if rows == 1 {
+            return if self.timeless { 1 } else { 2 };
+        }
+        let branched = |may_kill| -> usize {
+            (2..rows - 1)
+                .map(|branches| self.count_branches(rows - 2, branches, may_kill))
+                .sum()
+        };
+        let it = self.count(rows - 2);
+        it + self.count_loops(rows) + branched(true) + branched(false)
+    }
+
+    /// LPs around any rows but those that spend no time.
+    fn count_loops(self, rows: usize) -> usize {
+        let inside = |timeless| Runs {
+            in_loop: true,
+            timeless,
+        };
+        if self.timeless {
             return 0;
         }
-        (2..=rows - 2)
-            .map(|branches| count_branches(rows - 2, branches, in_loop, may_kill))
-            .sum()
-    };
-    function + it + lp + branched(true) + branched(false)
-}
-
-/// This many branches in this many rows, each a BRANCH, a run and perhaps LE; of
-/// an AND those that are not empty may kill.
-fn count_branches(rows: usize, branches: usize, in_loop: bool, may_kill: bool) -> usize {
-    if branches == 0 {
-        return usize::from(rows == 0);
+        inside(false).count(rows - 2) - inside(true).count(rows - 2)
     }
-    (1..=rows)
-        .map(|first| {
-            let without_exit = count_runs(first - 1, in_loop);
-            let with_exit = if in_loop && first >= 2 {
-                count_runs(first - 2, in_loop)
-            } else {
-                0
-            };
-            let kinds = 1 + usize::from(may_kill && first >= 2);
-            let others = count_branches(rows - first, branches - 1, in_loop, may_kill);
-            kinds * (without_exit + with_exit) * others
-        })
-        .sum()
+
+    /// This many branches in this many rows, each a BRANCH, a run and perhaps LE;
+    /// of an AND those that are not empty may kill.
+    fn count_branches(self, rows: usize, branches: usize, may_kill: bool) -> usize {
+        if branches == 0 {
+            return usize::from(rows == 0);
+        }
+        (1..=rows)
+            .map(|first| {
+                let without_exit = self.count(first - 1);
+                let with_exit = if self.in_loop && first >= 2 {
+                    self.count(first - 2)
+                } else {
+                    0
+                };
+                let kinds = 1 + usize::from(may_kill && first >= 2);
+                let others = self.count_branches(rows - first, branches - 1, may_kill);
+                kinds * (without_exit + with_exit) * others
+            })
+            .sum()
+    }
 }
 
 /// The generated diagrams have all shapes, and walks get through them.

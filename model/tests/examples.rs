@@ -7,8 +7,8 @@ use model::bus::{self, Telegram};
 use model::diagram::{file, function_record};
 use model::diagram_step::{activity, clock, turns, IDLE, READY, RUNNING};
 use model::records::{
-    record, AND_CLOSE, AND_OPEN, BRANCH, END, IT_CLOSE, IT_OPEN, LOOP_EXIT, LP_CLOSE, LP_OPEN,
-    OR_CLOSE, OR_OPEN,
+    record, AND_CLOSE, AND_OPEN, BRANCH, END, FUNCTION, IT_CLOSE, IT_OPEN, LOOP_EXIT, LP_CLOSE,
+    LP_OPEN, OR_CLOSE, OR_OPEN,
 };
 use model::{annex::annex, diagram, diagram_step, examples, net};
 
@@ -240,7 +240,7 @@ fn longest_plain_net() {
 
 #[test]
 fn open_12_and_13() {
-    assert_eq!(diagram::read(&examples::many_open(12)), Ok(75));
+    assert_eq!(diagram::read(&examples::many_open(12)), Ok(78));
     assert_eq!(diagram::read(&examples::many_open(13)), refused(9, 12));
 }
 
@@ -262,17 +262,19 @@ fn loop_exit_restores_r() {
     let mut rows = examples::rows(&[LP_OPEN]);
     rows.push(record(IT_OPEN, &[3]));
     rows.extend(examples::rows(&[
-        OR_OPEN, BRANCH, LOOP_EXIT, BRANCH, OR_CLOSE, IT_CLOSE, LP_CLOSE, END,
+        OR_OPEN, BRANCH, LOOP_EXIT, BRANCH, OR_CLOSE, IT_CLOSE,
     ]));
+    rows.push(function_record(1, 9, &[]));
+    rows.extend(examples::rows(&[LP_CLOSE, END]));
     let mut pair = Pair::new(file(&[], &rows));
     let text = annex(&pair.file);
-    let exit = "t 4 label 4 from 0 to 0\ntake 12 1\nclear 0 26\ngive 5 3\ngive 27 1\n";
+    let exit = "t 4 label 4 from 0 to 0\ntake 12 1\nclear 0 29\ngive 5 3\ngive 30 1\n";
     assert!(text.contains(exit), "{text}");
     for row in [0, 1, 5, 6, 7, 1, 3, 4] {
         assert_eq!(pair.step(row), both(Ok(0)));
     }
     let mut expected = vec![0; pair.net_state.len()];
-    (expected[5], expected[27]) = (3, 1);
+    (expected[5], expected[30]) = (3, 1);
     assert_eq!(pair.net_state, expected);
 }
 
@@ -280,16 +282,18 @@ fn loop_exit_restores_r() {
 #[test]
 fn loop_exit_leaves_the_innermost_loop() {
     let kinds = [
-        LP_OPEN, LP_OPEN, OR_OPEN, BRANCH, LOOP_EXIT, BRANCH, OR_CLOSE, LP_CLOSE, LP_CLOSE, END,
+        LP_OPEN, LP_OPEN, OR_OPEN, BRANCH, LOOP_EXIT, BRANCH, OR_CLOSE, FUNCTION, LP_CLOSE,
+        LP_CLOSE, END,
     ];
-    let mut pair = Pair::new(file(&[], &examples::rows(&kinds)));
+    let rows = examples::rows_with(&kinds, &function_record(1, 9, &[]), 2);
+    let mut pair = Pair::new(file(&[], &rows));
     let text = annex(&pair.file);
-    let exit = "label 4 from 0 to 0\ntake 12 1\nclear 3 23\ngive 24 1\n";
+    let exit = "label 4 from 0 to 0\ntake 12 1\nclear 3 26\ngive 27 1\n";
     assert!(text.contains(exit), "{text}");
     for row in [0, 1, 3, 4] {
         assert_eq!(pair.step(row), both(Ok(0)));
     }
-    assert_eq!(pair.state[activity(8)], READY);
+    assert_eq!(pair.state[activity(9)], READY);
 }
 
 /// "Every row from its LP open to its LP close gets activity, turns and clock
@@ -300,7 +304,7 @@ fn loop_exit_clears_every_row() {
     rows.extend(examples::rows(&[LP_OPEN]));
     rows.push(record(IT_OPEN, &[5]));
     rows.extend(examples::rows(&[AND_OPEN, BRANCH, LOOP_EXIT, BRANCH]));
-    rows.push(function_record(0, 9, &[]));
+    rows.push(function_record(1, 9, &[]));
     rows.extend(examples::rows(&[AND_CLOSE, IT_CLOSE, LP_CLOSE]));
     rows.push(function_record(0, 9, &[]));
     rows.extend(examples::rows(&[END]));

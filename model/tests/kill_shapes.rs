@@ -3,7 +3,7 @@
 
 mod common;
 
-use common::net_of;
+use common::{net_of, records, Shapes};
 use model::diagram::{function_record, parse, read, Construct, Diagram, Row};
 use model::diagram_step::{activity, clock, fresh_state, moved, turns, DONE, READY, RUNNING};
 use model::generate::{self, Random};
@@ -11,31 +11,11 @@ use model::history::{agreement, claim, moves_to_try};
 use model::kills::{has_kills, kill_by, kills, Kill};
 use model::logs::Log;
 use model::records::{
-    record, word, AND_CLOSE, AND_OPEN, BRANCH, HEAD, ITEM, KILLING_BRANCH, OR_OPEN,
+    record, word, AND_CLOSE, AND_OPEN, BRANCH, HEAD, KILLING_BRANCH, OR_OPEN, TRIGGER,
 };
 use model::{Answer, Refusal};
 use std::collections::BTreeMap;
 use std::ops::Range;
-
-/// How often each shape was met.
-#[derive(Default)]
-struct Shapes {
-    times: BTreeMap<String, usize>,
-}
-
-impl Shapes {
-    fn note(&mut self, shape: &str, met: bool) {
-        *self.times.entry(shape.to_owned()).or_default() += usize::from(met);
-    }
-
-    /// Fails where a shape was met fewer times.
-    fn assert_met(&self, least: usize) {
-        println!("{:#?}", self.times);
-        let few = self.times.iter().filter(|(_, times)| **times < least);
-        let few: Vec<_> = few.collect();
-        assert!(few.is_empty(), "{few:?} of {:?}", self.times);
-    }
-}
 
 fn and_kills(diagram: &Diagram, and: &Construct) -> bool {
     and.branches.iter().any(|branch| kills(diagram, *branch))
@@ -257,17 +237,6 @@ fn lists_with_kills() {
     }
 }
 
-/// Offset and kind of each record of a file.
-fn records(bytes: &[u8]) -> Vec<(usize, u16)> {
-    let mut found = Vec::new();
-    let mut offset = 0;
-    while offset + 4 <= bytes.len() {
-        found.push((offset, word(bytes, offset / 2 + 1)));
-        offset += usize::from(bytes[offset]).max(4);
-    }
-    found
-}
-
 /// The file with a row's kind another one.
 fn with_kind(bytes: &[u8], offset: usize, kind: u16) -> Vec<u8> {
     let mut other = bytes.to_vec();
@@ -284,7 +253,8 @@ fn as_plain(bytes: &[u8], offset: usize) -> Answer {
 fn note_refused(shapes: &mut Shapes, bytes: &[u8], refused: Refusal) {
     let rows: Vec<_> = records(bytes)
         .into_iter()
-        .skip_while(|(_, kind)| *kind <= ITEM + 1 && *kind >= HEAD)
+        .map(|(offset, record)| (offset, word(record, 1)))
+        .skip_while(|(_, kind)| (HEAD..=TRIGGER).contains(kind))
         .collect();
     let at = refused.value as usize;
     let (offset, kind) = rows[at];

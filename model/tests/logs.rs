@@ -5,7 +5,9 @@ mod common;
 use common::{fresh, refused};
 use model::diagram::{file, function_record, parse, Row};
 use model::diagram_step::{self, activity, READY, RUNNING, STEP, WAIT};
-use model::examples::{self, again, log_of_rounds, log_of_starts, rows, AGAIN_ROW};
+use model::examples::{
+    self, again, log_of_rounds, log_of_starts, rounds, rows, AGAIN_ROW, ROUNDS_ROW,
+};
 use model::generate::{self, Random};
 use model::logs::{self, busiest_hour, log, Log, Logged, HOUR, MOST_MOVES};
 use model::records::{AND_CLOSE, AND_OPEN, BRANCH, END, LOOP_EXIT, LP_CLOSE, LP_OPEN};
@@ -19,7 +21,7 @@ fn log_starts(file: &[u8], log: &[u8], row: u16) -> (Answer, u32) {
 
 /// The most starts and their earliest t, for starts at these times.
 fn assert_busiest(times: &[u16], most: u32, at: u32) {
-    let found = log_starts(&again(), &log_of_starts(times), AGAIN_ROW);
+    let found = log_starts(&rounds(), &log_of_starts(times), ROUNDS_ROW);
     assert_eq!(found, (Ok(most), at), "{times:?}");
 }
 
@@ -52,6 +54,9 @@ fn the_earliest_t_of_several() {
 fn all_starts_of_one_tick_count() {
     assert_busiest(&[0, 36_000, 36_000, 36_000], 3, 36_000);
     assert_busiest(&[0, 0, 0, 36_000, 36_000, 36_000], 3, 0);
+    // No log has room for more.
+    assert_busiest(&[0; 16_336], 16_336, 0);
+    assert_eq!(log_of_starts(&[0; 16_336]).len(), 4 * MOST_MOVES);
 }
 
 #[test]

@@ -7,7 +7,7 @@ use common::{fresh, fresh_net, net_of, refused};
 use model::bus::{self, Telegram};
 use model::diagram::{file, file_of, function_record, read};
 use model::diagram_step::{self, activity, clock, turns};
-use model::examples::{self, rows, rows_with};
+use model::examples::{self, nested, rows, TIMELESS};
 use model::records::{
     record, shape, AND_CLOSE, AND_OPEN, BRANCH, END, FUNCTION, HEAD, ITEM, IT_CLOSE, IT_OPEN,
     KILLING_BRANCH, LOOP_EXIT, LP_CLOSE, LP_OPEN, OR_CLOSE, OR_OPEN, TRIGGER,
@@ -32,6 +32,7 @@ fn assert_file_refused(bytes: &[u8], number: u32, value: u32) {
     assert_eq!(diagram_step::fresh(bytes, &mut state), expected);
     assert_eq!(diagram_step::step(bytes, &mut state, 0, 0), expected);
     assert_eq!(translate(bytes, &mut area), expected);
+    assert_eq!(translate(bytes, &mut area[..3]), expected);
     let offered = bus::offer(bytes, &mut state, u32::MAX, 1, 0, 0, &mut area[..3]);
     assert_eq!(offered, expected);
     let mut at = 8;
@@ -231,11 +232,6 @@ fn bytes_after_the_last_record() {
     assert_file_refused(&bytes, 6, 14);
 }
 
-/// Row kinds, an IT open with count 2 and a FUNCTION without uses.
-fn nested(kinds: &[u16]) -> Vec<u8> {
-    file(&[], &rows_with(kinds, &function_record(0, 0, &[]), 2))
-}
-
 #[test]
 fn nesting_broken() {
     let cases: [(&[u16], u32); 27] = [
@@ -309,9 +305,9 @@ fn loop_exit_misplaced() {
     // Some open LP, not the next one out.
     let kinds = [
         LP_OPEN, IT_OPEN, OR_OPEN, BRANCH, LOOP_EXIT, BRANCH, LOOP_EXIT, OR_CLOSE, IT_CLOSE,
-        LP_CLOSE, END,
+        FUNCTION, LP_CLOSE, END,
     ];
-    assert_eq!(read(&nested(&kinds)), Ok(33));
+    assert_eq!(read(&nested(&kinds)), Ok(36));
 }
 
 /// 28 as here, so that a list of kinds has room.
@@ -360,7 +356,8 @@ fn killing_branch_empty() {
         &[AND_OPEN, KILLS, FUNCTION, BRANCH, AND_CLOSE, END],
         &[AND_OPEN, BRANCH, KILLS, FUNCTION, AND_CLOSE, END],
         &[
-            LP_OPEN, AND_OPEN, KILLS, LOOP_EXIT, KILLS, LOOP_EXIT, AND_CLOSE, LP_CLOSE, END,
+            LP_OPEN, AND_OPEN, KILLS, LOOP_EXIT, KILLS, LOOP_EXIT, AND_CLOSE, FUNCTION, LP_CLOSE,
+            END,
         ],
         &[
             AND_OPEN, KILLS, AND_OPEN, BRANCH, BRANCH, AND_CLOSE, KILLS, IT_OPEN, IT_CLOSE,
@@ -420,9 +417,128 @@ fn a_13th_open() {
     assert_file_refused(&nested(&kinds), 7, 12);
     assert_file_refused(&nested(&[LP_OPEN; 13]), 7, 12);
     // Side by side they do not count together.
-    let mut kinds = [LP_OPEN, LP_CLOSE].repeat(20);
+    let mut kinds = [LP_OPEN, FUNCTION, LP_CLOSE].repeat(20);
     kinds.push(END);
-    assert_eq!(read(&nested(&kinds)), Ok(123));
+    assert_eq!(read(&nested(&kinds)), Ok(183));
+}
+
+/// Refusal 45, at the lowest LP without a FUNCTION of α at least 1.
+#[test]
+fn loop_spends_no_time() {
+    let cases: [(&[u16], u32); 14] = [
+        (&[LP_OPEN, LP_CLOSE, END], 0),
+        (&[LP_OPEN, TIMELESS, LP_CLOSE, END], 0),
+        // Time right before the open and right behind the close.
+        (&[FUNCTION, LP_OPEN, TIMELESS, LP_CLOSE, FUNCTION, END], 1),
+        // The second of two, and the first of two that spend none.
+        (&[LP_OPEN, FUNCTION, LP_CLOSE, LP_OPEN, LP_CLOSE, END], 3),
+        (&[LP_OPEN, TIMELESS, LP_CLOSE, LP_OPEN, LP_CLOSE, END], 0),
+        // Inside one that spends time, before it and behind it.
+        (&[LP_OPEN, FUNCTION, LP_OPEN, LP_CLOSE, LP_CLOSE, END], 2),
+        (&[LP_OPEN, LP_OPEN, LP_CLOSE, FUNCTION, LP_CLOSE, END], 1),
+        // The time of another loop inside is not its own.
+        (
+            &[
+                LP_OPEN, LP_OPEN, FUNCTION, LP_CLOSE, LP_OPEN, TIMELESS, LP_CLOSE, LP_CLOSE, END,
+            ],
+            4,
+        ),
+        // The outer one has none either.
+        (&[LP_OPEN, LP_OPEN, LP_CLOSE, LP_CLOSE, END], 0),
+        (
+            &[
+                LP_OPEN, TIMELESS, LP_OPEN, TIMELESS, LP_CLOSE, LP_CLOSE, END,
+            ],
+            0,
+        ),
+        // An IT's count, a branch that kills and an LE are no time.
+        (&[LP_OPEN, IT_OPEN, TIMELESS, IT_CLOSE, LP_CLOSE, END], 0),
+        (
+            &[
+                LP_OPEN, AND_OPEN, KILLS, TIMELESS, BRANCH, AND_CLOSE, LP_CLOSE, END,
+            ],
+            0,
+        ),
+        (
+            &[
+                LP_OPEN, OR_OPEN, BRANCH, LOOP_EXIT, BRANCH, OR_CLOSE, LP_CLOSE, END,
+            ],
+            0,
+        ),
+        (&[IT_OPEN, LP_OPEN, LP_CLOSE, IT_CLOSE, FUNCTION, END], 1),
+    ];
+    for (kinds, row) in cases {
+        assert_file_refused(&nested(kinds), 45, row);
+    }
+    assert_file_refused(&examples::spinning_panel(), 45, 1);
+    let empty = [vec![LP_OPEN; 12], vec![LP_CLOSE; 12], vec![END]].concat();
+    assert_file_refused(&nested(&empty), 45, 0);
+}
+
+/// "Between open and close", at any depth, inner loops included.
+#[test]
+fn loop_spends_time() {
+    let accepted: [&[u16]; 9] = [
+        &[LP_OPEN, TIMELESS, FUNCTION, LP_CLOSE, TIMELESS, END],
+        &[LP_OPEN, LP_OPEN, FUNCTION, LP_CLOSE, LP_CLOSE, END],
+        &[
+            LP_OPEN, TIMELESS, LP_OPEN, FUNCTION, LP_CLOSE, TIMELESS, LP_CLOSE, END,
+        ],
+        &[LP_OPEN, IT_OPEN, FUNCTION, IT_CLOSE, LP_CLOSE, END],
+        &[
+            LP_OPEN, OR_OPEN, BRANCH, BRANCH, FUNCTION, OR_CLOSE, LP_CLOSE, END,
+        ],
+        &[
+            LP_OPEN, AND_OPEN, BRANCH, BRANCH, FUNCTION, AND_CLOSE, LP_CLOSE, END,
+        ],
+        &[
+            LP_OPEN, AND_OPEN, KILLS, FUNCTION, BRANCH, AND_CLOSE, LP_CLOSE, END,
+        ],
+        // An LE may come first; rounds of an IT need no time.
+        &[
+            LP_OPEN, OR_OPEN, BRANCH, LOOP_EXIT, BRANCH, FUNCTION, OR_CLOSE, LP_CLOSE, END,
+        ],
+        &[IT_OPEN, TIMELESS, IT_OPEN, IT_CLOSE, IT_CLOSE, END],
+    ];
+    for kinds in accepted {
+        assert_eq!(read(&nested(kinds)), Ok(3 * kinds.len() as u32));
+    }
+    // Either byte of α.
+    for alpha in [1, 2, 255, 256, 512, 0x8000, 0xFF00, u16::MAX] {
+        assert_eq!(read(&examples::loop_of_alpha(alpha)), Ok(12));
+    }
+    assert_file_refused(&examples::loop_of_alpha(0), 45, 0);
+    assert_eq!(read(&examples::h()), Ok(27));
+}
+
+/// "After the whole walk up to 9"; `assert_file_refused` lends short areas too.
+#[test]
+fn loops_come_after_the_walk() {
+    let open_13 = [vec![LP_OPEN, LP_CLOSE], vec![LP_OPEN; 13], vec![END]].concat();
+    let cases: [(&[u16], u32, u32); 6] = [
+        (&[LP_OPEN, LP_CLOSE], 7, 1),
+        (&[LP_OPEN, TIMELESS, LP_CLOSE, AND_OPEN, END], 7, 4),
+        (&[LP_OPEN, LP_CLOSE, LOOP_EXIT, END], 8, 2),
+        (
+            &[LP_OPEN, LP_CLOSE, AND_OPEN, KILLS, BRANCH, AND_CLOSE, END],
+            44,
+            3,
+        ),
+        (&open_13, 9, 14),
+        // In the loop itself.
+        (&[LP_OPEN, LOOP_EXIT, LP_CLOSE, END], 8, 1),
+    ];
+    for (kinds, number, row) in cases {
+        assert_file_refused(&nested(kinds), number, row);
+    }
+    let timeless = nested(&[LP_OPEN, LP_CLOSE, FUNCTION, END]);
+    assert_file_refused(&timeless, 45, 0);
+    assert_file_refused(&[&timeless[..], &[0]].concat(), 6, 30);
+    assert_file_refused(&timeless[..29], 1, 26);
+    // The FUNCTION's α above its β.
+    let mut off = timeless;
+    off[22] = 9;
+    assert_file_refused(&off, 5, 18);
 }
 
 #[test]

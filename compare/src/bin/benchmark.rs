@@ -1,5 +1,5 @@
 //! `benchmark`: the time of each proved function, of the model, and their ratio, at 5, 30 and 64 rows, what one row more costs, and the same at
-//! plants with triggers and at plants with branches that kill, in one run; last, which ratio is the largest.
+//! plants with triggers, at plants with branches that kill and at a plant of loops, in one run; last, which ratio is the largest.
 //!
 //! Both are built for release and get the same inputs in the same order; states and areas are copied anew before each call, for both.
 //! At each size the calls go round plants of 960 rows in all, equally often: no single diagram's mix of rows decides the ratio, and the
@@ -14,12 +14,15 @@
 //!
 //! `16 trips` is an AND of 16 branches, every other of which kills, `19 rounds` one of 19 ITs that all kill, `11 deep` is ANDs one in the killing
 //! branch of the other; each in an LP. Of the moves of their calls one half kill, in the order of a random log; their logs are random too.
+//!
+//! `12 loops` is 12 LPs one in the other, 64 rows in all, where only the last FUNCTION of the innermost spends time: all of them are looked
+//! through for it. Of its moves one half are steps of LP rows; its log is random.
 
 use model::bus::Telegram;
-use model::diagram::{Diagram, MOST_ITEMS, MOST_ROWS};
+use model::diagram::{Diagram, Row, MOST_ITEMS, MOST_ROWS};
 use model::diagram_step::{STEP, WAIT};
 use model::examples::{
-    deep_trips_again, killing_rounds_again, triggers, triggers_again, trips_again,
+    deep_loops, deep_trips_again, killing_rounds_again, triggers, triggers_again, trips_again,
 };
 use model::generate::{accepted_log, lasting_diagram, plain_diagram_up_to, Random};
 use model::kills::kill_by;
@@ -44,7 +47,7 @@ const LOGS: usize = 4;
 const ROWS_MOVED: usize = MOVES / 3;
 /// Bytes of nets in one round on a plant with triggers, or all its moves once.
 const NET_BYTES: usize = 1_000_000;
-/// A round there, or on a plant with kills, may be long; as many sweeps come back to it.
+/// A round there, or on a plant with kills or loops, may be long; as many sweeps come back to it.
 const LONG_ROUNDS: usize = 3;
 
 /// The plants that a time is of.
@@ -55,8 +58,8 @@ enum Size {
         triggers: usize,
         receivers: usize,
     },
-    /// Branches that kill, the plant by its name.
-    Kills(&'static str),
+    /// A plant by its name.
+    Named(&'static str),
 }
 
 impl fmt::Display for Size {
@@ -67,7 +70,7 @@ impl fmt::Display for Size {
                 triggers,
                 receivers,
             } => write!(to, "{triggers} x {receivers}"),
-            Size::Kills(name) => to.write_str(name),
+            Size::Named(name) => to.write_str(name),
         }
     }
 }
@@ -151,12 +154,24 @@ fn trigger_plant(trigger_count: usize, receivers: usize) -> Option<Plant> {
     Some(Plant { file, net, moves })
 }
 
-/// A plant whose branches kill, with a random log.
-fn kill_courses(name: &'static str, file: Vec<u8>) -> (Course, LogCourse) {
+/// Whether a move, accepted at this state, is one that a plant is there for.
+type IsSought = fn(&Diagram, &[u16], (u16, u16)) -> bool;
+
+fn is_kill(diagram: &Diagram, state: &[u16], made: (u16, u16)) -> bool {
+    kill_by(diagram, state, made).is_some()
+}
+
+fn is_loop_step(diagram: &Diagram, _: &[u16], (code, argument): (u16, u16)) -> bool {
+    let row = diagram.rows.get(usize::from(argument));
+    code == STEP && matches!(row, Some(Row::LpOpen(_) | Row::LpClose(_)))
+}
+
+/// A plant with a random log.
+fn named_courses(name: &'static str, file: Vec<u8>, is_sought: IsSought) -> (Course, LogCourse) {
     let mut random = Random::new(MOST_ROWS as u64);
     let (logged, _) = random_log_plant(&mut random, file).expect("a plant with a log");
-    let plant = kill_plant(&logged).expect("a log with kills");
-    let size = Size::Kills(name);
+    let plant = plant_of_log(&logged, is_sought).expect("a log with moves that are sought");
+    let size = Size::Named(name);
     let rows = plant.moves[0].before.len() / 3;
     let course = Course {
         size,
@@ -172,16 +187,16 @@ fn kill_courses(name: &'static str, file: Vec<u8>) -> (Course, LogCourse) {
     (course, logs)
 }
 
-/// Its moves are the first that kill, and as many of the others.
-fn kill_plant(logged: &LogPlant) -> Option<Plant> {
+/// Its moves are the first that are sought, and as many of the others.
+fn plant_of_log(logged: &LogPlant, is_sought: IsSought) -> Option<Plant> {
     let file = logged.file.clone();
     let diagram = model::diagram::parse(&file).ok()?;
     let (mut moves, mut left) = (Vec::new(), [MOVES / 2; 2]);
     let mut state = logged.fresh.clone();
     for made in &logged.moves {
         let (code, argument) = (made.code, made.argument);
-        let kills = kill_by(&diagram, &state, (code, argument)).is_some();
-        let left = &mut left[usize::from(kills)];
+        let sought = is_sought(&diagram, &state, (code, argument));
+        let left = &mut left[usize::from(sought)];
         if *left > 0 {
             *left -= 1;
             moves.push(carried(&file, state.clone(), code, argument)?);
@@ -668,15 +683,16 @@ fn main() {
             with_triggers.push((trigger_course(triggers, receivers), logs));
         }
     }
-    let with_kills = [
-        kill_courses("2 trips", trips_again(2)),
-        kill_courses("16 trips", trips_again(16)),
-        kill_courses("19 rounds", killing_rounds_again(19)),
-        kill_courses("11 deep", deep_trips_again(11)),
+    let named = [
+        named_courses("2 trips", trips_again(2), is_kill),
+        named_courses("16 trips", trips_again(16), is_kill),
+        named_courses("19 rounds", killing_rounds_again(19), is_kill),
+        named_courses("11 deep", deep_trips_again(11), is_kill),
+        named_courses("12 loops", deep_loops(), is_loop_step),
     ];
     let (mut calls, mut moves, mut steps) = (Vec::new(), Vec::new(), Vec::new());
     let (mut trigger_calls, mut trigger_moves) = (Vec::new(), Vec::new());
-    let (mut kill_calls, mut kill_moves) = (Vec::new(), Vec::new());
+    let (mut named_calls, mut named_moves) = (Vec::new(), Vec::new());
     for _ in 0..SWEEPS {
         for (course, logs) in &plain {
             compare_calls(&mut calls, course);
@@ -689,9 +705,9 @@ fn main() {
             compare_calls(&mut trigger_calls, course);
             compare_logs(&mut trigger_moves, logs);
         }
-        for (course, logs) in &with_kills {
-            compare_calls(&mut kill_calls, course);
-            compare_logs(&mut kill_moves, logs);
+        for (course, logs) in &named {
+            compare_calls(&mut named_calls, course);
+            compare_logs(&mut named_moves, logs);
         }
     }
     print_times(["a call", "proved", "model"], &calls);
@@ -700,15 +716,15 @@ fn main() {
     print_times(["a move", "in the log", "step's call"], &steps);
     print_times(["triggers, call", "proved", "model"], &trigger_calls);
     print_times(["triggers, move", "proved", "model"], &trigger_moves);
-    print_times(["kills, a call", "proved", "model"], &kill_calls);
-    print_times(["kills, a move", "proved", "model"], &kill_moves);
+    print_times(["kills, loops", "proved", "model"], &named_calls);
+    print_times(["the same, move", "proved", "model"], &named_moves);
     let tables = [
         &calls,
         &moves,
         &trigger_calls,
         &trigger_moves,
-        &kill_calls,
-        &kill_moves,
+        &named_calls,
+        &named_moves,
     ];
     print_largest(tables.into_iter().flatten());
 }

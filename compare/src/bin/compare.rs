@@ -1,5 +1,5 @@
 //! `compare SEED SECONDS`: random cases of every kind until the time is up. Status 1 at the first difference, or where a run of some seconds
-//! did not meet every refusal of refusals.txt, or a call no kill.
+//! did not meet every refusal of refusals.txt, or a call no kill or no loop that spends no time.
 //! `compare SEED KIND ROUND`: that one case again.
 
 use compare::cases::KINDS;
@@ -52,13 +52,13 @@ fn run(seed: u64, seconds: u64) -> Result<(), String> {
         let all = listed().count();
         println!("all {all} refusals met, {number} {name} least often: {times} times");
     }
-    println!("kills met, by call: {:?}", met.kills());
+    println!("kills and timeless loops met, by call: {:?}", met.sights());
     if seconds >= ENOUGH && !missing.is_empty() {
         return Err(format!("seed {seed}: refusals not met: {missing:?}"));
     }
-    let without = met.without_kills();
-    if seconds >= ENOUGH && !without.is_empty() {
-        return Err(format!("seed {seed}: calls that met no kill: {without:?}"));
+    let unseen = met.unseen();
+    if seconds >= ENOUGH && !unseen.is_empty() {
+        return Err(format!("seed {seed}: calls that never met: {unseen:?}"));
     }
     Ok(())
 }

@@ -2,7 +2,9 @@
 //! `corpus SEED COUNT DIRECTORY`.
 
 use model::annex::annex;
-use model::generate::{crowded_diagram, damaged_diagram, diagram, killing_diagram, Random};
+use model::generate::{
+    crowded_diagram, damaged_diagram, diagram, killing_diagram, timeless_diagram, Random,
+};
 use std::path::Path;
 use std::process::ExitCode;
 use std::{env, fs, io};
@@ -29,8 +31,8 @@ fn usage() -> ExitCode {
     ExitCode::FAILURE
 }
 
-/// One half accepted, one half damaged; of a hundred one with a long net, nine
-/// made for kills.
+/// One half accepted, mostly, and one half damaged; of a hundred one with a long
+/// net, nine made for kills, five for loops that may spend no time.
 fn write_corpus(seed: u64, count: u32, directory: &Path) -> io::Result<()> {
     fs::create_dir_all(directory)?;
     let mut random = Random::new(seed);
@@ -38,7 +40,8 @@ fn write_corpus(seed: u64, count: u32, directory: &Path) -> io::Result<()> {
         let file = match random.below(100) {
             0 => crowded_diagram(&mut random),
             1..10 => killing_diagram(&mut random),
-            10..50 => diagram(&mut random),
+            10..15 => timeless_diagram(&mut random),
+            15..50 => diagram(&mut random),
             _ => damaged_diagram(&mut random),
         };
         fs::write(directory.join(format!("{number:05}.dia")), &file)?;

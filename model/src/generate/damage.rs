@@ -13,7 +13,7 @@ pub(super) fn random_record(
     item_kinds: &[u16],
 ) -> Vec<u8> {
     match random.between(*kinds.start(), *kinds.end()) {
-        FUNCTION => random_function(random, item_kinds),
+        FUNCTION => random_function(random, item_kinds, 0),
         IT_OPEN => record(IT_OPEN, &[random.between(2, 5)]),
         kind => {
             let (_, field_count) = shape(kind).unwrap_or_default();

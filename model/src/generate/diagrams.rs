@@ -1,6 +1,7 @@
 //! Diagram files, accepted and damaged.
 
 use super::damage::{damage_bytes, damage_field, damage_records, random_record, split_records};
+use super::loops::{empty_a_loop, lose_time, put_timeless_loop, LOOP_ROWS};
 use super::Random;
 use crate::diagram::{
     file_of, function_record, is_branch, MOST_ITEMS, MOST_OPEN, MOST_ROWS, ROW_KINDS,
@@ -43,28 +44,33 @@ pub fn diagram_up_to(random: &mut Random, most_rows: usize) -> Vec<u8> {
 
 /// The same without triggers and killing branches.
 pub fn plain_diagram_up_to(random: &mut Random, most_rows: usize) -> Vec<u8> {
-    draft_up_to(random, most_rows, Percents::NONE).file()
+    draft_up_to(random, most_rows, Percents::PLAIN).file()
 }
 
-/// How many in a hundred, of what most diagrams have not.
+/// How many in a hundred.
 #[derive(Clone, Copy)]
 struct Percents {
     /// Items that are triggers.
     triggers: usize,
     /// Branches of ANDs that kill.
     kills: usize,
+    /// LPs, of the constructs that open.
+    loops: usize,
 }
 
 impl Percents {
-    const NONE: Percents = Percents {
+    /// Most diagrams have neither triggers nor kills.
+    const PLAIN: Percents = Percents {
         triggers: 0,
         kills: 0,
+        loops: 25,
     };
 
     fn some(random: &mut Random) -> Self {
         Percents {
             triggers: seldom(random, 30, &[25, 50, 100]),
             kills: seldom(random, 35, &[20, 50, 100]),
+            ..Percents::PLAIN
         }
     }
 }
@@ -97,6 +103,7 @@ fn crowded_draft(random: &mut Random) -> Draft {
     let item_kinds = random_kinds(random, item_count, percent);
     let mut builder = RowsBuilder {
         kill_percent: seldom(random, 30, &[30, 100]),
+        loop_percent: Percents::PLAIN.loops,
         go_on_percent: 90,
         function_percent: 85 + random.below(16),
         lasting: None,
@@ -133,7 +140,7 @@ fn everyone_draft(triggers: usize, receivers: usize) -> Draft {
 /// an LP around all of it that no LE leaves. FUNCTIONs give back what they take;
 /// only an LE may lose it.
 pub fn lasting_diagram(random: &mut Random, row_count: usize) -> Vec<u8> {
-    lasting_with(random, row_count, Percents::NONE)
+    lasting_with(random, row_count, Percents::PLAIN)
 }
 
 /// The same with triggers, whose copies may become more and more.
@@ -141,7 +148,7 @@ pub fn lasting_trigger_diagram(random: &mut Random, row_count: usize) -> Vec<u8>
     let triggers = random.pick(&[50, 100], 50);
     let percents = Percents {
         triggers,
-        ..Percents::NONE
+        ..Percents::PLAIN
     };
     lasting_with(random, row_count, percents)
 }
@@ -152,6 +159,7 @@ pub fn lasting_killing_diagram(random: &mut Random, row_count: usize) -> Vec<u8>
     let percents = Percents {
         triggers: random.pick(&[0, 100], 0),
         kills: random.pick(&[30, 60, 100], 60),
+        ..Percents::PLAIN
     };
     lasting_with(random, row_count, percents)
 }
@@ -161,6 +169,7 @@ fn lasting_with(random: &mut Random, row_count: usize, percents: Percents) -> Ve
         Percents {
             triggers: 0,
             kills: 1..,
+            ..
         } if random.chance(80) => 0,
         _ => random.below(4),
     };
@@ -168,6 +177,7 @@ fn lasting_with(random: &mut Random, row_count: usize, percents: Percents) -> Ve
     let item_kinds = random_kinds(random, item_count, percents.triggers);
     let mut builder = RowsBuilder {
         kill_percent: percents.kills,
+        loop_percent: percents.loops,
         go_on_percent: 30 + random.below(60),
         function_percent: 20 + random.below(60),
         lasting: Some(random.pick(&[9, 600, 4_000, 12_000, 36_001, u16::MAX], 9)),
@@ -232,6 +242,7 @@ fn killing_draft(random: &mut Random) -> Draft {
     let most_rows = random.pick(&[12, 20, 30, 45, MOST_ROWS], MOST_ROWS);
     let mut builder = RowsBuilder {
         kill_percent: random.pick(&[0, 30, 60], 30),
+        loop_percent: Percents::PLAIN.loops,
         go_on_percent: 10 + random.below(60),
         function_percent: 30 + random.below(50),
         lasting: Some(9),
@@ -251,6 +262,32 @@ fn killing_draft(random: &mut Random) -> Draft {
     }
 }
 
+/// An accepted diagram with many loops, in one another and beside one another.
+pub fn looping_diagram(random: &mut Random) -> Vec<u8> {
+    looping_draft(random).file()
+}
+
+fn looping_draft(random: &mut Random) -> Draft {
+    let most_rows = random.pick(&[6, 12, 20, 40, MOST_ROWS], MOST_ROWS);
+    let percents = Percents {
+        loops: random.pick(&[50, 80], 80),
+        ..Percents::some(random)
+    };
+    draft_up_to(random, most_rows, percents)
+}
+
+/// The same after some FUNCTIONs have lost their α or a loop its rows: about half
+/// have a loop that spends no time, and nothing else is off.
+pub fn timeless_diagram(random: &mut Random) -> Vec<u8> {
+    let mut draft = looping_draft(random);
+    if random.chance(20) {
+        empty_a_loop(random, &mut draft.rows);
+    } else {
+        lose_time(random, &mut draft.rows);
+    }
+    draft.file()
+}
+
 fn draft_up_to(random: &mut Random, most_rows: usize, percents: Percents) -> Draft {
     let item_count = match random.below(4) {
         0 => 0,
@@ -261,6 +298,7 @@ fn draft_up_to(random: &mut Random, most_rows: usize, percents: Percents) -> Dra
     let item_kinds = random_kinds(random, item_count, percents.triggers);
     let mut builder = RowsBuilder {
         kill_percent: percents.kills,
+        loop_percent: percents.loops,
         go_on_percent: 50 + random.below(48),
         function_percent: 20 + random.below(60),
         lasting: None,
@@ -270,7 +308,7 @@ fn draft_up_to(random: &mut Random, most_rows: usize, percents: Percents) -> Dra
         rows: Vec::new(),
         left: most_rows.clamp(1, MOST_ROWS) - 1,
     };
-    if builder.left >= 2 && builder.random.chance(30) {
+    if builder.left >= LOOP_ROWS && builder.random.chance(30) {
         builder.looped(0);
     }
     builder.run(0, false);
@@ -297,6 +335,8 @@ pub(super) struct RowsBuilder<'r> {
     pub(super) random: &'r mut Random,
     /// Chance that a branch of an AND kills.
     kill_percent: usize,
+    /// Chance that a construct that opens is an LP.
+    loop_percent: usize,
     /// Chance that a run goes on.
     go_on_percent: usize,
     /// Chance that a construct is a FUNCTION.
@@ -304,10 +344,10 @@ pub(super) struct RowsBuilder<'r> {
     item_kinds: &'r [u16],
     /// FUNCTIONs use nearly every item.
     crowded: bool,
-    /// Every LP may spend time, and FUNCTIONs give back what they take and last
-    /// for so many ticks at most.
+    /// LPs begin with the time that they spend, and FUNCTIONs give back what they
+    /// take and last for so many ticks at most.
     lasting: Option<u16>,
-    rows: Vec<Vec<u8>>,
+    pub(super) rows: Vec<Vec<u8>>,
     /// Rows that may still be added, END left out.
     pub(super) left: usize,
 }
@@ -328,7 +368,10 @@ impl RowsBuilder<'_> {
     /// A construct that fits into the rows left; a FUNCTION always does.
     pub(super) fn construct(&mut self, open: usize, in_loop: bool) {
         let may_open = open < MOST_OPEN && !self.random.chance(self.function_percent);
-        match self.random.below(4) {
+        if may_open && self.left >= LOOP_ROWS && self.random.chance(self.loop_percent) {
+            return self.looped(open);
+        }
+        match self.random.below(3) {
             0 if may_open && self.left >= 4 => self.branched(AND_OPEN, AND_CLOSE, open, in_loop),
             1 if may_open && self.left >= 4 => self.branched(OR_OPEN, OR_CLOSE, open, in_loop),
             2 if may_open && self.left >= 2 => {
@@ -341,7 +384,6 @@ impl RowsBuilder<'_> {
                 self.run(open + 1, in_loop);
                 self.plain(IT_CLOSE);
             }
-            3 if may_open && self.left >= self.loop_rows() => self.looped(open),
             _ => {
                 self.left -= 1;
                 self.function(0);
@@ -353,14 +395,19 @@ impl RowsBuilder<'_> {
         self.rows.push(record(IT_OPEN, &[count]));
     }
 
-    /// A FUNCTION; a lasting one of so many ticks or more.
+    /// A FUNCTION of so many ticks or more.
     pub(super) fn function(&mut self, least: u16) {
+        self.function_at(self.rows.len(), least);
+    }
+
+    /// The same, put in as this row.
+    pub(super) fn function_at(&mut self, at: usize, least: u16) {
         let function = match self.lasting {
             Some(most) => lasting_function(self.random, self.item_kinds, least..=most),
-            None if self.crowded => function_of_uses(self.random, self.item_kinds, 95),
-            None => random_function(self.random, self.item_kinds),
+            None if self.crowded => function_of_uses(self.random, self.item_kinds, 95, least),
+            None => random_function(self.random, self.item_kinds, least),
         };
-        self.rows.push(function);
+        self.rows.insert(at, function);
     }
 
     /// A FUNCTION of a tick or more, sometimes in an OR that also passes it by:
@@ -378,16 +425,12 @@ impl RowsBuilder<'_> {
         }
     }
 
-    /// Rows of an LP whatever else is in it: open, close, and of a lasting one a
-    /// FUNCTION.
-    fn loop_rows(&self) -> usize {
-        2 + usize::from(self.lasting.is_some())
-    }
-
-    /// An LP, mostly with an AND or OR in it that may end in LE.
+    /// An LP, mostly with an AND or OR in it that may end in LE. A lasting one
+    /// begins with the time that it spends.
     fn looped(&mut self, open: usize) {
-        self.left -= self.loop_rows();
+        self.left -= LOOP_ROWS;
         self.plain(LP_OPEN);
+        let inside = self.rows.len();
         if self.lasting.is_some() {
             self.spend_time(open + 1);
         }
@@ -395,6 +438,9 @@ impl RowsBuilder<'_> {
             self.exit_inside(open + 1);
         }
         self.run(open + 1, true);
+        if self.lasting.is_none() {
+            self.ensure_time(inside);
+        }
         self.plain(LP_CLOSE);
     }
 
@@ -454,14 +500,19 @@ impl RowsBuilder<'_> {
     }
 }
 
-/// A FUNCTION record whose fields hold.
-pub(super) fn random_function(random: &mut Random, item_kinds: &[u16]) -> Vec<u8> {
+/// A FUNCTION record whose fields hold, of so many ticks or more.
+pub(super) fn random_function(random: &mut Random, item_kinds: &[u16], least: u16) -> Vec<u8> {
     let use_percent = random.pick(&[10, 25, 50, 95], 50);
-    function_of_uses(random, item_kinds, use_percent)
+    function_of_uses(random, item_kinds, use_percent, least)
 }
 
 /// The same with each item used so many times in a hundred.
-fn function_of_uses(random: &mut Random, item_kinds: &[u16], use_percent: usize) -> Vec<u8> {
+fn function_of_uses(
+    random: &mut Random,
+    item_kinds: &[u16],
+    use_percent: usize,
+    least: u16,
+) -> Vec<u8> {
     let (alpha, beta) = match random.below(8) {
         0 => (0, 0),
         1 => (random.between(0, 9), u16::MAX),
@@ -481,7 +532,7 @@ fn function_of_uses(random: &mut Random, item_kinds: &[u16], use_percent: usize)
             uses.push(random_use(random, item, *kind));
         }
     }
-    function_record(alpha, beta, &uses)
+    function_record(alpha.max(least), beta.max(least), &uses)
 }
 
 /// A FUNCTION that gives back what it takes, its ticks in this range: just a part
@@ -545,9 +596,10 @@ pub fn damaged_diagram(random: &mut Random) -> Vec<u8> {
     let mut damaged = match random.below(100) {
         0 => crowded_draft(random),
         1..=12 => killing_draft(random),
+        13..=24 => looping_draft(random),
         _ => draft(random),
     };
-    match random.below(12) {
+    match random.below(14) {
         0 => random_rows(random, &mut damaged),
         1 => too_deep(random, &mut damaged),
         2 => loop_exit_somewhere(random, &mut damaged),
@@ -558,7 +610,9 @@ pub fn damaged_diagram(random: &mut Random) -> Vec<u8> {
         5 => trigger_off_somewhere(random, &mut damaged),
         6 => other_item_kind(random, &mut damaged),
         7 => other_branch_kind(random, &mut damaged),
-        8 => empty_killing_branch(random, &mut damaged),
+        8 => empty_killing_branch(random, &mut damaged.rows),
+        9 => lose_time(random, &mut damaged.rows),
+        10 => timeless_loop_somewhere(random, &mut damaged.rows),
         _ => {}
     }
     let mut bytes = damaged.file();
@@ -584,36 +638,44 @@ fn random_rows(random: &mut Random, draft: &mut Draft) {
     draft.rows.push(record(END, &[]));
 }
 
-/// 11 to 14 constructs one in the other.
+/// Constructs one in the other and nothing else.
 fn too_deep(random: &mut Random, draft: &mut Draft) {
-    let mut closes = Vec::new();
-    draft.rows.clear();
+    draft.rows = deep_rows(random);
+    draft.rows.push(record(END, &[]));
+}
+
+/// 11 to 14 constructs one in the other, mostly with time spent in the innermost.
+fn deep_rows(random: &mut Random) -> Vec<Vec<u8>> {
+    let (mut rows, mut closes) = (Vec::new(), Vec::new());
     for _ in 0..random.between(11, 14) {
         match random.below(4) {
             0 => {
-                draft.rows.push(record(AND_OPEN, &[]));
-                draft.rows.push(record(BRANCH, &[]));
+                rows.push(record(AND_OPEN, &[]));
+                rows.push(record(BRANCH, &[]));
                 closes.push(record(AND_CLOSE, &[]));
                 closes.push(record(BRANCH, &[]));
             }
             1 => {
-                draft.rows.push(record(OR_OPEN, &[]));
-                draft.rows.push(record(BRANCH, &[]));
+                rows.push(record(OR_OPEN, &[]));
+                rows.push(record(BRANCH, &[]));
                 closes.push(record(OR_CLOSE, &[]));
                 closes.push(record(BRANCH, &[]));
             }
             2 => {
-                draft.rows.push(record(IT_OPEN, &[2]));
+                rows.push(record(IT_OPEN, &[2]));
                 closes.push(record(IT_CLOSE, &[]));
             }
             _ => {
-                draft.rows.push(record(LP_OPEN, &[]));
+                rows.push(record(LP_OPEN, &[]));
                 closes.push(record(LP_CLOSE, &[]));
             }
         }
     }
-    draft.rows.extend(closes.into_iter().rev());
-    draft.rows.push(record(END, &[]));
+    if random.chance(80) {
+        rows.push(random_function(random, &[], 1));
+    }
+    rows.extend(closes.into_iter().rev());
+    rows
 }
 
 /// A plain item becomes a trigger, so that a take or give of 2 is too much, or a
@@ -667,17 +729,17 @@ fn loop_exit_somewhere(random: &mut Random, draft: &mut Draft) {
 }
 
 /// Puts a row in; where there is no room another one goes.
-fn put_row(random: &mut Random, draft: &mut Draft, at: usize, kind: u16) {
-    if draft.rows.len() == MOST_ROWS {
-        draft.rows.remove(random.below(MOST_ROWS));
+fn put_row(random: &mut Random, rows: &mut Vec<Vec<u8>>, at: usize, kind: u16) {
+    if rows.len() == MOST_ROWS {
+        rows.remove(random.below(MOST_ROWS));
     }
-    let at = at.min(draft.rows.len());
-    draft.rows.insert(at, record(kind, &[]));
+    let at = at.min(rows.len());
+    rows.insert(at, record(kind, &[]));
 }
 
 /// Numbers of the rows whose kind is one of these.
-fn rows_of(draft: &Draft, is_one: impl Fn(u16) -> bool) -> Vec<usize> {
-    let rows = draft.rows.iter().enumerate();
+pub(super) fn rows_of(rows: &[Vec<u8>], is_one: impl Fn(u16) -> bool) -> Vec<usize> {
+    let rows = rows.iter().enumerate();
     let found = rows.filter(|(_, row)| is_one(word(row, 1)));
     found.map(|(number, _)| number).collect()
 }
@@ -685,7 +747,7 @@ fn rows_of(draft: &Draft, is_one: impl Fn(u16) -> bool) -> Vec<usize> {
 /// Some BRANCH rows, of an AND or OR, become killing ones or the other way
 /// round; seldom the last row becomes one.
 fn other_branch_kind(random: &mut Random, draft: &mut Draft) {
-    for at in rows_of(draft, is_branch) {
+    for at in rows_of(&draft.rows, is_branch) {
         if random.chance(30) {
             let kind = BRANCH + KILLING_BRANCH - word(&draft.rows[at], 1);
             draft.rows[at] = record(kind, &[]);
@@ -697,21 +759,54 @@ fn other_branch_kind(random: &mut Random, draft: &mut Draft) {
     }
 }
 
-/// A killing branch with nothing in it, before a BRANCH or close; in half of them
-/// something else is off too, before it or behind it.
-fn empty_killing_branch(random: &mut Random, draft: &mut Draft) {
-    let ends = rows_of(draft, |kind| is_branch(kind) || kind == AND_CLOSE);
-    let at = random.pick(&ends, 0);
-    put_row(random, draft, at, KILLING_BRANCH);
-    let other = random.below(draft.rows.len());
+/// A killing branch with nothing in it; in half of them something else is off
+/// too, before it or behind it.
+fn empty_killing_branch(random: &mut Random, rows: &mut Vec<Vec<u8>>) {
+    let at = put_empty_killing_branch(random, rows);
     match random.below(8) {
-        0 | 1 => put_row(random, draft, other, LOOP_EXIT),
-        2 => drop(draft.rows.remove(other)),
-        3 => put_row(random, draft, other, KILLING_BRANCH),
+        0..=3 => another_fault(random, rows),
         // Around it an AND of no other branch.
         4 => {
-            put_row(random, draft, at + 1, AND_CLOSE);
-            put_row(random, draft, at, AND_OPEN);
+            put_row(random, rows, at + 1, AND_CLOSE);
+            put_row(random, rows, at, AND_OPEN);
+        }
+        _ => {}
+    }
+}
+
+/// Puts a killing branch with nothing in it before a BRANCH or close; its row.
+fn put_empty_killing_branch(random: &mut Random, rows: &mut Vec<Vec<u8>>) -> usize {
+    let ends = rows_of(rows, |kind| is_branch(kind) || kind == AND_CLOSE);
+    let at = random.pick(&ends, 0);
+    put_row(random, rows, at, KILLING_BRANCH);
+    at
+}
+
+/// An LE or a killing branch put in at any place, or a row left out.
+fn another_fault(random: &mut Random, rows: &mut Vec<Vec<u8>>) {
+    let at = random.below(rows.len());
+    match random.below(4) {
+        0 | 1 => put_row(random, rows, at, LOOP_EXIT),
+        2 => drop(rows.remove(at)),
+        _ => put_row(random, rows, at, KILLING_BRANCH),
+    }
+}
+
+/// A loop that spends no time; in two of three something else is off too, before
+/// it or behind it.
+fn timeless_loop_somewhere(random: &mut Random, rows: &mut Vec<Vec<u8>>) {
+    put_timeless_loop(random, rows);
+    match random.below(6) {
+        0 | 1 => another_fault(random, rows),
+        2 => {
+            put_empty_killing_branch(random, rows);
+        }
+        3 => {
+            let deep = deep_rows(random);
+            if rows.len() + deep.len() <= MOST_ROWS {
+                let at = random.below(rows.len());
+                rows.splice(at..at, deep);
+            }
         }
         _ => {}
     }

@@ -2,7 +2,9 @@
 #![allow(dead_code)]
 
 use model::diagram_step::{STEP, WAIT};
+use model::records::word;
 use model::{diagram, diagram_step, net, net_step, translate, Answer, Refusal};
+use std::collections::BTreeMap;
 
 /// The fresh state of an accepted diagram.
 pub fn fresh(file: &[u8]) -> Vec<u16> {
@@ -73,4 +75,37 @@ impl Pair {
 /// The same answer of both.
 pub fn both(answer: Answer) -> (Answer, Answer) {
     (answer, answer)
+}
+
+/// The records of a file by their lengths, with the offset of each.
+pub fn records(bytes: &[u8]) -> Vec<(usize, &[u8])> {
+    let mut found = Vec::new();
+    let mut offset = 0;
+    while offset + 4 <= bytes.len() {
+        let length = usize::from(word(bytes, offset / 2)).max(4);
+        let end = (offset + length).min(bytes.len());
+        found.push((offset, &bytes[offset..end]));
+        offset += length;
+    }
+    found
+}
+
+/// How often each shape was met.
+#[derive(Default)]
+pub struct Shapes {
+    pub times: BTreeMap<String, usize>,
+}
+
+impl Shapes {
+    pub fn note(&mut self, shape: &str, met: bool) {
+        *self.times.entry(shape.to_owned()).or_default() += usize::from(met);
+    }
+
+    /// Fails where a shape was met fewer times.
+    pub fn assert_met(&self, least: usize) {
+        println!("{:#?}", self.times);
+        let few = self.times.iter().filter(|(_, times)| **times < least);
+        let few: Vec<_> = few.collect();
+        assert!(few.is_empty(), "{few:?} of {:?}", self.times);
+    }
 }
