@@ -57,8 +57,8 @@ One item, trigger or row a line; `#` begins a comment; indentation is free.
   end and, end or
   repeat COUNT [NAME]         its rows again and again, COUNT times
   end repeat
-  loop [NAME]                 its rows again and again, until left by
-  end loop
+  loop [NAME]                 its rows again and again, until an exit leaves it;
+  end loop                    a function in it takes 0.1 s or more
   exit loop                   the last row of a branch inside the loop
   end                         the last row
 
@@ -109,7 +109,8 @@ rink check FILE [--names TEXT] [-o NAME]
 
 `accepted`, with the limits used: rows, items, depth, the net's and the state's
 size; the receivers of each trigger; what each killing branch kills; whether the
-annex program prints the net. Or the refusal in words, with row and offset.
+annex program prints the net; a warning of each loop with a way round that may
+spend no time. Or the refusal in words, with row and offset.
 ";
 
 const NAMES_HELP: &str = "

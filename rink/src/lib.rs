@@ -13,6 +13,7 @@ pub mod net;
 pub mod plant;
 pub mod play;
 pub mod refused;
+pub mod rounds;
 pub mod structure;
 pub mod text;
 pub mod times;

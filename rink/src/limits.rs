@@ -1,9 +1,10 @@
-//! What `rink check` says of an accepted file: how much of each limit it uses.
+//! What `rink check` says of an accepted file: how much of each limit it uses, and what whoever drew it may not have meant.
 
 use crate::annex;
 use crate::net::{self, Net};
 use crate::plant::Plant;
-use crate::play::words::{number_of, row_words, rows_words};
+use crate::play::words::{list_words, number_of, row_words, rows_words};
+use crate::rounds;
 use crate::structure::{self, Killer};
 use effbd::Refusal;
 use std::fmt::Write;
@@ -41,6 +42,9 @@ pub fn used(plant: &Plant, file: &[u8]) -> Result<String, Refusal> {
     if let Some(words) = annex::unprinted(net_file.len()) {
         let _ = writeln!(text, "annex: {words}");
     }
+    for way in rounds::timeless(plant) {
+        let _ = writeln!(text, "{}", round_line(plant, &way));
+    }
     Ok(text)
 }
 
@@ -66,4 +70,12 @@ fn trigger_line(plant: &Plant, trigger: usize) -> String {
         "trigger {name}: {receivers}, {}",
         rows_words(plant, &takers)
     )
+}
+
+/// A loop with a way round it, whole, since it is to be found in the drawing. Items may hold it up, so nothing is certain.
+fn round_line(plant: &Plant, way: &[usize]) -> String {
+    let mut rows = way.iter().map(|&row| row_words(plant, row));
+    let name = rows.next().unwrap_or_default();
+    let way = list_words(rows.collect());
+    format!("warning: {name}: a way round it may spend no time: {way}")
 }

@@ -3,6 +3,7 @@
 //! The verdict is the reader's. What is said here explains it to a mechanic, and is never asked whether a file is right.
 
 use crate::plant::{records, Function, Part, Plant, Record, Use, TRIGGER};
+use crate::structure;
 use effbd::{refusal, Refusal};
 
 /// What a refusal of a file names.
@@ -103,6 +104,7 @@ fn nesting(refusal: Refusal) -> bool {
             | refusal::KILLING_BRANCH_EMPTY
             | refusal::LOOP_EXIT_MISPLACED
             | refusal::TOO_MANY_OPEN
+            | refusal::LOOP_SPENDS_NO_TIME
     )
 }
 
@@ -213,7 +215,7 @@ fn function_words(function: &Function, items: usize, named: impl Fn(Subject) -> 
     String::new()
 }
 
-/// Why a row may not stand where it does; the rows before it nest well.
+/// Why a row may not stand where it does; the rows before it nest well, and where a loop spends no time all of them do.
 fn nesting_words(plant: &Plant, refusal: Refusal, named: impl Fn(Subject) -> String) -> String {
     let row = refusal.value as usize;
     let Some(found) = plant.rows.get(row) else {
@@ -236,6 +238,11 @@ fn nesting_words(plant: &Plant, refusal: Refusal, named: impl Fn(Subject) -> Str
         refusal::LOOP_EXIT_MISPLACED => exit_words(plant, row, &open, &around),
         refusal::KILLING_BRANCH_EMPTY => {
             format!("nothing stands in this `{keyword}`, so nothing could end and kill: put the function that trips behind it, or write `branch`")
+        }
+        refusal::LOOP_SPENDS_NO_TIME => {
+            let (_, close) = structure::run_from(plant, row + 1);
+            let end = named(Subject::Row(close));
+            format!("no function between this `{keyword}` and the `end loop` of {end} has a shortest time of 0.1 s or more, so a way round it would spend no time: put one in, or raise a shortest time")
         }
         _ if row > 0 && needs_branch(&plant.rows[row - 1].part) && !found.part.is_branch() => {
             format!(

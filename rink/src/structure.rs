@@ -34,8 +34,13 @@ pub struct Branch {
 
 /// The run of an accepted diagram's rows.
 pub fn of(plant: &Plant) -> Run {
-    let mut row = 0;
-    run(plant, &mut row)
+    run_from(plant, 0).0
+}
+
+/// The run that begins at a row, and the row behind it: a BRANCH or close, of the whole diagram none.
+pub fn run_from(plant: &Plant, mut row: usize) -> (Run, usize) {
+    let nodes = run(plant, &mut row);
+    (nodes, row)
 }
 
 /// The run that begins at `row`, which becomes the row behind it.

@@ -231,6 +231,7 @@ fn shipped_examples() {
         "pump-down-and-defrost",
         "door-open",
         "pressure-trip",
+        "night-watch",
     ];
     for name in names {
         let text = example(&format!("{name}.plant"));
@@ -412,19 +413,55 @@ fn kills_told() {
     assert!(checked.text().contains(never), "{}", checked.text());
 }
 
+/// That a file is refused in these words: `check` prints them, other commands say them.
+fn refuses(file: &[u8], words: &str) {
+    let answer = fed(&["check", "-"], file);
+    assert_eq!(answer.status, REFUSED);
+    assert!(answer.text().contains(words), "{}", answer.text());
+    says(&fed(&["draw", "-"], file), REFUSED, words);
+}
+
 /// An empty killing branch in a file: its row and offset.
 #[test]
 fn refused_killer() {
     let text = "and\nbranch\nbranch\nend and\nend\n";
     let mut file = fed(&["make", "-"], text.as_bytes()).output;
     file[16] = 28;
-    let answer = fed(&["check", "-"], &file);
-    assert_eq!(answer.status, REFUSED);
-    let words = "row 1, offset 14: nothing stands in this `killing branch`";
-    assert!(answer.text().contains(words), "{}", answer.text());
+    refuses(
+        &file,
+        "row 1, offset 14: nothing stands in this `killing branch`",
+    );
     file[12] = 20;
     let words = "row 1, offset 14: a `killing branch` belongs to an `and`, and the innermost open construct is the `or` of row 0: ";
-    says(&fed(&["show", "-"], &file), REFUSED, words);
+    refuses(&file, words);
+}
+
+/// A loop that spends no time in a file: its row and offset, and where it ends.
+#[test]
+fn refused_loop() {
+    let text = "item oil 1\nrepeat 2\nloop\nfunction f 1..2\nend loop\nend repeat\nend\n";
+    let mut file = fed(&["make", "-"], text.as_bytes()).output;
+    file[30] = 0;
+    let words = "row 1, offset 22: no function between this `loop` and the `end loop` of row 3 has a shortest time of 0.1 s or more, so a way round it would spend no time: put one in, or raise a shortest time (refusal 45, loop spends no time)";
+    refuses(&file, words);
+}
+
+/// A way round a loop that may spend no time is a warning; loops without one have none.
+#[test]
+fn rounds_told() {
+    let watch = rink(&["check", &example("night-watch.dia")]);
+    assert_eq!((watch.status, watch.said.as_str()), (DONE, ""));
+    let warning = "warning: loop watch (row 0): a way round it may spend no time: or ice (row 1), branch cold (row 4), end or (row 7) and end loop (row 8)";
+    let warnings = |answer: &Answer| -> Vec<String> {
+        let lines = answer.text().lines();
+        let lines = lines.filter(|line| line.starts_with("warning"));
+        lines.map(str::to_string).collect()
+    };
+    assert_eq!(warnings(&watch), [warning]);
+    for name in ["h", "pump-down", "ice-making", "pressure-trip"] {
+        let checked = rink(&["check", &example(&format!("{name}.dia"))]);
+        assert_eq!(warnings(&checked), [""; 0], "{name}");
+    }
 }
 
 /// A trigger's take above 1 in a file: its row and offset.
@@ -433,14 +470,10 @@ fn refused_trigger() {
     let mut file = fed(&["make", "-"], everyone(1, 1).as_bytes()).output;
     file[26] = 2;
     let words = "row 0, offset 16: it takes 2 of item 0: of a trigger 1 is the most (refusal 43, ";
-    let answer = fed(&["check", "-"], &file);
-    assert_eq!(answer.status, REFUSED);
-    assert!(answer.text().contains(words), "{}", answer.text());
-    says(&fed(&["draw", "-"], &file), REFUSED, words);
+    refuses(&file, words);
     file[12] = 4;
-    says(
-        &fed(&["show", "-"], &file),
-        REFUSED,
+    refuses(
+        &file,
         "a record of kind 4 stands where an item, kind 2, or a trigger, kind 3, is due (refusal 2, ",
     );
 }

@@ -204,7 +204,8 @@ fn kill_extremes() -> Vec<Case> {
         vec![EndAnd],
     ];
     let last_rows = [
-        vec![And, KILLER, it.clone(), EndRepeat, KILLER, Loop, EndLoop],
+        vec![And, KILLER, it.clone(), EndRepeat, KILLER],
+        vec![Loop, plain(), EndLoop],
         vec![KILLER, Or, BRANCH, BRANCH, EndOr, KILLER, plain()],
         vec![BRANCH, EndAnd],
     ];
@@ -277,20 +278,10 @@ fn extremes() -> Vec<Case> {
         ],
     ];
     let empty = [
-        vec![
-            Loop,
-            EndLoop,
-            it.clone(),
-            EndRepeat,
-            And,
-            BRANCH,
-            BRANCH,
-            EndAnd,
-        ],
-        vec![
-            Or, BRANCH, BRANCH, BRANCH, EndOr, Loop, Or, BRANCH, ExitLoop, BRANCH, ExitLoop, EndOr,
-            EndLoop,
-        ],
+        vec![Loop, Or, BRANCH, BRANCH, plain(), EndOr, EndLoop],
+        vec![it.clone(), EndRepeat, And, BRANCH, BRANCH, EndAnd],
+        vec![Or, BRANCH, BRANCH, BRANCH, EndOr, Loop, plain(), Or],
+        vec![BRANCH, ExitLoop, BRANCH, ExitLoop, EndOr, EndLoop],
     ];
     let in_or = [Or, BRANCH, BRANCH];
     let exit_deep = [And, BRANCH, ExitLoop, BRANCH, EndAnd];

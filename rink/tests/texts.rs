@@ -437,6 +437,43 @@ fn refused_killers() {
     );
 }
 
+/// A loop has a FUNCTION that takes a tick, at any depth; the lowest that has none is told, behind whatever is wrong with a row.
+#[test]
+fn refused_loops() {
+    let spends_none = |text: &str, line: usize, end: usize| {
+        let words = format!("no function between this `loop` and the `end loop` of line {end} has a shortest time of 0.1 s or more, so a way round it would spend no time: put one in, or raise a shortest time (refusal 45, loop spends no time)");
+        wrong(text, line, 1, &words);
+    };
+    spends_none("loop\nend loop\nend\n", 1, 2);
+    spends_none("# x\nloop\nfunction f 0..9\nend loop\nend\n", 2, 4);
+    spends_none(
+        "function f 1..2\nloop\nend loop\nfunction f 1..2\nend\n",
+        2,
+        3,
+    );
+    let left = "loop\nor\nbranch\nexit loop\nbranch\nexit loop\nend or\nend loop\nend\n";
+    spends_none(left, 1, 8);
+    // An inner loop's FUNCTION counts for the outer one, not the other way round.
+    let inner = "loop\nloop\nrepeat 2\nfunction f 1..2\nend repeat\nend loop\nend loop\nend\n";
+    assert!(text::make(inner).is_ok());
+    let outer = "loop\nloop\nend loop\nfunction f 1..2\nend loop\nend\n";
+    spends_none(outer, 2, 3);
+    spends_none("loop\nloop\nend loop\nend loop\nend\n", 1, 4);
+    // Of two the lowest, and behind all of 7, 44, 8 and 9.
+    spends_none("loop\nend loop\nloop\nend loop\nend\n", 1, 2);
+    wrong("loop\nend loop\nend or\n", 3, 1, "(refusal 7, ");
+    let killer = "loop\nend loop\nand\nbranch\nkilling branch\nend and\nend\n";
+    wrong(killer, 5, 1, "(refusal 44, ");
+    let exit = "loop\nend loop\nor\nbranch\nexit loop\nbranch\nend or\nend\n";
+    wrong(exit, 5, 1, "(refusal 8, ");
+    let deep = format!(
+        "loop\nend loop\n{}{}end\n",
+        "loop\n".repeat(13),
+        "end loop\n".repeat(13)
+    );
+    wrong(&deep, 15, 1, "(refusal 9, ");
+}
+
 /// A branch that kills and one that is called so.
 #[test]
 fn shown_killers() {
