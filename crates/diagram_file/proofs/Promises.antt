@@ -6,8 +6,9 @@ use mathlib.Core.Bool.{Bool, true, false, cond}
 use mathlib.Core.List.{List, [], _∷_, _++_, append-nil}
 use native.Mathlib.Omega.{arith}
 use lib.ListN.{length, getD, take, drop, length-take, length-drop, List·getD-eq-default}
+use lib.Dec.{eqb}
 use lib.Seq.{getD-take, take-nil}
-use borrow.Author.Tests.{le-leb}
+use borrow.Author.Tests.{le-leb, eqb-true, eqb-false}
 use Rattle.effbd.specs.Answers.{Outcome, accepted, refused, unless, andThen, refusalNumber, refusalValue}
 use Rattle.effbd.specs.Records.{word, lengthAt, areBytes}
 use Rattle.effbd.specs.Diagrams.{mostRows, function, end, sameKind, Use, Row, plain, Diagram, rowCount, kind, isKind, usesAt}
@@ -28,6 +29,7 @@ use Rattle.diagram_file.specs.Tables.{Judged, Filled, Parsed, PartIs}
 use Rattle.diagram_table.specs.declared.Part.{Part as Lies}
 use Rattle.diagram_table.specs.Cells.{cellOf, itemCell, someTriggerCell, cellTotal, someTriggerIn, usesStartIn, usesNumberIn, usesPartIn, usesBytes, usesOf, usesIn}
 use Rattle.diagram_table.specs.Held.{Tabulated, Holds, HoldsUses, HoldsFile}
+use Rattle.ranges.specs.Tests.{decide}
 use Rattle.ranges.specs.Outcomes.{unless-refused}
 use Rattle.agreement.specs.AcceptedFiles.{held, nested-clear}
 use Rattle.agreement.specs.RowFaults.{rows-clean}
@@ -113,11 +115,10 @@ module _ {file t : List ℕ} (w : Tabled file t) where
       unfolding nested
       judged = read-nested ∙ (passed _ ∙ subst (λ (x : ℕ). LoopsRead t x i) e m .judged dia kinds-in (rows-clean dia (nestingFault dia) (accepted dia) dia (passed _) .0) (accepted dia))
 
-      pub refused-loops : i .number ≢ 0 → Judged file t (record { number = i .number; value = i .row })
-      refused-loops ne = refused-is (i .number) (i .row) ne (judged ∙ unless-refused (i .number) (i .row) (accepted dia) ne)
-
-      pub loops-fine : i .number ≡ 0 → Judged file t (record { number = 0; value = 0 })
-      loops-fine y = judged-fine (judged ∙ ap (λ (x : ℕ). unless x (i .row) (accepted dia)) y)
+      pub judged-loops : Judged file t (record { number = i .number; value = i .row })
+      judged-loops = decide (eqb (i .number) 0)
+          (λ e. let y = eqb-true (i .number) 0 e in rw (y, m .none y) (judged-fine (judged ∙ ap (λ (x : ℕ). unless x (i .row) (accepted dia)) y)))
+          (λ e. let ne = eqb-false (i .number) 0 e in refused-is (i .number) (i .row) ne (judged ∙ unless-refused (i .number) (i .row) (accepted dia) ne))
 
   -- ---- the structure of an accepted file
   module _ (got : readDiagram file ≡ accepted dia) (long : length t ≡ cellTotal) where

@@ -31,23 +31,13 @@ fn judge(file: &[u8], table: &mut [u16]) -> Refusal
         };
     }
     let rows = words::word(file, 6);
-    let judgement = nesting::read_nesting(table, rows);
-    if judgement.number != 0 {
-        return Refusal {
-            number: judgement.number,
-            value: judgement.row as u32,
-        };
-    }
-    let loops = loop_times::read_loops(table, rows);
-    if loops.number != 0 {
-        return Refusal {
-            number: loops.number,
-            value: loops.row as u32,
-        };
+    let mut judgement = nesting::read_nesting(table, rows);
+    if judgement.number == 0 {
+        judgement = loop_times::read_loops(table, rows);
     }
     Refusal {
-        number: 0,
-        value: 0,
+        number: judgement.number,
+        value: judgement.row as u32,
     }
 }
 
