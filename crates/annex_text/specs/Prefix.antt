@@ -13,7 +13,7 @@ use Rattle.effbd.specs.Records.{Got, adding, entryIn, faultAt, kindAt, kindTabl
 use Rattle.effbd.specs.Diagrams.{Item, Row, Use, headFault, itemAt, itemFault, rowAt, rowFault, rowFaultIn, rowFine, rowRight, triggersFine, usesAt, kindOf}
 use Rattle.effbd.specs.Nesting.{afterItems, afterRows, readDiagram}
 use Rattle.effbd.specs.Annex.{annexIn}
-use Rattle.words.proofs.KindTable.{short}
+use Rattle.kinds.proofs.KindTable.{short}
 use Rattle.ranges.specs.Tests.{decide, and-left, and-right, or-split}
 use Rattle.ranges.specs.Outcomes.{else-none}
 use Rattle.agreement.specs.ByteLaws.{none-clean, next-inv, adding-inv}

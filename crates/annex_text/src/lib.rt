@@ -8,7 +8,6 @@ ghost use Rattle.effbd.specs.Patterns.{translated};
 ghost use Rattle.text.specs.Laid.{Laid};
 ghost use Rattle.annex_text.specs.Lines.{transitionLine, arcLine, recordLine, recordSize, transitionsAt, recordLines, markNumbers, netText, answerText};
 use effbd::Answer;
-use words::kinds;
 
 // The line of an arc.
 fn put_arc(text: &mut [u8], at: usize, bytes: &[u8]) -> usize

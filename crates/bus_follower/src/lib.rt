@@ -5,28 +5,20 @@ ghost use Rattle.effbd.specs.Firing.{stepNet};
 ghost use Rattle.effbd.specs.BusEnds.{taken};
 ghost use Rattle.bus_follower.specs.Telegrams.{judged, counted};
 use effbd::Answer;
-use effbd::limits;
 use effbd::refusals;
-use words::kinds;
 
 // Whether bytes are the telegram that is due after `count` of them: accepted with its number, or 30 to 33.
 fn judge(bytes: &[u8], count: u32, station: u16) -> Answer
     ensures { λ r. ⌜ said r ≡ judged count station (now (bytes .entry)) ⌝ }
 {
-    if bytes.len() != limits::TELEGRAM_LENGTH as usize {
+    if !telegrams::is_telegram(bytes) {
         return Answer::Refused(refusals::NO_TELEGRAM, 0);
     }
-    if words::word(bytes, 0) != limits::TELEGRAM_LENGTH {
-        return Answer::Refused(refusals::NO_TELEGRAM, 0);
-    }
-    if words::word(bytes, 2) != kinds::TELEGRAM {
-        return Answer::Refused(refusals::NO_TELEGRAM, 0);
-    }
-    let from = words::word(bytes, 8);
+    let from = words::word(bytes, telegrams::STATION);
     if from != station {
         return Answer::Refused(refusals::OTHER_STATION, from as u32);
     }
-    let number = words::long(bytes, 4);
+    let number = words::long(bytes, telegrams::NUMBER);
     if number <= count {
         return Answer::Refused(refusals::NUMBER_PAST, count);
     }
@@ -45,8 +37,8 @@ pub fn take(net: &[u8], state: &mut [u16], count: u32, station: u16, telegram: &
     match judgement {
         Answer::Refused(number, value) => Answer::Refused(number, value),
         Answer::Accepted(next) => {
-            let code = words::word(telegram, 10);
-            let argument = words::word(telegram, 12);
+            let code = words::word(telegram, telegrams::CODE);
+            let argument = words::word(telegram, telegrams::ARGUMENT);
             follow(net, state, next, code, argument)
         }
     }

@@ -1,3 +1,2 @@
-pub mod Written
 mod Offered
 mod Withheld

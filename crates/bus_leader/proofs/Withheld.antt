@@ -17,6 +17,7 @@ use Rattle.effbd.specs.Moves.{moveOf, checkedMove, stepDiagram}
 use Rattle.agreement.specs.AcceptedFiles.{held}
 use Rattle.agreement.specs.WellFormed.{few-places}
 use Rattle.words.specs.Stores.{copied}
+use Rattle.telegrams.proofs.Written.{has-room, telegram-size}
 use Rattle.effbd.specs.BusEnds.{telegram, Offered, turnedAway, offered}
 use Rattle.bus_leader.specs.Offers.{withheld}
 use Rattle.bus_leader.proofs.Offered.{RefusedBy, offer-refused, offer-accepted}
@@ -67,9 +68,10 @@ module _ (file state : List ℕ) (count station code argument : ℕ) (area : Lis
 
   -- the move is accepted and written
   pub offer-written : (s after : List ℕ) → stepDiagram file code argument state ≡ accepted s → count < 4294967295 → 14 ≤ length area
-      → after ≡ telegram (count + 1) station code argument ++ drop 14 area → (accepted (count + 1) ≡ call .answer) × (s ≡ call .state) × (after ≡ call .area)
+      → after ≡ copied (telegram (count + 1) station code argument) area → (accepted (count + 1) ≡ call .answer) × (s ≡ call .state) × (after ≡ call .area)
   offer-written s after e c l w = let q = offer-accepted file state count station code argument area s e c l in (
     ap accepted (add-one count) ∙ sym (ap (λ (o : Offered). o .answer) q),
     sym (ap (λ (o : Offered). o .state) q),
-    w ∙ (ap (λ (n : ℕ). telegram n station code argument ++ drop 14 area) (add-one count) ∙ sym (ap (λ (o : Offered). o .area) q)),
+    w ∙ (sym (has-room 14 (telegram (count + 1) station code argument) area (telegram-size (count + 1) station code argument) l)
+        ∙ (ap (λ (n : ℕ). telegram n station code argument ++ drop 14 area) (add-one count) ∙ sym (ap (λ (o : Offered). o .area) q))),
   )

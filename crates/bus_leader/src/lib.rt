@@ -1,31 +1,16 @@
 // The leader's end of the bus: a move is offered, made and written as a telegram.
 ghost use mathlib.Core.Path.{_≡_};
-ghost use mathlib.Core.List.{_++_};
-ghost use Prim.Native.Nat.{_≤_, _<_};
-ghost use lib.ListN.{length, drop};
+ghost use Prim.Native.Nat.{_≤_};
+ghost use lib.ListN.{length};
 ghost use Rattle.effbd.specs.Answers.{said, returningZero};
 ghost use Rattle.effbd.specs.Moves.{stepDiagram};
 ghost use Rattle.effbd.specs.Nets.{mostPlaces};
 ghost use Rattle.diagram_table.specs.Cells.{plainPlaces};
-ghost use Rattle.effbd.specs.BusEnds.{telegram as telegramOf, offered};
+ghost use Rattle.effbd.specs.BusEnds.{offered};
 ghost use Rattle.bus_leader.specs.Offers.{withheld};
 use effbd::Answer;
 use effbd::limits;
 use effbd::refusals;
-use words::kinds;
-
-// Writes a telegram into the first 14 bytes of an area.
-fn write_telegram(area: &mut [u8], number: u32, station: u16, code: u16, argument: u16)
-    requires { ⌜ 14 ≤ length (now area) ⌝ }
-    ensures { λ _. ⌜ now (area .exit) ≡ telegramOf number station code argument ++ drop 14 (now (area .entry)) ⌝ }
-{
-    words::put_word(area, 0, limits::TELEGRAM_LENGTH);
-    words::put_word(area, 2, kinds::TELEGRAM);
-    words::put_long(area, 4, number);
-    words::put_word(area, 8, station);
-    words::put_word(area, 10, code);
-    words::put_word(area, 12, argument);
-}
 
 // The leader's call: a move that is accepted is written as a telegram, numbered with the new count, into the first 14 bytes of the area.
 pub fn offer(
@@ -52,7 +37,7 @@ pub fn offer(
     match answer {
         Answer::Refused(number, value) => Answer::Refused(number, value),
         Answer::Accepted(_) => {
-            write_telegram(area, count + 1, station, code, argument);
+            telegrams::write_telegram(area, count + 1, station, code, argument);
             Answer::Accepted(count + 1)
         }
     }

@@ -1,31 +1,29 @@
 // What is called, laid into lent bytes.
-ghost use mathlib.Core.Path.{_≡_};
 ghost use Prim.Native.Nat.{_≤_};
 ghost use lib.ListN.{length};
-ghost use Rattle.effbd.specs.BusEnds.{isTelegram};
 ghost use Rattle.effbd.specs.Moves.{mostWord};
 ghost use Rattle.calls.specs.CallList.{callOf};
 ghost use Rattle.text.specs.Laid.{Laid};
 ghost use Rattle.call_lines.specs.Lines.{bytesText, callText};
-use effbd::limits;
-use words::kinds;
-
-fn is_telegram(bytes: &[u8]) -> bool
-    ensures { λ r. ⌜ r ≡ isTelegram (now (bytes .entry)) ⌝ }
-{
-    bytes.len() == limits::TELEGRAM_LENGTH as usize
-        && (words::word(bytes, 0) == limits::TELEGRAM_LENGTH
-            && words::word(bytes, 2) == kinds::TELEGRAM)
-}
 
 // Bytes that are handed over.
 fn put_bytes(text: &mut [u8], at: usize, bytes: &[u8]) -> usize
     requires { ⌜ length (now bytes) ≤ mostWord ⌝ }
     ensures { λ r. ⌜ Laid (now (text .entry)) at (now (text .exit)) r (bytesText (now (bytes .entry))) ⌝ }
 {
-    if is_telegram(bytes) {
-        let next = text::put_named(text, at, b"hand telegram", words::long(bytes, 4));
-        return text::put_named(text, next, b" of station", words::word(bytes, 8) as u32);
+    if telegrams::is_telegram(bytes) {
+        let next = text::put_named(
+            text,
+            at,
+            b"hand telegram",
+            words::long(bytes, telegrams::NUMBER),
+        );
+        return text::put_named(
+            text,
+            next,
+            b" of station",
+            words::word(bytes, telegrams::STATION) as u32,
+        );
     }
     let next = text::put_named(text, at, b"hand", bytes.len() as u32);
     text::put_letters(text, next, b" bytes")

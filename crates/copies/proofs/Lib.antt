@@ -5,4 +5,3 @@ pub mod CopiesNumbered
 pub mod Fronts
 pub mod CopiesCounted
 pub mod Plants
-pub mod Freshness

@@ -1,16 +1,15 @@
 -- The turn of each loop, over plain variables.
-use Prim.Native.Nat.{ℕ, suc, _+_, _-_, _*_, _≤_, _<_}
+use Prim.Native.Nat.{ℕ, suc, _+_, _-_, _≤_, _<_}
 use mathlib.Core.Path.{_≡_, refl, sym, _∙_, ap}
-use mathlib.Core.Bool.{true}
 use mathlib.Core.List.{List}
 use native.Mathlib.Omega.{arith}
 use native.Mathlib.Numerals.{add-one}
 use lib.ListN.{length, drop, set}
 use Rattle.effbd.specs.Records.{word}
-use Rattle.diagram_table.specs.Cells.{firstCopyCell, copiesCell, countIn, receiversIn, runFirst, runLength, usesOf}
+use Rattle.diagram_table.specs.Cells.{firstCopyCell, copiesCell, receiversIn, usesOf}
 use Rattle.diagram_table.proofs.UsesWalked.{uses-next, uses-over}
 use Rattle.words.specs.Sums.{added}
-use Rattle.copies.specs.Counting.{useCounted, usesCounted, rowCounted, rowsCounted, copiesNumbered, runPut, runsPut}
+use Rattle.copies.specs.Counting.{useCounted, usesCounted, rowCounted, rowsCounted, copiesNumbered}
 
 pub uses-turn : (at k much : ℕ) (rest more table next : List ℕ) → 6 ≤ length rest → k ≡ word rest 0 → much ≡ word rest 2 → next ≡ useCounted at k much table → more ≡ drop 6 rest
     → usesCounted (at + 1) (usesOf more) next ≡ usesCounted at (usesOf rest) table
@@ -39,21 +38,3 @@ numbers-turn items k many receivers first more table next l er ef en em =
 pub numbers-end : (items k many : ℕ) (table next : List ℕ) → items ≤ k → next ≡ set table copiesCell many → next ≡ copiesNumbered items (items - k) k many table
 unfolding copiesNumbered
 numbers-end items k many table next l en = let z : items - k ≡ 0 = omega arith in rw (en, z)
-
-pub run-none : (from value : ℕ) (state : List ℕ) → state ≡ runPut from 0 value state
-unfolding runPut
-run-none from value state = refl
-
-pub run-turn : (from i value : ℕ) (start state next : List ℕ) → state ≡ runPut from i value start → next ≡ set state (from + i) value → next ≡ runPut from (i + 1) value start
-unfolding runPut
-run-turn from i value start state next es en = en ∙ (rw es refl ∙ ap (λ (n : ℕ). runPut from n value start) (sym (add-one i)))
-
-pub runs-none : (rows : ℕ) (table state : List ℕ) → state ≡ runsPut rows 0 table state
-unfolding runsPut
-runs-none rows table state = refl
-
-pub runs-turn : (rows k first many count : ℕ) (table start state next : List ℕ) → state ≡ runsPut rows k table start → first ≡ runFirst table true 0 0 k → many ≡ runLength table true k
-    → count ≡ countIn table k → next ≡ runPut (3 * rows + first) many count state → next ≡ runsPut rows (k + 1) table start
-unfolding runsPut
-runs-turn rows k first many count table start state next es ef em ec en =
-    en ∙ (rw (ef, em, ec, es) refl ∙ ap (λ (n : ℕ). runsPut rows n table start) (sym (add-one k)))

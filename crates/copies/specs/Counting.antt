@@ -1,14 +1,13 @@
--- What is left in a table and in a state, store by store, in the program's own order: receivers and ranks, numbers of copies, the runs of a fresh state.
--- Assumes nothing.
-use Prim.Native.Nat.{ℕ, zero, suc, _+_, _*_}
-use mathlib.Core.Bool.{Bool, true, not, cond, _&&_}
+-- What is left in a table, store by store, in the program's own order: receivers and ranks, numbers of copies. Assumes nothing.
+use Prim.Native.Nat.{ℕ, zero, suc, _+_}
+use mathlib.Core.Bool.{Bool, not, cond, _&&_}
 use mathlib.Core.List.{List, [], _∷_}
 use lib.ListN.{take, set}
 use lib.Dec.{eqb}
 use Rattle.effbd.specs.Diagrams.{Use}
 use Rattle.words.specs.Stores.{copied}
 use Rattle.words.specs.Sums.{added}
-use Rattle.diagram_table.specs.Cells.{receiversCell, firstCopyCell, someTriggerCell, copiesCell, rankCell, kindIn, countIn, triggerIn, receiversIn, runFirst, runLength, usesIn}
+use Rattle.diagram_table.specs.Cells.{receiversCell, firstCopyCell, someTriggerCell, copiesCell, rankCell, kindIn, triggerIn, receiversIn, usesIn}
 
 -- a FUNCTION that takes so much of item k receives it: of a trigger, and not 0
 unfoldable pub receivesIn : (table : List ℕ) (k much : ℕ) → Bool
@@ -42,17 +41,3 @@ copiesNumbered items (suc n) k many table = copiesNumbered items n (k + 1) (adde
 unfoldable pub copiesCounted : (file : List ℕ) (rows items : ℕ) (table zeros : List ℕ) → List ℕ
 copiesCounted file rows items table zeros =
     copiesNumbered items items 0 0 (rowsCounted file rows (set (copied (take someTriggerCell table) zeros) someTriggerCell 1))
-
--- a value at `many` places
-unfoldable pub runPut : (from many value : ℕ) → List ℕ → List ℕ
-runPut from zero value state = state
-runPut from (suc n) value state = set (runPut from n value state) (from + n) value
-
--- the initial counts of the first n items, each at the counts that a give of it changes
-unfoldable pub runsPut : (rows n : ℕ) (table state : List ℕ) → List ℕ
-runsPut rows zero table state = state
-runsPut rows (suc k) table state = runPut (3 * rows + runFirst table true 0 0 k) (runLength table true k) (countIn table k) (runsPut rows k table state)
-
--- the words of the rows and the items in front of zeros, with the copies of triggers
-unfoldable pub freshPut : (rows items : ℕ) (plain table zeros : List ℕ) → List ℕ
-freshPut rows items plain table zeros = runsPut rows items table (copied (take (3 * rows + items) plain) zeros)

@@ -1,17 +1,15 @@
--- What this crate promises: a table with the copies of its triggers, how many copies there are, a fresh state with them. Assumes nothing.
-use Prim.Native.Nat.{ℕ, _+_, _*_, _≤_, _<_}
+-- What this crate promises: a table with the copies of its triggers, how many copies there are. Assumes nothing.
+use Prim.Native.Nat.{ℕ, _<_}
 use mathlib.Core.Path.{_≡_}
 use mathlib.Core.List.{List}
-use lib.ListN.{length, getD, replicate}
+use lib.ListN.{length, replicate}
 use Rattle.effbd.specs.Ranges.{tabulate}
 use Rattle.effbd.specs.Diagrams.{Diagram, rowCount, itemTotal, row}
 use Rattle.effbd.specs.Counts.{copies}
-use Rattle.effbd.specs.States.{freshWords}
-use Rattle.effbd.specs.Nets.{mostPlaces}
 use Rattle.agreement.specs.AcceptedFiles.{Held}
 use Rattle.diagram_table.specs.Cells.{countedTotal, wideTotal, copiesIn, usesIn}
-use Rattle.diagram_table.specs.Held.{Tabulated, Holds, HoldsFile, HoldsCopies, HoldsPlant, FreshFront, FreshOf}
-use Rattle.copies.specs.Counting.{copiesCounted, freshPut}
+use Rattle.diagram_table.specs.Held.{Tabulated, HoldsFile, HoldsPlant}
+use Rattle.copies.specs.Counting.{copiesCounted}
 
 abbrev pub zeros : ℕ → List ℕ
 zeros n = tabulate n (λ i. 0)
@@ -31,8 +29,3 @@ pub record Widened (file : List ℕ) (rows items : ℕ) (table before wide : Lis
 pub record CopyTotal (file : List ℕ) (rows items : ℕ) (table : List ℕ) (total : ℕ) : Type 0 where
   pub is : total ≡ copiesIn (copiesCounted file rows items table (zeros countedTotal))
   pub of : (d : Diagram) → Held d → Tabulated d rows items table → ((r : ℕ) → r < rowCount d → usesIn table file r ≡ row d r .uses) → total ≡ length (copies d (itemTotal d))
-
--- a fresh state was made, of whatever the table holds
-pub record FreshMade (rows items : ℕ) (plain table state : List ℕ) : Type 0 where
-  pub is : state ≡ freshPut rows items plain table (zeros mostPlaces)
-  pub of : (d : Diagram) → Held d → Holds d rows items table → HoldsCopies d table → FreshFront d plain → FreshOf d state

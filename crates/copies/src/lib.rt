@@ -1,14 +1,13 @@
 // The copies of a diagram's triggers: a count of its own for each row that takes one. Counts them, numbers them behind the items in a table that is
-// wide enough for the rank of every use, and makes the fresh state that has them.
+// wide enough for the rank of every use.
 // Nothing is asked of a caller: past the end a cell is 0, a store changes nothing.
 ghost use mathlib.Core.Path.{_≡_};
 ghost use Prim.Native.Nat.{_+_, _*_};
 ghost use lib.ListN.{take};
 ghost use Rattle.diagram_table.specs.Cells.{rankCell, usesOf};
-ghost use Rattle.copies.specs.Counting.{receivesIn, useCounted, usesCounted, rowCounted, rowsCounted, copiesNumbered, copiesCounted, runPut, runsPut, freshPut};
-ghost use Rattle.copies.specs.Promised.{Widened, CopyTotal, FreshMade};
+ghost use Rattle.copies.specs.Counting.{receivesIn, useCounted, usesCounted, rowCounted, rowsCounted, copiesNumbered, copiesCounted};
+ghost use Rattle.copies.specs.Promised.{Widened, CopyTotal};
 use diagram_table::COPIES;
-use diagram_table::COUNT;
 use diagram_table::COUNTED;
 use diagram_table::FIRST_COPY;
 use diagram_table::RANK;
@@ -18,8 +17,6 @@ use diagram_table::TRIGGER;
 use diagram_table::USE_SIZE;
 use diagram_table::WIDE;
 use effbd::limits::MOST_ITEMS;
-use effbd::limits::MOST_PLACES;
-use words::kinds;
 
 // The first `n` words of a list, or all that it has.
 fn front<'a>(list: &'a [u16], n: usize) -> &'a [u16]
@@ -138,57 +135,4 @@ pub fn copy_total(table: &[u16], rows: u16, items: u16, file: &[u8]) -> u16
     let mut cells = [0u16; COUNTED];
     count_copies(&mut cells[0..COUNTED], table, rows, items, file);
     diagram_table::cell(&cells, COPIES, 0)
-}
-
-// Stores a value at `many` counts of a state, from its count `first` on.
-fn put_run(state: &mut [u16], rows: u16, first: u32, many: u32, value: u16)
-    ensures { λ _. ⌜ now (state .exit) ≡ runPut (3 * rows + first) many value (now (state .entry)) ⌝ }
-{
-    let from = 3 * rows as usize + first as usize;
-    let mut i: u32 = 0;
-    while i < many {
-        words::put(state, from + i as usize, value);
-        i += 1;
-    }
-}
-
-// The initial count of each item, at the counts that a give of it changes: its own, or a trigger's copies.
-fn put_runs(state: &mut [u16], table: &[u16], rows: u16, items: u16)
-    ensures { λ _. ⌜ now (state .exit) ≡ runsPut rows items (now (table .entry)) (now (state .entry)) ⌝ }
-{
-    let mut item: u32 = 0;
-    while item < items as u32 {
-        let first = diagram_table::run_first(table, true, 0, 0, item);
-        let many = diagram_table::run_length(table, true, item);
-        let count = diagram_table::cell(table, COUNT, item);
-        put_run(state, rows, first, many, count);
-        item += 1;
-    }
-}
-
-fn put_fresh(state: &mut [u16], plain: &[u16], table: &[u16], rows: u16, items: u16)
-    ensures { λ _. ⌜ now (state .exit) ≡ freshPut rows items (now (plain .entry)) (now (table .entry)) (now (state .entry)) ⌝ }
-{
-    words::copy(state, front(plain, 3 * rows as usize + items as usize));
-    put_runs(state, table, rows, items);
-}
-
-// The fresh state of a table with copies, from the words of its rows and items.
-pub fn fresh_state(
-    plain: &[u16],
-    table: &[u16],
-    rows: u16,
-    items: u16,
-) -> [u16; MOST_PLACES as usize]
-    ensures { λ r. ⌜ FreshMade rows items (now (plain .entry)) (now (table .entry)) r ⌝ }
-{
-    let mut state = [0u16; MOST_PLACES as usize];
-    put_fresh(
-        &mut state[0..MOST_PLACES as usize],
-        plain,
-        table,
-        rows,
-        items,
-    );
-    state
 }

@@ -23,7 +23,7 @@ impl Diagram {
 
     pub const ITEMS: u16 = MOST_ITEMS;
 
-    // The words of the fresh state but for the copies of triggers, which follow them (crate copies), and 0 behind them.
+    // The words of the fresh state but for the copies of triggers, which follow them (crate fresh_copies), and 0 behind them.
     pub fn fresh(self) -> [u16; PLAIN_PLACES as usize]
         ensures { λ r. ⌜ Freshened (self .rows) (self .items) (self .table) r ⌝ }
     {
@@ -49,7 +49,7 @@ fn put_fresh(state: &mut [u16], rows: u16, items: u16, table: &[u16])
         words::put(
             state,
             first + item,
-            diagram_table::shared_count(table, item as u32),
+            table_counts::shared_count(table, item as u32),
         );
         item += 1;
     }

@@ -12,7 +12,6 @@ use diagram_table::OWNER;
 use diagram_table::SECOND;
 use diagram_table::SOME_TRIGGER;
 use diagram_table::TRIGGER;
-use words::kinds;
 
 // The activities that the kind of a row has.
 fn activity_allowed(table: &[u16], row: u32, activity: u16) -> bool
@@ -128,7 +127,7 @@ fn shared_allowed(table: &[u16], rows: u32, items: u32, state: &[u16]) -> bool
 pub fn state_allowed(table: &[u16], rows: u32, items: u16, state: &[u16]) -> bool
     ensures { λ r. ⌜ r ≡ stateAllowed (now (table .entry)) rows items (now (state .entry)) ⌝ }
 {
-    if !rows_allowed(table, rows, diagram_table::count_total(table, items), state) {
+    if !rows_allowed(table, rows, table_counts::count_total(table, items), state) {
         return false;
     }
     shared_allowed(table, rows, items as u32, state)

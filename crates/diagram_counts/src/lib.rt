@@ -8,7 +8,6 @@ ghost use Rattle.diagram_table.specs.Cells.{usesOf, usesIn};
 ghost use Rattle.diagram_moves.specs.Decisions.{changed as changing};
 ghost use Rattle.diagram_moves.specs.Decisions.{countPlace};
 ghost use Rattle.diagram_moves.specs.Changes.{countTurn, useChanged, countsChanged, tickTurn, fold};
-use diagram_decide::uses;
 use diagram_state::cells;
 use diagram_table::USE_SIZE;
 
@@ -71,8 +70,8 @@ fn change_use(
     ensures { λ _. ⌜ now (state .exit) ≡ useChanged (now (table .entry)) giving rows row index item amount (now (state .entry)) ⌝ }
 {
     if amount != 0 {
-        let first = diagram_table::run_first(table, giving, row, index, item);
-        let length = diagram_table::run_length(table, giving, item);
+        let first = table_counts::run_first(table, giving, row, index, item);
+        let length = table_counts::run_length(table, giving, item);
         if length == 1 {
             change_count(state, rows, first, 0, giving, amount);
         } else {
@@ -90,7 +89,7 @@ fn change_uses(uses: &[u8], table: &[u16], rows: u32, state: &mut [u16], row: u3
     let mut index = 0;
     while USE_SIZE <= rest.len() {
         let item = words::word(rest, 0) as u32;
-        let amount = uses::amount(rest, giving);
+        let amount = diagram_uses::amount(rest, giving);
         change_use(table, rows, state, row, index, item, giving, amount);
         let more = words::tail(rest, USE_SIZE);
         rest = more;

@@ -8,7 +8,6 @@ use effbd::moves;
 use effbd::refusals;
 
 mod steps;
-pub mod uses;
 mod waits;
 
 // What a move of a state is told, with nothing written: 21 to 26, or accepted. The state is taken as it is: refusal 20 is crate diagram_check's. Of the

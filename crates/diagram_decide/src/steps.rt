@@ -2,14 +2,12 @@
 ghost use mathlib.Core.Path.{_≡_};
 ghost use Rattle.effbd.specs.Answers.{said};
 ghost use Rattle.diagram_moves.specs.Decisions.{branchesDone, readyVerdict, startVerdict, endVerdict, functionVerdict, branchVerdict, closeVerdict, rowVerdict};
-use crate::uses;
 use diagram_state::cells;
 use diagram_table::BRANCH_ENDED;
 use diagram_table::FIRST;
 use diagram_table::OWNER;
 use effbd::Answer;
 use effbd::refusals;
-use words::kinds;
 
 // All BRANCH rows of an AND are done, the last of which is `last`: each has the one before it for the branch that it ends, the first itself.
 pub(crate) fn all_done(table: &[u16], state: &[u16], last: u32) -> bool
@@ -42,7 +40,7 @@ fn ready(state: &[u16], at: u32, row: u32) -> Answer
 fn start(table: &[u16], rows: u32, items: u32, file: &[u8], state: &[u16], row: u32) -> Answer
     ensures { λ r. ⌜ said r ≡ startVerdict (now (table .entry)) rows items (now (file .entry)) (now (state .entry)) row ⌝ }
 {
-    let item = uses::blocked_item(table, rows, items, file, state, row, false);
+    let item = diagram_uses::blocked_item(table, rows, items, file, state, row, false);
     if item < items {
         return Answer::Refused(refusals::ITEM_SHORT, item);
     }
@@ -58,7 +56,7 @@ fn finish(table: &[u16], rows: u32, items: u32, file: &[u8], state: &[u16], row:
     if clock < alpha {
         return Answer::Refused(refusals::TICKS_LACKING, (alpha - clock) as u32);
     }
-    let item = uses::blocked_item(table, rows, items, file, state, row, true);
+    let item = diagram_uses::blocked_item(table, rows, items, file, state, row, true);
     if item < items {
         return Answer::Refused(refusals::SUM_TOO_LARGE, item);
     }

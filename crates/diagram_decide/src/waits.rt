@@ -4,7 +4,6 @@ ghost use Rattle.effbd.specs.Ranges.{allBelow};
 ghost use Rattle.effbd.specs.Answers.{said};
 ghost use Rattle.diagram_moves.specs.Decisions.{andDone, functionHolds, rowHolds, rowFree, waitVerdict};
 use crate::steps;
-use crate::uses;
 use diagram_state::cells;
 use diagram_table::BRANCH_ENDED;
 use diagram_table::CLOSE;
@@ -12,7 +11,6 @@ use diagram_table::OWNER;
 use diagram_table::SECOND;
 use effbd::Answer;
 use effbd::refusals;
-use words::kinds;
 
 // A FUNCTION holds a wait if it is ready with all its takes, or if its clock would pass its β.
 fn function_holds(
@@ -28,7 +26,7 @@ fn function_holds(
 {
     let activity = cells::activity(state, row);
     if activity == 1 {
-        let item = uses::blocked_item(table, rows, items, file, state, row, false);
+        let item = diagram_uses::blocked_item(table, rows, items, file, state, row, false);
         return items <= item;
     }
     if activity == 2 {

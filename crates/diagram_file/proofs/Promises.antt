@@ -16,7 +16,7 @@ use Rattle.effbd.specs.Nesting.{nestingFault, unlessRow, nested, readDiagram, f
 use Rattle.effbd.specs.Counts.{countTotal}
 use Rattle.effbd.specs.Layout.{places}
 use Rattle.effbd.specs.States.{stateLength}
-use Rattle.diagram_records.specs.declared.Reached.{Reached}
+use Rattle.row_records.specs.declared.Reached.{Reached}
 use Rattle.nesting.specs.declared.Judgement.{Judgement}
 use Rattle.diagram.specs.declared.Diagram.{Diagram as Parse}
 use Rattle.diagram_file.specs.declared.Refusal.{Refusal}

@@ -16,14 +16,15 @@ use Rattle.effbd.specs.Diagrams.{mostRows, mostItems, function, end, numberOf, 
 use Rattle.effbd.specs.Nesting.{nested, afterRows, afterItems, readDiagram, skip, fromRow}
 use Rattle.ranges.specs.Tests.{decide, and-left, and-right}
 use Rattle.agreement.specs.ByteLaws.{none-clean}
-use Rattle.diagram_records.specs.declared.Reached.{Reached}
+use Rattle.row_records.specs.declared.Reached.{Reached}
 use Rattle.diagram_table.specs.Cells.{cellOf, itemCell, someTriggerCell, triggerIn, someTriggerIn}
 use Rattle.diagram_table.specs.Held.{Tabulated}
-use Rattle.diagram_records.specs.Fields.{fieldOf}
-use Rattle.diagram_records.specs.Reading.{useFits, triggersFit, triggerFault, tableFault, Stopped, ItemsRead, RowsRead, endReached, usesFrom, column, recordRows, recordItems, readRecords, TabledUses, Recorded}
+use Rattle.row_records.specs.Fields.{fieldOf}
+use Rattle.row_records.specs.Rows.{useFits, triggersFit, triggerFault, tableFault, Stopped, RowsRead, endReached, usesFrom, column}
+use Rattle.diagram_records.specs.Reading.{ItemsRead, recordRows, recordItems, readRecords, TabledUses, Recorded}
 use Rattle.ranges.specs.Outcomes.{unless-refused, unless-then, andThen-twice}
-use Rattle.diagram_records.proofs.Fields.{function-base, function-behind}
-use Rattle.diagram_records.proofs.RecordsRead.{row-whole, of-kind, row-fine}
+use Rattle.row_records.proofs.Fields.{function-base, function-behind}
+use Rattle.row_records.proofs.RowsRead.{row-whole, of-kind, row-fine}
 
 -- n records that were read: their values, their faults, the rest
 pub record Many (A : Type 0) (fault : List ℕ → ℕ) (value : List ℕ → A) (n : ℕ) (start : List ℕ) (g : Got (List A)) : Type 0 where

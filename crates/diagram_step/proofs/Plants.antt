@@ -13,9 +13,10 @@ use Rattle.effbd.specs.Moves.{freshDiagram}
 use Rattle.diagram_table.specs.Cells.{someTriggerIn, countsIn}
 use Rattle.diagram_table.specs.Held.{HoldsFile, HoldsPlant, FreshFront, FreshOf}
 use Rattle.diagram.specs.FreshWords.{Freshened}
-use Rattle.copies.specs.Promised.{WidenedPlant, FreshMade}
+use Rattle.copies.specs.Promised.{WidenedPlant}
 use Rattle.copies.proofs.Plants.{plain-plant}
-use Rattle.copies.proofs.Freshness.{plain-fresh}
+use Rattle.fresh_copies.specs.Runs.{FreshMade}
+use Rattle.fresh_copies.proofs.Freshness.{plain-fresh}
 use Rattle.agreement.specs.AcceptedFiles.{held}
 use Rattle.ranges.specs.RangeLaws.{length-tab}
 use Rattle.diagram_moves.specs.Changes.{freshPlaced}

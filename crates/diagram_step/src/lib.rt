@@ -102,9 +102,9 @@ fn fresh_with_copies(diagram: Diagram, file: &[u8], state: &mut [u16]) -> Answer
     let items = diagram.items;
     let mut table = [0u16; WIDE];
     copies::widen(&mut table, &diagram.table, rows, items, file);
-    let size = 3 * rows as usize + diagram_table::count_total(&table, items) as usize;
+    let size = 3 * rows as usize + table_counts::count_total(&table, items) as usize;
     let plain = diagram.fresh();
-    let fresh = copies::fresh_state(&plain, &table, rows, items);
+    let fresh = fresh_copies::fresh_state(&plain, &table, rows, items);
     put_fresh(state, size, &fresh)
 }
 

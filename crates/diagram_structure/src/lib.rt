@@ -13,7 +13,6 @@ use diagram_table::LOOP;
 use diagram_table::OWNER;
 use effbd::limits::MOST_ROWS;
 use nesting::Part;
-use words::kinds;
 
 // What a row stands in: the innermost construct's open row and latest BRANCH, and the innermost LP.
 struct Around {

@@ -1,13 +1,12 @@
-// A diagram's table: its layout, and what its cells, as crate diagram_file fills them, say of a row's uses, of the counts that a use changes,
-// of a construct's BRANCH rows and of entering a row.
+// A diagram's table: its layout, and what its cells, as crate diagram_file fills them, say of a row's uses, of a construct's
+// BRANCH rows and of entering a row; what they say of counts is crate table_counts'.
 // Nothing is asked of a caller: past the table's end a cell is 0.
 ghost use mathlib.Core.Path.{_≡_};
 ghost use Prim.Native.Nat.{_+_, _<_};
 ghost use lib.ListN.{getD};
-ghost use Rattle.diagram_table.specs.Cells.{kindIn, usesPartIn, usesBytes, sharedIn, countsIn, runFirst, runLength, isBranch, killsIn, enteredIn};
+ghost use Rattle.diagram_table.specs.Cells.{kindIn, usesPartIn, usesBytes, isBranch, killsIn, enteredIn};
 use effbd::limits::MOST_ITEMS;
 use effbd::limits::MOST_ROWS;
-use words::kinds;
 
 // A column has a cell for each row; where each column starts, behind the kinds.
 pub const COLUMN: u32 = MOST_ROWS as u32;
@@ -97,57 +96,6 @@ pub fn uses<'a, 'b>(file: &'a [u8], table: &'b [u16], row: u32) -> &'a [u8]
         return &file[start..end];
     }
     &file[0..0]
-}
-
-// The count of an item at first: a trigger's shared count is 0.
-pub fn shared_count(table: &[u16], item: u32) -> u16
-    ensures { λ r. ⌜ r ≡ sharedIn (now (table .entry)) item ⌝ }
-{
-    if cell(table, TRIGGER, item) == 0 {
-        return cell(table, COUNT, item);
-    }
-    0
-}
-
-// How many counts a state has behind its rows: the items', and behind these the copies of triggers.
-pub fn count_total(table: &[u16], items: u16) -> u32
-    ensures { λ r. ⌜ r ≡ countsIn (now (table .entry)) items ⌝ }
-{
-    if cell(table, SOME_TRIGGER, 0) == 0 {
-        return items as u32;
-    }
-    items as u32 + cell(table, COPIES, 0) as u32
-}
-
-// The first of the counts that use `index` of a row changes, which names `item`: of a trigger a take changes the row's own copy, a give all.
-pub fn run_first(table: &[u16], giving: bool, row: u32, index: u32, item: u32) -> u32
-    ensures { λ r. ⌜ r ≡ runFirst (now (table .entry)) giving row index item ⌝ }
-{
-    if cell(table, TRIGGER, item) == 0 {
-        return item;
-    }
-    let first = cell(table, FIRST_COPY, item) as u32;
-    if giving {
-        return first;
-    }
-    let rank = words::get(
-        table,
-        RANK as usize + MOST_ITEMS as usize * row as usize + index as usize,
-    );
-    first + rank as u32
-}
-
-// How many they are.
-pub fn run_length(table: &[u16], giving: bool, item: u32) -> u32
-    ensures { λ r. ⌜ r ≡ runLength (now (table .entry)) giving item ⌝ }
-{
-    if !giving {
-        return 1;
-    }
-    if cell(table, TRIGGER, item) == 0 {
-        return 1;
-    }
-    cell(table, RECEIVERS, item) as u32
 }
 
 // Row `row` is a BRANCH of the construct that row `owner` opens.

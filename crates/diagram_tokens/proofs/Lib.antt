@@ -1,1 +1,1 @@
-mod BranchWalks
+mod KilledRows

@@ -1,21 +1,13 @@
 // What a move changes in the tokens on a diagram's rows: entering, killing, passing on, the branches of an AND, the rows of a loop. Crate
-// table_move says which of it a move does. Every function is total: past the end a cell or word is 0, a store changes nothing.
+// table_move says which of it a move does; a row's activity is set by crate diagram_activities. Every function is total: past the end a cell
+// or word is 0, a store changes nothing.
 ghost use mathlib.Core.Path.{_≡_};
 ghost use Prim.Native.Nat.{_≤_};
 ghost use lib.ListN.{length};
-ghost use Rattle.diagram_moves.specs.Changes.{rowSet, wordsCleared, branchesSet, rowsKilled, entered, tokenPassed, branchesEntered, rowsCleared};
+ghost use Rattle.diagram_moves.specs.Changes.{wordsCleared, rowsKilled, entered, tokenPassed, branchesEntered, rowsCleared};
 use diagram_table::BRANCH_ENDED;
 use diagram_table::CLOSE;
 use diagram_table::OWNER;
-use words::kinds;
-
-// Activity of a row, clock 0.
-pub fn set_row(state: &mut [u16], row: u32, activity: u16)
-    ensures { λ _. ⌜ now (state .exit) ≡ rowSet row activity (now (state .entry)) ⌝ }
-{
-    words::put(state, 3 * row as usize, activity);
-    words::put(state, 3 * row as usize + 2, 0);
-}
 
 // The words from `first` on, up to but not including `end`, all of which stand.
 fn clear_standing(state: &mut [u16], first: usize, end: usize)
@@ -39,21 +31,6 @@ fn clear_words(state: &mut [u16], first: usize, end: usize)
     }
 }
 
-// All BRANCH rows of an AND, the last of which is `last`, get an activity: each has the one before it for the branch that it ends, the first
-// itself.
-pub fn set_branches(table: &[u16], state: &mut [u16], last: u32, activity: u16)
-    ensures { λ _. ⌜ now (state .exit) ≡ branchesSet (now (table .entry)) activity last (now (state .entry)) ⌝ }
-{
-    let mut row = last;
-    set_row(state, row, activity);
-    let mut before = diagram_table::cell(table, BRANCH_ENDED, row) as u32;
-    while before < row {
-        row = before;
-        set_row(state, row, activity);
-        before = diagram_table::cell(table, BRANCH_ENDED, row) as u32;
-    }
-}
-
 // A branch of the AND that row `owner` opens kills: the rows strictly inside are cleared, then all its BRANCH rows are done.
 fn kill_rows(table: &[u16], state: &mut [u16], owner: u16)
     ensures { λ _. ⌜ now (state .exit) ≡ rowsKilled (now (table .entry)) owner (now (state .entry)) ⌝ }
@@ -61,7 +38,7 @@ fn kill_rows(table: &[u16], state: &mut [u16], owner: u16)
     let close = diagram_table::cell(table, CLOSE, owner as u32);
     let last = diagram_table::cell(table, BRANCH_ENDED, close as u32);
     clear_words(state, 3 * (owner as usize + 1), 3 * close as usize);
-    set_branches(table, state, last as u32, 3);
+    diagram_activities::set_branches(table, state, last as u32, 3);
 }
 
 pub fn enter(table: &[u16], state: &mut [u16], row: u32)
@@ -72,9 +49,9 @@ pub fn enter(table: &[u16], state: &mut [u16], row: u32)
         let owner = diagram_table::cell(table, OWNER, row);
         kill_rows(table, state, owner);
     } else if diagram_table::kind(table, changed) == kinds::BRANCH {
-        set_row(state, changed, 3);
+        diagram_activities::set_row(state, changed, 3);
     } else {
-        set_row(state, changed, 1);
+        diagram_activities::set_row(state, changed, 1);
     }
 }
 
@@ -82,7 +59,7 @@ pub fn enter(table: &[u16], state: &mut [u16], row: u32)
 pub fn pass_token(table: &[u16], state: &mut [u16], from: u32, to: u32)
     ensures { λ _. ⌜ now (state .exit) ≡ tokenPassed (now (table .entry)) from to (now (state .entry)) ⌝ }
 {
-    set_row(state, from, 0);
+    diagram_activities::set_row(state, from, 0);
     enter(table, state, to);
 }
 

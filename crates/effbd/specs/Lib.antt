@@ -15,4 +15,5 @@ pub mod Patterns
 pub mod Image
 pub mod Annex
 pub mod BusEnds
+pub mod Editions
 pub mod History

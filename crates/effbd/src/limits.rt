@@ -27,6 +27,9 @@ pub const TELEGRAM_LENGTH: u16 = 14;
 
 pub const MOST_COUNT: u32 = 4294967295;
 
+// The bytes of a telegram of the old edition.
+pub const OLD_TELEGRAM_LENGTH: u16 = 8;
+
 // The moves of a log, and the bytes of each: a setpoint.
 pub const MOST_MOVES: usize = 65535;
 

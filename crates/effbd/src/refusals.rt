@@ -54,3 +54,7 @@ pub const TRIGGER_OFF: u16 = 43;
 pub const KILLING_BRANCH_EMPTY: u16 = 44;
 
 pub const LOOP_SPENDS_NO_TIME: u16 = 45;
+
+pub const NUMBER_NOT_NEXT: u16 = 46;
+
+pub const STATION_DIFFERS: u16 = 47;

@@ -2,7 +2,7 @@
 // number 0 where accepted. Each hands its arguments on as they are: what it answers and leaves is what the called function promises.
 ghost use mathlib.Core.Path.{_≡_};
 ghost use lib.ListN.{length};
-ghost use Rattle.effbd.specs.Answers.{said, returningZero, afterwards, packed};
+ghost use Rattle.effbd.specs.Answers.{returningZero, afterwards, packed};
 ghost use Rattle.effbd.specs.Moves.{stepDiagram, freshDiagram};
 ghost use Rattle.effbd.specs.Firing.{stepNet, freshNet, wordsOf};
 ghost use Rattle.effbd.specs.Patterns.{translated};
@@ -12,24 +12,14 @@ ghost use Rattle.effbd.specs.States.{stateLength};
 ghost use Rattle.effbd.specs.Nesting.{usesPart, packedPart};
 ghost use Rattle.effbd.specs.Nets.{readNet};
 ghost use Rattle.effbd.specs.Starts.{logStarts};
-use effbd::Answer;
-
-// An answer as one number.
-fn pack(answer: Answer) -> u64
-    ensures { λ r. ⌜ r ≡ packed (said answer) ⌝ }
-{
-    match answer {
-        Answer::Accepted(value) => value as u64,
-        Answer::Refused(number, value) => (number as u64) * 4294967296 + value as u64,
-    }
-}
+ghost use Rattle.effbd.specs.Editions.{telegramsUp, telegramsDown};
 
 // A diagram file: accepted with the number of words of its state.
 #[no_mangle]
 pub extern "C" fn effbd_read(file: &[u8]) -> u64
     ensures { λ r. ⌜ r ≡ packed (stateLength (now (file .entry))) ⌝ }
 {
-    pack(diagram_file::read(file))
+    answers::pack(diagram_file::read(file))
 }
 
 // Where the uses of a FUNCTION row lie in a diagram file: start * 2^32 + size; for a refused file or another row 0.
@@ -38,7 +28,7 @@ pub extern "C" fn effbd_uses(file: &[u8], row: u16) -> u64
     ensures { λ r. ⌜ r ≡ packedPart (usesPart (now (file .entry)) row) ⌝ }
 {
     let part = diagram_file::uses_part(file, row);
-    (part.start as u64) * 4294967296 + part.size as u64
+    answers::pack_part(part.start as u32, part.size as u32)
 }
 
 // The fresh state of a diagram.
@@ -47,7 +37,7 @@ pub extern "C" fn effbd_fresh(file: &[u8], state: &mut [u16]) -> u64
     ensures { λ r. ⌜ r ≡ packed (returningZero (freshDiagram (now (file .entry)) (now (state .entry)))) ⌝ }
     ensures { λ _. ⌜ now (state .exit) ≡ afterwards (now (state .entry)) (freshDiagram (now (file .entry)) (now (state .entry))) ⌝ }
 {
-    pack(diagram_step::fresh(file, state))
+    answers::pack(diagram_step::fresh(file, state))
 }
 
 // A step or wait of a diagram.
@@ -56,7 +46,7 @@ pub extern "C" fn effbd_step(file: &[u8], state: &mut [u16], code: u16, argument
     ensures { λ r. ⌜ r ≡ packed (returningZero (stepDiagram (now (file .entry)) code argument (now (state .entry)))) ⌝ }
     ensures { λ _. ⌜ now (state .exit) ≡ afterwards (now (state .entry)) (stepDiagram (now (file .entry)) code argument (now (state .entry))) ⌝ }
 {
-    pack(diagram_step::step(file, state, code, argument))
+    answers::pack(diagram_step::step(file, state, code, argument))
 }
 
 // The net of a diagram.
@@ -65,7 +55,7 @@ pub extern "C" fn effbd_translate(file: &[u8], area: &mut [u8]) -> u64
     ensures { λ r. ⌜ r ≡ packed (translated (now (file .entry)) (now (area .entry)) .answer) ⌝ }
     ensures { λ _. ⌜ now (area .exit) ≡ translated (now (file .entry)) (now (area .entry)) .area ⌝ }
 {
-    pack(translate::translate(file, area))
+    answers::pack(translate::translate(file, area))
 }
 
 // The annex text of a diagram, whose net is written into `net`: the text's length, also where `text` ends before it does.
@@ -83,7 +73,7 @@ pub extern "C" fn effbd_annex(file: &[u8], net: &mut [u8], text: &mut [u8]) -> u
 pub extern "C" fn tpn_read(net: &[u8]) -> u64
     ensures { λ r. ⌜ r ≡ packed (wordsOf (readNet (now (net .entry)))) ⌝ }
 {
-    pack(net_file::read(net))
+    answers::pack(net_file::read(net))
 }
 
 // The fresh state of a net.
@@ -92,7 +82,7 @@ pub extern "C" fn tpn_fresh(net: &[u8], state: &mut [u16]) -> u64
     ensures { λ r. ⌜ r ≡ packed (returningZero (freshNet (now (net .entry)) (now (state .entry)))) ⌝ }
     ensures { λ _. ⌜ now (state .exit) ≡ afterwards (now (state .entry)) (freshNet (now (net .entry)) (now (state .entry))) ⌝ }
 {
-    pack(net_fresh::fresh(net, state))
+    answers::pack(net_fresh::fresh(net, state))
 }
 
 // A step or wait of a net.
@@ -101,7 +91,7 @@ pub extern "C" fn tpn_step(net: &[u8], state: &mut [u16], code: u16, argument: u
     ensures { λ r. ⌜ r ≡ packed (returningZero (stepNet (now (net .entry)) code argument (now (state .entry)))) ⌝ }
     ensures { λ _. ⌜ now (state .exit) ≡ afterwards (now (state .entry)) (stepNet (now (net .entry)) code argument (now (state .entry))) ⌝ }
 {
-    pack(net_step::step(net, state, code, argument))
+    answers::pack(net_step::step(net, state, code, argument))
 }
 
 // The leader's call.
@@ -119,7 +109,7 @@ pub extern "C" fn leader_offer(
     ensures { λ _. ⌜ now (state .exit) ≡ offered (now (file .entry)) (now (state .entry)) count station code argument (now (area .entry)) .state ⌝ }
     ensures { λ _. ⌜ now (area .exit) ≡ offered (now (file .entry)) (now (state .entry)) count station code argument (now (area .entry)) .area ⌝ }
 {
-    pack(bus_leader::offer(file, state, count, station, code, argument, area))
+    answers::pack(bus_leader::offer(file, state, count, station, code, argument, area))
 }
 
 // The follower's call.
@@ -134,7 +124,7 @@ pub extern "C" fn follower_take(
     ensures { λ r. ⌜ r ≡ packed (taken (now (net .entry)) (now (state .entry)) count station (now (telegram .entry)) .answer) ⌝ }
     ensures { λ _. ⌜ now (state .exit) ≡ taken (now (net .entry)) (now (state .entry)) count station (now (telegram .entry)) .state ⌝ }
 {
-    pack(bus_follower::take(net, state, count, station, telegram))
+    answers::pack(bus_follower::take(net, state, count, station, telegram))
 }
 
 // The most starts of a FUNCTION row in any hour of a log.
@@ -143,5 +133,30 @@ pub extern "C" fn log_starts(file: &[u8], log: &[u8], row: u16, at: &mut u32) ->
     ensures { λ r. ⌜ r ≡ packed (logStarts (now (file .entry)) (now (log .entry)) row (now (at .entry)) .answer) ⌝ }
     ensures { λ _. ⌜ now (at .exit) ≡ logStarts (now (file .entry)) (now (log .entry)) row (now (at .entry)) .at ⌝ }
 {
-    pack(starts::log_starts(file, log, row, at))
+    answers::pack(starts::log_starts(file, log, row, at))
+}
+
+// A run of old telegrams as telegrams of this edition.
+#[no_mangle]
+pub extern "C" fn telegrams_up(old: &[u8], station: u16, first: u32, area: &mut [u8]) -> u64
+    ensures { λ r. ⌜ r ≡ packed (telegramsUp (now (old .entry)) station first (now (area .entry)) .answer) ⌝ }
+    ensures { λ _. ⌜ now (area .exit) ≡ telegramsUp (now (old .entry)) station first (now (area .entry)) .area ⌝ }
+{
+    answers::pack(editions::telegrams_up(old, station, first, area))
+}
+
+// A run of telegrams as old ones, with the station and the first number that give it back.
+#[no_mangle]
+pub extern "C" fn telegrams_down(
+    run: &[u8],
+    area: &mut [u8],
+    station: &mut u16,
+    first: &mut u32,
+) -> u64
+    ensures { λ r. ⌜ r ≡ packed (telegramsDown (now (run .entry)) (now (area .entry)) (now (station .entry)) (now (first .entry)) .answer) ⌝ }
+    ensures { λ _. ⌜ now (area .exit) ≡ telegramsDown (now (run .entry)) (now (area .entry)) (now (station .entry)) (now (first .entry)) .area ⌝ }
+    ensures { λ _. ⌜ now (station .exit) ≡ telegramsDown (now (run .entry)) (now (area .entry)) (now (station .entry)) (now (first .entry)) .station ⌝ }
+    ensures { λ _. ⌜ now (first .exit) ≡ telegramsDown (now (run .entry)) (now (area .entry)) (now (station .entry)) (now (first .entry)) .first ⌝ }
+{
+    answers::pack(editions::telegrams_down(run, area, station, first))
 }

@@ -11,7 +11,6 @@ ghost use Rattle.loop_times.specs.Loops.{looked, isLoop, BehindClose, Lo
 use effbd::limits::MOST_ROWS;
 use effbd::refusals;
 use nesting::Judgement;
-use words::kinds;
 
 // What the rows from one on have shown: how many of the LPs around that row have spent no time so far, and the lowest LP from there on that spends
 // none, or the number of rows.

@@ -8,7 +8,6 @@ ghost use Rattle.nesting.specs.Runs.{partOf, kindIn, topIn, firstIn, isA
 use effbd::limits::MOST_OPEN;
 use effbd::limits::MOST_ROWS;
 use effbd::refusals;
-use words::kinds;
 
 // What a row does to the constructs that are open: adds one, turns the innermost to its next branch, takes it off, or nothing.
 pub enum Part {

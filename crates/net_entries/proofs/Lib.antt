@@ -1,5 +1,2 @@
-pub mod Weights
-pub mod ClearRanges
-pub mod PatternRecords
 pub mod Entries
-pub mod Kills
+pub mod EnteringRecords

@@ -1,82 +1,16 @@
-// What a transition writes of entering a row, from a diagram's table (crate diagram_table): a give; where that ends a branch that kills, one
-// clear range and one walk of gives. Nothing is asked of a caller: any words are a table.
+// What a transition writes of entering a row, from a diagram's table (crate diagram_table): a give; where that ends a branch that kills, that
+// kill (crate net_clears). Nothing is asked of a caller: any words are a table.
 ghost use mathlib.Core.Path.{_≡_};
-ghost use Prim.Native.Nat.{_+_, _-_};
-ghost use Rattle.diagram_table.specs.Cells.{closeIn};
-ghost use Rattle.net_records.specs.Writing.{Wrote, span};
-ghost use Rattle.net_entries.specs.Entering.{entry as entryOf, restore as restoreRecords, revive as reviveRecords, kill as killRecords, entering as enteringRecords};
-use diagram_table::CLOSE;
-use diagram_table::FIRST;
+ghost use Rattle.net_records.specs.Writing.{Wrote};
+ghost use Rattle.net_entries.specs.Entering.{entry as entryOf, entering as enteringRecords};
 use diagram_table::OWNER;
-use words::kinds;
-use words::kinds::CLEAR;
-use words::kinds::GIVE;
+use kinds::GIVE;
 
 // P of the row that entering a row changes where no branch kills.
 pub fn entry(table: &[u16], row: u32) -> usize
     ensures { λ r. ⌜ r ≡ entryOf (now (table .entry)) row ⌝ }
 {
     3 * diagram_table::entered_row(table, row) as usize
-}
-
-// R of an IT open among rows that are cleared is its count again.
-pub fn restore(table: &[u16], row: u32, area: &mut [u8], at: usize) -> usize
-    ensures { λ r. ⌜ Wrote (now (area .entry)) at (now (area .exit)) r (restoreRecords (now (table .entry)) row) ⌝ }
-{
-    if diagram_table::kind(table, row) == kinds::IT_OPEN {
-        let count = diagram_table::cell(table, FIRST, row);
-        return net_records::arc(area, at, GIVE, 3 * row as usize + 2, count);
-    }
-    at
-}
-
-// What a kill gives at a row of the AND that row `opened` opens: its BRANCH rows are done, an IT open has its R again.
-fn revive(table: &[u16], opened: u32, row: u32, area: &mut [u8], at: usize) -> usize
-    ensures { λ r. ⌜ Wrote (now (area .entry)) at (now (area .exit)) r (reviveRecords (now (table .entry)) opened row) ⌝ }
-{
-    if diagram_table::is_branch(table, opened, row) {
-        return net_records::arc(area, at, GIVE, 3 * row as usize, 1);
-    }
-    restore(table, row, area, at)
-}
-
-fn revives(table: &[u16], opened: u16, closed: u16, area: &mut [u8], at: usize) -> usize
-    ensures { λ r. ⌜ Wrote (now (area .entry)) at (now (area .exit)) r (span (reviveRecords (now (table .entry)) opened) (opened + 1) closed) ⌝ }
-{
-    let mut next = at;
-    let mut row = opened as u32 + 1;
-    while row < closed as u32 {
-        next = revive(table, opened as u32, row, area, next);
-        row += 1;
-    }
-    next
-}
-
-// The row before a row; the first has none and stays.
-fn row_before(row: u16) -> u16
-    ensures { λ r. ⌜ r ≡ row - 1 ⌝ }
-{
-    if row == 0 {
-        return 0;
-    }
-    row - 1
-}
-
-// A kill in the AND that row `opened` opens: all places of the rows in it are one range, so an LE's own range and an ending IT's own R are
-// in it, and no R is given twice.
-pub fn kill(table: &[u16], opened: u16, area: &mut [u8], at: usize) -> usize
-    ensures { λ r. ⌜ Wrote (now (area .entry)) at (now (area .exit)) r (killRecords (now (table .entry)) opened) ⌝ }
-{
-    let closed = diagram_table::cell(table, CLOSE, opened as u32);
-    let last = row_before(closed);
-    let gives = net_records::pair(
-        area,
-        at,
-        CLEAR,
-        3 * (opened as usize + 1),
-        3 * last as usize + 2,
-    );
-    revives(table, opened, closed, area, gives)
 }
 
 // Entering a row.
@@ -86,7 +20,7 @@ pub fn enter(table: &[u16], row: u32, area: &mut [u8], at: usize) -> usize
     let changed = diagram_table::entered_row(table, row);
     if diagram_table::kills(table, changed) {
         let opened = diagram_table::cell(table, OWNER, changed);
-        return kill(table, opened, area, at);
+        return net_clears::kill(table, opened, area, at);
     }
     net_records::arc(area, at, GIVE, 3 * changed as usize, 1)
 }

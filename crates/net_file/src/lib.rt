@@ -7,12 +7,12 @@ use effbd::limits::MOST_TRANSITIONS;
 use effbd::refusals::BYTES_AFTER_LAST;
 use effbd::refusals::FIELD_OFF;
 use effbd::refusals::HEAD_VALUE_OFF;
-use words::kinds::CLEAR;
-use words::kinds::GIVE;
-use words::kinds::NET_HEAD;
-use words::kinds::PLACE;
-use words::kinds::TAKE;
-use words::kinds::TRANSITION;
+use kinds::CLEAR;
+use kinds::GIVE;
+use kinds::NET_HEAD;
+use kinds::PLACE;
+use kinds::TAKE;
+use kinds::TRANSITION;
 ghost use mathlib.Core.Path.{_≡_};
 ghost use mathlib.Core.Bool.{cond};
 ghost use Prim.Native.Nat.{_+_, _-_, _≤_};
@@ -39,7 +39,7 @@ fn own_length(table: &[u8], rest: &[u8]) -> u16
     requires { ⌜ KindBytes (now table) ⌝ }
     ensures { λ r. ⌜ r ≡ ownLength (now (rest .entry)) ⌝ }
 {
-    words::kinds::base_length(table, words::word(rest, 2))
+    kinds::base_length(table, words::word(rest, 2))
 }
 
 // The length that a kind gives, where the record at the start has it and stands whole; else 0.
@@ -47,7 +47,7 @@ fn size_by(table: &[u8], kind: u16, rest: &[u8]) -> u16
     requires { ⌜ KindBytes (now table) ⌝ }
     ensures { λ r. ⌜ r ≡ sizeBy kind (now (rest .entry)) ⌝ }
 {
-    let size = words::kinds::base_length(table, kind);
+    let size = kinds::base_length(table, kind);
     if words::word(rest, 0) != size {
         return 0;
     }
@@ -322,7 +322,7 @@ fn read_places(table: &[u8], total: usize, count: u16, transitions: u16, behind:
 pub fn read(net: &[u8]) -> Answer
     ensures { λ r. ⌜ said r ≡ wordsOf (readNet (now (net .entry))) ⌝ }
 {
-    let table = words::kinds::table();
+    let table = kinds::table();
     let wrong = head_fault(&table, net);
     if wrong != 0 {
         return Answer::Refused(wrong, 0);

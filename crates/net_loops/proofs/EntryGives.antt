@@ -16,7 +16,7 @@ use Rattle.ranges.specs.RangeLaws.{only-refl}
 use Rattle.net_records.specs.Writing.{Records, runs}
 use Rattle.net_records.specs.Records.{arc}
 use Rattle.net_records.proofs.Runs.{runs-one, runs-first, runs-last}
-use Rattle.net_entries.proofs.Weights.{arc-none, rowArcs, weights, count-none, weighed}
+use Rattle.net_clears.proofs.Weights.{arc-none, rowArcs, weights, count-none, weighed}
 use Rattle.net_loops.specs.LoopTransitions.{early, late}
 
 module _ (d : Diagram) where

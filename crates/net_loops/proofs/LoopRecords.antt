@@ -28,11 +28,11 @@ use Rattle.net_records.specs.Writing.{Records, runs, span}
 use Rattle.net_records.specs.Records.{arc}
 use Rattle.net_records.proofs.Runs.{runs-same, runs-span}
 use Rattle.net_loops.specs.LoopTransitions.{early, late, itTurn, killTurn, itOver, itOpen, leave, exitTurn, loopExit}
-use Rattle.net_entries.specs.Entering.{restore}
-use Rattle.net_entries.proofs.Weights.{arc-none, weights, count-none, at-P, mark-P}
-use Rattle.net_entries.proofs.PatternRecords.{patternRecords, allPatterns, one-clear, unclearing}
+use Rattle.net_clears.specs.Clearing.{restore}
+use Rattle.net_clears.proofs.Weights.{arc-none, weights, count-none, at-P, mark-P}
+use Rattle.net_clears.proofs.PatternRecords.{patternRecords, allPatterns, one-clear, unclearing}
 use Rattle.net_entries.proofs.Entries.{next-entry, next-entered}
-use Rattle.net_entries.proofs.Kills.{sparing, no-rows, kills-is, owner-is, entering-kill, enter-is}
+use Rattle.net_entries.proofs.EnteringRecords.{sparing, no-rows, kills-is, owner-is, entering-kill, enter-is}
 use Rattle.net_loops.proofs.EntryGives.{entry-among, it-gives}
 
 -- an IT open: P and what it takes at Q or R; what it gives there, and the entry

@@ -8,7 +8,8 @@ use Rattle.effbd.specs.Nets.{takeArc, clearArc, giveArc}
 use Rattle.diagram_table.specs.Cells.{firstIn, ownerIn, closeIn, loopIn, killsIn, enteredIn}
 use Rattle.net_records.specs.Writing.{Records, span}
 use Rattle.net_records.specs.Records.{transition, pair, arc}
-use Rattle.net_entries.specs.Entering.{entry, restore, kill}
+use Rattle.net_clears.specs.Clearing.{restore, kill}
+use Rattle.net_entries.specs.Entering.{entry}
 
 -- gives stand by rising places: the give to `to` stands before the gives to the places behind `place`, or after them
 unfoldable pub early : (to place : ℕ) → ℕ

@@ -3,15 +3,15 @@
 ghost use mathlib.Core.Path.{_≡_};
 ghost use Prim.Native.Nat.{_+_};
 ghost use Rattle.net_records.specs.Writing.{Wrote, span};
-ghost use Rattle.net_entries.specs.Entering.{restore as restoreRecords};
+ghost use Rattle.net_clears.specs.Clearing.{restore as restoreRecords};
 ghost use Rattle.net_loops.specs.LoopTransitions.{early as earlyOf, late as lateOf, itTurn, killTurn, itOver, itOpen, leave as leaveRecords, exitTurn, loopExit};
 use diagram_table::CLOSE;
 use diagram_table::FIRST;
 use diagram_table::LOOP;
 use diagram_table::OWNER;
-use words::kinds::CLEAR;
-use words::kinds::GIVE;
-use words::kinds::TAKE;
+use kinds::CLEAR;
+use kinds::GIVE;
+use kinds::TAKE;
 
 // Gives stand by rising places: the weight of the give to `to` before the gives to the places behind `place`, and after them.
 fn early(to: usize, place: usize) -> u16
@@ -61,7 +61,7 @@ fn kill_turn(table: &[u16], row: u16, weight: u16, opened: u16, area: &mut [u8],
     let own = net_records::transition(area, at, row as usize, 0, 0);
     let takes = net_records::arc(area, own, TAKE, 3 * row as usize, 1);
     let kills = net_records::arc(area, takes, TAKE, 3 * row as usize + 1, weight);
-    net_entries::kill(table, opened, area, kills)
+    net_clears::kill(table, opened, area, kills)
 }
 
 // The second transition of an IT open, its turns being over: `changed` is the row that entering the row after its close changes.
@@ -108,7 +108,7 @@ fn restores(table: &[u16], opened: u16, closed: u16, area: &mut [u8], at: usize)
     let mut next = at;
     let mut row = opened as u32;
     while row < closed as u32 + 1 {
-        next = net_entries::restore(table, row, area, next);
+        next = net_clears::restore(table, row, area, next);
         row += 1;
     }
     next

@@ -1,2 +1,1 @@
-pub mod CountMarks
-pub mod HeadMarks
+pub mod FreshMarks

@@ -8,8 +8,8 @@ ghost use lib.ListN.{length};
 ghost use lib.Seq.{sets};
 ghost use Rattle.net_records.specs.Writing.{encode, past as pastOf, Wrote};
 ghost use Rattle.net_records.specs.Records.{transition as transitionRecord, pair as pairRecord, arc as arcRecord, mark as markRecord};
-use words::kinds::PLACE;
-use words::kinds::TRANSITION;
+use kinds::PLACE;
+use kinds::TRANSITION;
 
 // Far above the length of every net.
 const OFFSET_LIMIT: usize = 1000000000;

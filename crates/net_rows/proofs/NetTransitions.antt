@@ -17,8 +17,8 @@ use Rattle.net_records.specs.Records.{transition}
 use Rattle.net_rows.specs.Rows.{rowRecords}
 use Rattle.net_records.proofs.Runs.{runs-same}
 use Rattle.net_records.proofs.Nets.{arcRecord, transitionRecord, transitionRecords, records-append}
-use Rattle.net_entries.proofs.Weights.{arcs-run, weights}
-use Rattle.net_entries.proofs.PatternRecords.{clears, patternRecords, allPatterns}
+use Rattle.net_clears.proofs.Weights.{arcs-run, weights}
+use Rattle.net_clears.proofs.PatternRecords.{clears, patternRecords, allPatterns}
 use Rattle.net_rows.proofs.RowRecords.{row-is}
 
 module _ (d : Diagram) (few : places d ≤ mostPlaces) where

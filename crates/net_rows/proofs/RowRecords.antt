@@ -31,10 +31,10 @@ use Rattle.net_records.proofs.Runs.{runs-same, runs-span}
 use Rattle.net_rows.proofs.ConstructWalks.{walk-span}
 use Rattle.net_rows.proofs.ConstructRows.{behind-branch, branch-inside, owner-inside}
 use Rattle.net_rows.proofs.BranchGives.{images}
-use Rattle.net_entries.proofs.Weights.{weights, count-none, mark-P, mark-each}
-use Rattle.net_entries.proofs.PatternRecords.{allPatterns, unclearing}
+use Rattle.net_clears.proofs.Weights.{weights, count-none, mark-P, mark-each}
+use Rattle.net_clears.proofs.PatternRecords.{allPatterns, unclearing}
 use Rattle.net_entries.proofs.Entries.{next-entry, next-entered}
-use Rattle.net_entries.proofs.Kills.{sparing, no-rows, enter-is}
+use Rattle.net_entries.proofs.EnteringRecords.{sparing, no-rows, enter-is}
 use Rattle.net_loops.proofs.LoopRecords.{it-open-is, loop-exit-is}
 use Rattle.net_uses.proofs.FunctionRecords.{function-is}
 

@@ -27,9 +27,11 @@ use Rattle.diagram_table.proofs.HeldCells.{in-rows, kind-cell, owner-cell, clos
 use Rattle.net_records.specs.Writing.{Records, runs, span}
 use Rattle.net_records.specs.Records.{pair, arc}
 use Rattle.net_records.proofs.Small.{Small, none-small, more, _then_, either, when, turns, apart, together, transition-small, pair-small, arc-small}
-use Rattle.net_entries.specs.Entering.{restore, revive, kill, entering}
-use Rattle.net_entries.proofs.Weights.{arc-none, rowArcs, Idle, idle-row}
-use Rattle.net_entries.proofs.Kills.{kill-gives, kill-is, kills-is, owner-is, entering-kill, entering-one}
+use Rattle.net_clears.specs.Clearing.{restore, revive, kill}
+use Rattle.net_entries.specs.Entering.{entering}
+use Rattle.net_clears.proofs.Weights.{arc-none, rowArcs, Idle, idle-row}
+use Rattle.net_clears.proofs.Kills.{kill-gives, kill-is}
+use Rattle.net_entries.proofs.EnteringRecords.{kills-is, owner-is, entering-kill, entering-one}
 use Rattle.net_loops.specs.LoopTransitions.{itTurn, killTurn, itOver, itOpen, leave, exitTurn, loopExit}
 use Rattle.net_uses.specs.FunctionTransitions.{functionStart, functionEnd, functionOf, functionRecords}
 use Rattle.net_uses.proofs.UseSizes.{few-uses, takes-small, gives-small}

@@ -5,9 +5,8 @@ ghost use Rattle.net_records.specs.Writing.{Wrote, runs};
 ghost use Rattle.net_rows.specs.Rows.{token as tokenRecords, branchPlace, branchArc, behindIn, branchArcs, andOpen, andClose, branchToken, orClose, onward as onwardRecords, back as backRecords, rowRecords, mostRowBytes};
 use diagram_table::CLOSE;
 use diagram_table::OWNER;
-use words::kinds;
-use words::kinds::GIVE;
-use words::kinds::TAKE;
+use kinds::GIVE;
+use kinds::TAKE;
 
 // One token from a place to a place.
 fn token(row: u16, from: usize, to: usize, area: &mut [u8], at: usize) -> usize

@@ -19,7 +19,7 @@ use Rattle.diagram_table.specs.Held.{Holds, HoldsUses, HoldsCopies, HoldsRanks,
 use Rattle.net_records.specs.Writing.{Records, runs}
 use Rattle.net_records.specs.Records.{arc}
 use Rattle.net_records.proofs.Runs.{runs-same, runs-none}
-use Rattle.net_entries.proofs.Weights.{arc-none, countArcs}
+use Rattle.net_clears.proofs.Weights.{arc-none, countArcs}
 use Rattle.net_uses.specs.FunctionTransitions.{useWeight, equalArcs, copyArcs, useArc, passArcs, triggerArcs, plainArcs, useArcs}
 use Rattle.net_uses.proofs.UseArcs.{by-item, pass-is, plain-is, equal-none, equal-one, item-low, eachUse}
 use Rattle.net_uses.proofs.CountTurns.{firstOf, receiversOf, by-counts, taken, given}

@@ -16,7 +16,7 @@ use Rattle.agreement.specs.Sources.{copies-run, copyAt, counts-are, gives-copy,
 use Rattle.net_records.specs.Writing.{Records, runs}
 use Rattle.net_records.specs.Records.{arc}
 use Rattle.net_records.proofs.Runs.{runs-same, runs-none, runs-one, runs-plus}
-use Rattle.net_entries.proofs.Weights.{arc-none}
+use Rattle.net_clears.proofs.Weights.{arc-none}
 use Rattle.net_uses.specs.FunctionTransitions.{equalArcs}
 
 module _ (d : Diagram) where

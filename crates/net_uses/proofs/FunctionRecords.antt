@@ -18,9 +18,9 @@ use Rattle.diagram_table.specs.Cells.{usesIn}
 use Rattle.diagram_table.specs.Held.{Holds, HoldsUses, HoldsCopies, HoldsRanks}
 use Rattle.diagram_table.proofs.HeldCells.{in-rows, first-cell}
 use Rattle.net_records.specs.Records.{arc}
-use Rattle.net_entries.proofs.Weights.{arc-none, at-P, mark-Q}
-use Rattle.net_entries.proofs.PatternRecords.{patternRecords, allPatterns, unclearing}
-use Rattle.net_entries.proofs.Kills.{enter-is}
+use Rattle.net_clears.proofs.Weights.{arc-none, at-P, mark-Q}
+use Rattle.net_clears.proofs.PatternRecords.{patternRecords, allPatterns, unclearing}
+use Rattle.net_entries.proofs.EnteringRecords.{enter-is}
 use Rattle.net_uses.specs.FunctionTransitions.{useArcs, functionStart, functionEnd, functionOf, functionRecords}
 use Rattle.net_uses.proofs.CountArcs.{takes-are, gives-are}
 

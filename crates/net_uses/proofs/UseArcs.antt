@@ -20,7 +20,7 @@ use Rattle.diagram_table.proofs.UsesWalked.{uses-next, uses-over}
 use Rattle.net_records.specs.Writing.{Records, runs}
 use Rattle.net_records.specs.Records.{arc}
 use Rattle.net_records.proofs.Runs.{runs-same, runs-none, runs-first}
-use Rattle.net_entries.proofs.Weights.{arc-none}
+use Rattle.net_clears.proofs.Weights.{arc-none}
 use Rattle.net_uses.specs.FunctionTransitions.{weightAt, useWeight, equalArcs, copyArcs, useArc, passArcs, triggerArcs, plainArcs, useArcs, functionOf, functionRecords}
 
 -- the first of uses whose item numbers rise from `from` on and stay below M

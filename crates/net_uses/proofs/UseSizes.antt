@@ -13,7 +13,7 @@ use Rattle.agreement.specs.AcceptedFiles.{Held}
 use Rattle.diagram_table.specs.Cells.{usesIn, triggerIn, someTriggerIn, runFirst, runLength}
 use Rattle.diagram_table.specs.Held.{Holds, HoldsUses, HoldsCopies, HoldsRanks}
 use Rattle.net_records.proofs.Small.{Small, none-small, more, _then_, either, turns, arc-small}
-use Rattle.net_entries.proofs.Weights.{countArcs}
+use Rattle.net_clears.proofs.Weights.{countArcs}
 use Rattle.net_uses.specs.FunctionTransitions.{copyArcs, useArc, passArcs, triggerArcs, plainArcs, useArcs}
 use Rattle.net_uses.proofs.UseArcs.{uses-few, equal-one}
 use Rattle.net_uses.proofs.CountArcs.{uses-fine, gives-are}

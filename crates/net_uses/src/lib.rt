@@ -12,8 +12,8 @@ use diagram_table::SECOND;
 use diagram_table::SOME_TRIGGER;
 use diagram_table::TRIGGER;
 use diagram_table::USE_SIZE;
-use words::kinds::GIVE;
-use words::kinds::TAKE;
+use kinds::GIVE;
+use kinds::TAKE;
 
 // A use is its item, its take and its give: the byte where the weight of its arc of a kind stands.
 fn weight_at(kind: u16) -> usize
@@ -69,8 +69,8 @@ fn copy_arcs(
         return at;
     }
     let giving = kind == GIVE;
-    let first = diagram_table::run_first(table, giving, row as u32, index, item as u32);
-    let number = diagram_table::run_length(table, giving, item as u32);
+    let first = table_counts::run_first(table, giving, row as u32, index, item as u32);
+    let number = table_counts::run_length(table, giving, item as u32);
     equal_arcs(
         kind,
         3 * rows as usize + first as usize,

@@ -3,9 +3,9 @@
 use effbd::Answer;
 use effbd::limits::MOST_WORD;
 use effbd::refusals::SUM_TOO_LARGE;
-use words::kinds::CLEAR;
-use words::kinds::GIVE;
-use words::kinds::TAKE;
+use kinds::CLEAR;
+use kinds::GIVE;
+use kinds::TAKE;
 ghost use mathlib.Core.Path.{_≡_};
 ghost use Prim.Native.Nat.{_+_, _-_, min};
 ghost use Rattle.effbd.specs.Answers.{said};

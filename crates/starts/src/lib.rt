@@ -16,7 +16,6 @@ use effbd::moves;
 use effbd::refusals;
 use spans::GAP_BYTES;
 use spans::Window;
-use words::kinds;
 
 mod spans;
 
@@ -169,8 +168,8 @@ fn starts_with_copies(diagram: Diagram, file: &[u8], log: &[u8], row: u16, at: &
     let rows = diagram.rows;
     let items = diagram.items;
     let plain = diagram.fresh();
-    let mut state = copies::fresh_state(&plain, &table, rows, items);
-    let size = 3 * rows as usize + diagram_table::count_total(&table, items) as usize;
+    let mut state = fresh_copies::fresh_state(&plain, &table, rows, items);
+    let size = 3 * rows as usize + table_counts::count_total(&table, items) as usize;
     starts_on(
         &table,
         rows as u32,

@@ -13,7 +13,6 @@ use diagram_table::LOOP;
 use diagram_table::OWNER;
 use effbd::Answer;
 use effbd::moves;
-use words::kinds;
 
 // An IT open: one turn more, or the turns are over and the row after its close is entered.
 fn turn_iteration(table: &[u16], state: &mut [u16], row: u16)
@@ -47,7 +46,7 @@ fn step_function(table: &[u16], rows: u32, file: &[u8], state: &mut [u16], row: 
 {
     if cells::activity(state, row as u32) == 1 {
         diagram_counts::change_counts(table, rows, file, state, row as u32, false);
-        diagram_tokens::set_row(state, row as u32, 2);
+        diagram_activities::set_row(state, row as u32, 2);
     } else {
         diagram_counts::change_counts(table, rows, file, state, row as u32, true);
         diagram_tokens::pass_token(table, state, row as u32, row as u32 + 1);
@@ -59,7 +58,7 @@ fn open_branches(table: &[u16], state: &mut [u16], row: u16)
 {
     let close = diagram_table::cell(table, CLOSE, row as u32);
     let last = diagram_table::cell(table, BRANCH_ENDED, close as u32);
-    diagram_tokens::set_row(state, row as u32, 0);
+    diagram_activities::set_row(state, row as u32, 0);
     diagram_tokens::enter_branches(table, state, last);
 }
 
@@ -67,7 +66,7 @@ fn close_branches(table: &[u16], state: &mut [u16], row: u16)
     ensures { λ _. ⌜ now (state .exit) ≡ entered (now (table .entry)) (row + 1) (branchesSet (now (table .entry)) 0 (branchIn (now (table .entry)) row) (now (state .entry))) ⌝ }
 {
     let last = diagram_table::cell(table, BRANCH_ENDED, row as u32);
-    diagram_tokens::set_branches(table, state, last as u32, 0);
+    diagram_activities::set_branches(table, state, last as u32, 0);
     diagram_tokens::enter(table, state, row as u32 + 1);
 }
 

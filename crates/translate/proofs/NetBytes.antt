@@ -9,7 +9,8 @@ use Rattle.agreement.specs.AcceptedFiles.{Held}
 use Rattle.diagram_table.specs.Held.{Holds, HoldsUses, HoldsCopies, HoldsRanks}
 use Rattle.net_records.specs.Writing.{flat}
 use Rattle.net_records.proofs.Nets.{recordsOf, flat-net}
-use Rattle.net_marks.proofs.HeadMarks.{head-is, marks-are}
+use Rattle.net_head.proofs.HeadRecord.{head-is}
+use Rattle.net_marks.proofs.FreshMarks.{marks-are}
 use Rattle.net_rows.proofs.NetTransitions.{transitions-are}
 use Rattle.translate.specs.NetRecords.{netRecords}
 

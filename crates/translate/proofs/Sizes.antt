@@ -18,9 +18,10 @@ use Rattle.diagram_table.specs.Held.{Holds, HoldsUses, HoldsCopies, HoldsRanks}
 use Rattle.net_records.proofs.Small.{Small, more, _then_, turns, pair-small, mark-small}
 use Rattle.net_rows.specs.Rows.{mostRowBytes}
 use Rattle.net_rows.proofs.RowSizes.{row-most, row-small}
-use Rattle.net_marks.specs.Marks.{netHead, countMarks}
-use Rattle.net_marks.proofs.CountMarks.{counts-are}
-use Rattle.net_marks.proofs.HeadMarks.{row-marks-small}
+use Rattle.net_head.specs.Head.{netHead}
+use Rattle.net_counts.specs.Marks.{countMarks}
+use Rattle.net_counts.proofs.CountMarks.{counts-are}
+use Rattle.net_marks.proofs.FreshMarks.{row-marks-small}
 use Rattle.translate.specs.NetRecords.{netRecords, longestNet, netRoom}
 use Rattle.translate.proofs.NetBytes.{net-is}
 

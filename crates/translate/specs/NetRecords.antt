@@ -5,7 +5,9 @@ use Rattle.diagram_table.specs.Cells.{enteredIn, countsIn}
 use Rattle.net_records.specs.Writing.{Records, runs}
 use Rattle.net_records.specs.Records.{pair}
 use Rattle.net_rows.specs.Rows.{rowRecords, mostRowBytes}
-use Rattle.net_marks.specs.Marks.{netHead, rowMarks, countMarks, tally}
+use Rattle.net_head.specs.Head.{netHead, tally}
+use Rattle.net_counts.specs.Marks.{countMarks}
+use Rattle.net_marks.specs.Marks.{rowMarks}
 
 unfoldable pub netRecords : (table file : List ℕ) (rows items : ℕ) → Records
 netRecords table file rows items = pair netHead (3 * rows + countsIn table items) (tally table rows)

@@ -16,9 +16,9 @@ use effbd::refusals::AREA_SHORT;
 fn put_net(table: &[u16], file: &[u8], rows: u16, items: u16, area: &mut [u8], at: usize) -> usize
     ensures { λ r. ⌜ Wrote (now (area .entry)) at (now (area .exit)) r (netRecords (now (table .entry)) (now (file .entry)) rows items) ⌝ }
 {
-    let places = net_marks::head(table, rows, items, area, at);
+    let places = net_head::head(table, rows, items, area, at);
     let counts = net_marks::of_rows(table, rows, area, places);
-    let transitions = net_marks::of_counts(table, items, area, counts);
+    let transitions = net_counts::of_counts(table, items, area, counts);
     net_rows::transitions(table, file, rows, area, transitions)
 }
 
@@ -101,7 +101,7 @@ pub fn translate(file: &[u8], area: &mut [u8]) -> Answer
         diagram.items,
         file,
     );
-    let counts = diagram_table::count_total(&table, diagram.items);
+    let counts = table_counts::count_total(&table, diagram.items);
     let most = longest(diagram.rows, diagram.items, counts);
     write(&table, file, diagram.rows, diagram.items, most, area)
 }

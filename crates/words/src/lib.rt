@@ -1,7 +1,5 @@
 // Numbers of 16 and 32 bits, little-endian, in and out of bytes, and in and out of the words of a state.
 // Nothing is asked of a caller: past the end a byte or word is 0, a tail is empty, a store changes nothing.
-pub mod kinds;
-
 use effbd::limits::MOST_WORD;
 use effbd::refusals;
 ghost use mathlib.Core.Path.{_≡_};

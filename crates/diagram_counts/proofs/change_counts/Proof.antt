@@ -1,4 +1,4 @@
-use Rattle.diagram_decide.proofs.UsesBlocked.{uses-short}
+use Rattle.diagram_uses.proofs.UsesBlocked.{uses-short}
 use Rattle.diagram_moves.specs.Changes.{countsChanged}
 use Rattle.diagram_table.specs.Cells.{cellOf, usesOf}
 use lib.ListN.{length}

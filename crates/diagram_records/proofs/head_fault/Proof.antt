@@ -1,4 +1,5 @@
-use Rattle.diagram_records.proofs.Fields.{base-at, head-fault-is}
+use Rattle.row_records.proofs.Fields.{base-at}
+use Rattle.diagram_records.proofs.Fields.{head-fault-is}
 use borrow.Author.Needs.{needs}
 use Rattle.diagram_records.proofs.head_fault.Statement.{statement}
 use Rattle.diagram_records.proofs.head_fault.Tie as tie

@@ -1,4 +1,5 @@
-use Rattle.diagram_records.proofs.Fields.{base-at, item-fault-is, item-short}
+use Rattle.row_records.proofs.Fields.{base-at}
+use Rattle.diagram_records.proofs.Fields.{item-fault-is, item-short}
 use borrow.Author.Needs.{needs}
 use Rattle.diagram_records.proofs.item_fault.Statement.{statement}
 use Rattle.diagram_records.proofs.item_fault.Tie as tie

@@ -1,3 +1,5 @@
+use Rattle.row_records.proofs.RowsFit.{fits, laid}
+use lib.ListN.{length}
 use Rattle.diagram_records.proofs.RecordsRead.{items-start, items-turn, items-stop, items-end}
 use Rattle.diagram_records.specs.Reading.{ItemsState, itemsLaid}
 use Rattle.diagram_records.proofs.Laid.{items-due, item-laid, items-laid-stop, items-laid}
@@ -68,24 +70,18 @@ loop-again c =
           (c .before .before .before .before .before .before .word .ensures) (ap (λ (x : ℕ). eqb x 3) (c .before .before .before .before .before .word2 .ensures)) (c .before .word3 .ensures) (c .tail .ensures) (c .before .before .before .before .put-item .ensures) ∙ l .inv .2,
     )
 
-read-rows-requires : tie.Need-read-rows-requires Inv-loop μ-loop
-read-rows-requires c κs =
-    let l = c .before .before .loop in let p = c .before .before .before .before .before .before .pre in
-    (((omega (arith, l .inv .1 .near, l .inv .0, p .0 .0 .0, p .0 .1), p .0 .0 .1), p .0 .1), (l .inv .1 .long, p .1 .1))
-
-refine-requires : tie.Need-refine-requires Inv-loop μ-loop
-refine-requires c κs =
-    let l = c .before .before .before .before .before .before .loop in let p = c .before .before .before .before .before .before .before .before .before .before .pre in
-    (record { before = l .table; read = c .before .before .before .read-rows .ensures .0 }, (((omega (arith, l .inv .1 .near, l .inv .0, p .0 .0 .0, p .0 .1), p .0 .0 .1), p .0 .1), p .1 .1))
+read-requires : tie.Need-read-requires Inv-loop μ-loop
+read-requires c κs = search needs
 
 same-length-2 : tie.Need-same-length-2 Inv-loop μ-loop
 same-length-2 c = search needs
 
 returns-2 : tie.Need-returns-2 Inv-loop μ-loop
 returns-2 c =
-    let l = c .before .before .before .before .before .before .before .loop in let a = c .before .before .before .before .before .before .before .before .before .before .before .args in (
-      items-end (a .from) (a .lines .now) (l .item) (l .at) (l .rest .now) (l .table) (l .inv .1) (a .items) (a .rows) (c .before .before .before .before .read-rows .last .1 .1 .1 .1 .1 .0) (c .refine .result) (omega (arith, c .before .before .before .before .before .before .loop-test .left, l .inv .0)) (c .refine .ensures .is (l .table) (c .before .before .before .before .read-rows .ensures .0)),
-      items-laid (a .rows) (a .items) (l .item) (l .at) (a .items) (l .rest .now) (l .table) (omega (arith, c .before .before .before .before .before .before .loop-test .left, l .inv .0)) (c .before .before .before .before .read-rows .ensures .1) ∙ l .inv .2,
+    let l = c .before .before .before .before .before .loop in let a = c .before .before .before .before .before .before .before .before .before .args in let p = c .before .before .before .before .before .before .before .before .before .pre in let w = c .before .before .read in let t = w .last .1 .1 .1 .1 .0 in
+    let z = fits (l .at) (a .rows) (a .items) (length (l .table)) (omega (arith, l .inv .1 .near, l .inv .0, p .0 .0 .0, p .0 .1)) (p .0 .0 .1) (p .0 .1) (l .inv .1 .long) in (
+      items-end (a .from) (a .lines .now) (l .item) (l .at) (l .rest .now) (l .table) (l .inv .1) (a .items) (a .rows) t (w .result) (omega (arith, c .before .before .before .before .loop-test .left, l .inv .0)) (w .ensures .of z),
+      items-laid (a .rows) (a .items) (l .item) (l .at) (a .items) (l .rest .now) (l .table) (omega (arith, c .before .before .before .before .loop-test .left, l .inv .0)) (laid (a .items) (l .at) (l .rest .now) (a .rows) (l .table) t (w .result) (w .ensures) z) ∙ l .inv .2,
     )
 
 pub read-items-spec : {M : Type 1} → statement M
@@ -108,7 +104,6 @@ read-items-spec =
     add-item
     loop-less
     loop-again
-    read-rows-requires
-    refine-requires
+    read-requires
     same-length-2
     returns-2)

@@ -1,5 +1,5 @@
 use Prim.Native.Nat.{ℕ, _+_, _<_}
-use Rattle.diagram_tokens.proofs.BranchWalks.{Walking, due, walk-start, walk-whole, walk-on, walk-done}
+use Rattle.diagram_activities.proofs.BranchWalks.{Walking, due, walk-start, walk-whole, walk-on, walk-done}
 use Rattle.diagram_moves.specs.Changes.{entered, branchesEntered}
 use lib.ListN.{length}
 use mathlib.Core.Path.{_≡_, refl, _∙_}

@@ -1,4 +1,4 @@
-use Rattle.diagram_tokens.proofs.BranchWalks.{killed-whole}
+use Rattle.diagram_tokens.proofs.KilledRows.{killed-whole}
 use borrow.Author.Needs.{needs}
 use Rattle.diagram_tokens.proofs.kill_rows.Statement.{statement}
 use Rattle.diagram_tokens.proofs.kill_rows.Tie as tie

@@ -1,5 +1,6 @@
 use Rattle.net_records.proofs.Writing.{same, yes, no}
-use Rattle.net_entries.specs.Entering.{kill, entering}
+use Rattle.net_entries.specs.Entering.{entering}
+use Rattle.net_clears.specs.Clearing.{kill}
 use Rattle.net_records.specs.Records.{arc}
 use Rattle.diagram_table.specs.Cells.{ownerIn, killsIn}
 use Rattle.effbd.specs.Nets.{giveArc}

@@ -1,7 +1,7 @@
 use Prim.Native.Nat.{_+_, _-_, _≤_}
 use native.Mathlib.Omega.{arith}
 use Rattle.net_records.specs.Writing.{Wrote, runs}
-use Rattle.net_entries.specs.Entering.{restore}
+use Rattle.net_clears.specs.Clearing.{restore}
 use Rattle.net_records.proofs.Writing.{span-start, span-again, span-done, wrote-length}
 use borrow.Author.Needs.{needs}
 use Rattle.net_loops.proofs.restores.Statement.{statement}

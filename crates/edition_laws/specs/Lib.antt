@@ -1,0 +1,5 @@
+pub mod Runs
+pub mod RoundTrips
+pub mod Calls
+pub mod Offers
+pub mod EditionExamples

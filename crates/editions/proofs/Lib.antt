@@ -1,0 +1,3 @@
+mod Faults
+mod Turns
+mod Calls

@@ -1,0 +1,4 @@
+pub mod Weights
+pub mod ClearRanges
+pub mod PatternRecords
+pub mod Kills

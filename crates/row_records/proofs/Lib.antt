@@ -1,0 +1,4 @@
+pub mod Fields
+pub mod RowsFit
+pub mod RowsLaid
+pub mod RowsRead

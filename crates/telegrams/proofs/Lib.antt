@@ -1,0 +1,2 @@
+mod Formed
+pub mod Written
