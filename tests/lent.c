@@ -1,8 +1,12 @@
 /* What bindings/c/effbd.h says of lent memory, tried: empty lists as (NULL, 0), bytes beyond a result, texts, a wrong number of words,
- * single numbers, and that the constants have room for the largest diagrams, nets, texts and logs. Says what does not hold; exit status 1 then. */
+ * single numbers, runs of telegrams, of gigabytes too, and that the constants have room for the largest diagrams, nets, texts and logs. Says
+ * what does not hold; exit status 1 then. */
+#define _GNU_SOURCE /* memfd_create */
 #include "../bindings/c/effbd.h"
 #include <stdio.h>
 #include <string.h>
+#include <sys/mman.h>
+#include <unistd.h>
 
 static int wrong = 0;
 
@@ -154,6 +158,74 @@ static void single_numbers(void) {
     HOLDS(at == 0);
 }
 
+/* Step 0 and wait 300, of the old edition, and of this one from a station, numbered from the first. */
+enum { FIRST = 5 };
+static const uint8_t old_run[2 * EFFBD_OLD_TELEGRAM_LENGTH] = {8, 0, 47, 0, 1, 0, 0, 0, 8, 0, 47, 0, 2, 0, 44, 1};
+static const uint8_t run[2 * EFFBD_TELEGRAM_LENGTH] = {14, 0, 48, 0, FIRST,     0, 0, 0, STATION, 0, 1, 0, 0,  0,
+                                                        14, 0, 48, 0, FIRST + 1, 0, 0, 0, STATION, 0, 2, 0, 44, 1};
+
+static void runs_upward(void) {
+    uint8_t area[sizeof run + BEYOND];
+    memset(area, FILLED, sizeof area);
+    IS(telegrams_up(NULL, 0, STATION, UINT32_MAX, NULL, 0), EFFBD_ACCEPTED, 0);
+    IS(telegrams_up(NULL, 0, STATION, UINT32_MAX, area, sizeof area), EFFBD_ACCEPTED, 0);
+    IS(telegrams_up(old_run, sizeof old_run, STATION, FIRST, NULL, 0), EFFBD_AREA_SHORT, sizeof run);
+    IS(telegrams_up(old_run, sizeof old_run, STATION, FIRST, area, sizeof run - 1), EFFBD_AREA_SHORT, sizeof run);
+    IS(telegrams_up(old_run, sizeof old_run - 1, STATION, FIRST, area, sizeof area), EFFBD_NO_TELEGRAM, 1);
+    IS(telegrams_up(old_run, sizeof old_run, STATION, UINT32_MAX, area, sizeof area), EFFBD_NUMBER_NOT_NEXT, 1);
+    HOLDS(kept(area, sizeof area));
+    IS(telegrams_up(old_run, sizeof old_run, STATION, FIRST, area, sizeof area), EFFBD_ACCEPTED, sizeof run);
+    HOLDS(memcmp(area, run, sizeof run) == 0 && kept(area + sizeof run, BEYOND));
+}
+
+/* Station and first number are single numbers: a refusal leaves both, an accepted call writes both, also of an empty run. */
+static void runs_downward(void) {
+    uint8_t area[sizeof old_run + BEYOND], off[sizeof run];
+    uint16_t station = FILLED;
+    uint32_t first = FILLED;
+    memset(area, FILLED, sizeof area);
+    IS(telegrams_down(run, sizeof run, NULL, 0, &station, &first), EFFBD_AREA_SHORT, sizeof old_run);
+    IS(telegrams_down(run, sizeof run, area, sizeof old_run - 1, &station, &first), EFFBD_AREA_SHORT, sizeof old_run);
+    IS(telegrams_down(run, sizeof run - 1, area, sizeof area, &station, &first), EFFBD_NO_TELEGRAM, 1);
+    memcpy(off, run, sizeof run);
+    off[EFFBD_TELEGRAM_LENGTH + 8]++;
+    IS(telegrams_down(off, sizeof off, area, sizeof area, &station, &first), EFFBD_STATION_DIFFERS, 1);
+    off[EFFBD_TELEGRAM_LENGTH + 4]++;
+    IS(telegrams_down(off, sizeof off, area, sizeof area, &station, &first), EFFBD_NUMBER_NOT_NEXT, 1);
+    HOLDS(kept(area, sizeof area) && station == FILLED && first == FILLED);
+    IS(telegrams_down(NULL, 0, NULL, 0, &station, &first), EFFBD_ACCEPTED, 0);
+    HOLDS(station == 0 && first == 0);
+    IS(telegrams_down(run, sizeof run, area, sizeof area, &station, &first), EFFBD_ACCEPTED, sizeof old_run);
+    HOLDS(memcmp(area, old_run, sizeof old_run) == 0 && kept(area + sizeof old_run, BEYOND));
+    HOLDS(station == STATION && first == FIRST);
+    station = first = FILLED;
+    memset(area, FILLED, sizeof area);
+    IS(telegrams_down(NULL, 0, area, sizeof area, &station, &first), EFFBD_ACCEPTED, 0);
+    HOLDS(kept(area, sizeof area) && station == 0 && first == 0);
+}
+
+/* So many MiB of telegrams upward, with no area. Every MiB is the same memory, so that gigabytes are there to read and none to keep. */
+static uint64_t large_run(size_t pieces) {
+    enum { PIECE = 1 << 20 };
+    int memory = memfd_create("a piece of a run", 0);
+    uint8_t *pieced = mmap(NULL, pieces * PIECE, PROT_NONE, MAP_PRIVATE | MAP_ANONYMOUS | MAP_NORESERVE, -1, 0);
+    int made = memory >= 0 && ftruncate(memory, PIECE) == 0 && pieced != MAP_FAILED;
+    for (size_t piece = 0; made && piece < pieces; piece++) {
+        made = mmap(pieced + piece * PIECE, PIECE, PROT_READ | PROT_WRITE, MAP_SHARED | MAP_FIXED, memory, 0) != MAP_FAILED;
+    }
+    holds("a run of gigabytes can be made", made);
+    uint64_t answer = 0;
+    if (made) {
+        for (size_t at = 0; at < PIECE; at += sizeof old_run) {
+            memcpy(pieced + at, old_run, sizeof old_run);
+        }
+        answer = telegrams_up(pieced, pieces * PIECE, STATION, 0, NULL, 0);
+        munmap(pieced, pieces * PIECE);
+    }
+    close(memory);
+    return answer;
+}
+
 static uint64_t large_log(size_t moves) {
     static uint8_t log[(EFFBD_MOST_LOG_MOVES + 1) * EFFBD_SETPOINT_LENGTH];
     uint32_t at;
@@ -228,6 +300,9 @@ static void largest(void) {
     IS(large_net(EFFBD_MOST_PLACES, EFFBD_MOST_TRANSITIONS + 1), EFFBD_HEAD_VALUE_OFF, 0);
     IS(large_log(EFFBD_MOST_LOG_MOVES), EFFBD_ACCEPTED, 1);
     IS(large_log(EFFBD_MOST_LOG_MOVES + 1), EFFBD_LOG_OFF, 0);
+    /* 1,835,008 bytes more are needed for each MiB: 2,340 of them have a value of 32 bits, 2,341 have none. */
+    IS(large_run(2340), EFFBD_AREA_SHORT, 4293918720);
+    IS(large_run(2341), EFFBD_AREA_SHORT, UINT32_MAX);
 }
 
 int main(void) {
@@ -237,6 +312,8 @@ int main(void) {
     texts();
     wrong_number_of_words();
     single_numbers();
+    runs_upward();
+    runs_downward();
     largest();
     return wrong;
 }

@@ -1,7 +1,7 @@
 #!/usr/bin/env bash
 # The tool rink: its tests, with the library and the annex program that rt made; the shipped diagrams are what their texts make, the
-# pictures in docs/ what is drawn of them now, the lesson prints what is stored of it; every drawing and page of them is well-formed
-# for a reader of XML that is not ours.
+# pictures in docs/ what is drawn of them now, the lesson prints what is stored of it, the runs of telegrams are what the other one
+# gives; every drawing and page of them is well-formed for a reader of XML that is not ours.
 set -euo pipefail
 cd "$(dirname "$0")/.."
 cargo test --offline --quiet --release --package rink
@@ -25,4 +25,7 @@ for picture in docs/pictures/*.svg; do
     cmp "$picture" "$folder/$(basename "$picture")"
 done
 "$rink" play --script examples/pump-down.lesson examples/pump-down.dia | cmp - examples/pump-down.lesson.txt
+"$rink" up --station 7 --first 1 examples/old-panel.run | cmp - examples/new-bus.run
+"$rink" down examples/new-bus.run 2> "$folder/said" | cmp - examples/old-panel.run
+grep -q 'rink up --station 7 --first 1' "$folder/said"
 echo "rink.sh: $drawn plants made, drawn and printed"

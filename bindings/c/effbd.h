@@ -1,4 +1,4 @@
-/* Flow diagrams, their nets, both bus ends and logs: the proved functions, for C.
+/* Flow diagrams, their nets, both bus ends, runs of telegrams and logs: the proved functions, for C.
  *
  * Link target/staticlib/libeffbd_c.a, which `rt staticlib effbd_c` writes (x86-64). bindings/c/example.c has a whole program.
  *
@@ -16,7 +16,7 @@
  * Order of refusals. A file is looked at first (1 to 9; 43 right after 5 at the same record, 44 between 7 and 8 at the same row; 45 where no
  * row is refused), then the number of words of a state (20), its words (20), the move (21 to 26), the leader's count (27), the area (10).
  * The follower looks at the telegram (30 to 33) before all of these. Of a log, after the file: its length (40), the row (41), its moves
- * (42).
+ * (42). Of a run of telegrams each telegram in its turn (30, 46, 47), then the area (10).
  */
 #ifndef EFFBD_H
 #define EFFBD_H
@@ -43,6 +43,7 @@ extern "C" {
 #define EFFBD_ANNEX_NET_ROOM 65536      /* bytes that the annex program lends for the net */
 #define EFFBD_ANNEX_ROOM 393216         /* bytes that have room for the annex text of any file, the net lent EFFBD_ANNEX_NET_ROOM */
 #define EFFBD_TELEGRAM_LENGTH 14        /* bytes */
+#define EFFBD_OLD_TELEGRAM_LENGTH 8     /* bytes of a telegram of the old edition */
 #define EFFBD_SETPOINT_LENGTH 4         /* bytes of one move of a log: code, then row or ticks, 16 bits each, low byte first */
 #define EFFBD_MOST_LOG_MOVES 65535      /* of a log */
 
@@ -77,6 +78,8 @@ enum effbd_refusal {
     EFFBD_TRIGGER_OFF = 43,
     EFFBD_KILLING_BRANCH_EMPTY = 44,
     EFFBD_LOOP_SPENDS_NO_TIME = 45,
+    EFFBD_NUMBER_NOT_NEXT = 46,
+    EFFBD_STATION_DIFFERS = 47,
 };
 
 /* Number (EFFBD_ACCEPTED or a refusal) and value of an answer. */
@@ -145,6 +148,21 @@ uint64_t follower_take(const uint8_t *net, size_t net_count, uint16_t *state, si
  * where the row is of another kind, or the file does not have it; EFFBD_MOVE_REFUSED returns the index of the first move that is refused. */
 uint64_t log_starts(const uint8_t *file, size_t file_count, const uint8_t *log, size_t log_count, uint16_t row, uint32_t *at);
 
+/* A run of telegrams of the old edition (length 8, kind 47, setpoint), one after another, as telegrams of this one, into the first bytes of
+ * an area; those beyond keep their values. They get `station`, and numbers from `first` on. Accepted: the bytes written,
+ * EFFBD_TELEGRAM_LENGTH for each EFFBD_OLD_TELEGRAM_LENGTH of the run; an empty run is 0 bytes.
+ * At the first telegram that is off, with its index: EFFBD_NO_TELEGRAM where its size, length or kind is off, also where fewer bytes are
+ * left; EFFBD_NUMBER_NOT_NEXT where its number would be past 4,294,967,295. Then EFFBD_AREA_SHORT returns the bytes needed, so that an area
+ * (NULL, 0) asks for them. A value that 32 bits cannot hold, of runs of gigabytes, is returned as 4,294,967,295. */
+uint64_t telegrams_up(const uint8_t *old, size_t old_count, uint16_t station, uint32_t first, uint8_t *area, size_t area_count);
+
+/* The other way: a run of telegrams as telegrams of the old edition, into the first bytes of an area; those beyond keep their values.
+ * Accepted: the bytes written; `*station` and `*first` become the station and the number of the first telegram, with which telegrams_up gives
+ * the run back; of an empty run both 0.
+ * At the first telegram that is off, with its index: EFFBD_NO_TELEGRAM; EFFBD_NUMBER_NOT_NEXT where its number is not one above the last;
+ * EFFBD_STATION_DIFFERS where its station is not the first one's. Then EFFBD_AREA_SHORT as above. */
+uint64_t telegrams_down(const uint8_t *run, size_t run_count, uint8_t *area, size_t area_count, uint16_t *station, uint32_t *first);
+
 /* The number of an answer in words. */
 static inline const char *effbd_words(uint32_t number) {
     switch (number) {
@@ -177,6 +195,8 @@ static inline const char *effbd_words(uint32_t number) {
     case EFFBD_TRIGGER_OFF: return "trigger's take or give above 1";
     case EFFBD_KILLING_BRANCH_EMPTY: return "killing branch empty";
     case EFFBD_LOOP_SPENDS_NO_TIME: return "loop spends no time";
+    case EFFBD_NUMBER_NOT_NEXT: return "number not one above the last, or past 4,294,967,295";
+    case EFFBD_STATION_DIFFERS: return "station differs from the first";
     default: return "no number of the table";
     }
 }

@@ -1,8 +1,9 @@
 /* Example A of document 01 from C: the net in an area of just its length, a move over the bus, what a caller does where it is turned away,
- * and the starts of a log. */
+ * the starts of a log, and telegrams of the old edition. */
 #include "effbd.h"
 #include <stdio.h>
 #include <stdlib.h>
+#include <string.h>
 
 #define STATION 9
 
@@ -71,6 +72,14 @@ int main(void) {
     value_of("starts of an early log", log_starts(file, sizeof file, early, sizeof early, 0, &at), EFFBD_MOVE_REFUSED);
     uint32_t most = value_of("starts of the log", log_starts(file, sizeof file, log, sizeof log, 0, &at), EFFBD_ACCEPTED);
     printf("most starts in an hour: %u, from tick %u on\n", most, at);
+
+    /* The telegram for a panel of the old edition, and what the panel repeats back to this bus. */
+    uint8_t old[EFFBD_OLD_TELEGRAM_LENGTH], again[EFFBD_TELEGRAM_LENGTH];
+    uint16_t station;
+    uint32_t first;
+    value_of("down to an old panel", telegrams_down(telegram, sizeof telegram, old, sizeof old, &station, &first), EFFBD_ACCEPTED);
+    value_of("up again", telegrams_up(old, sizeof old, station, first, again, sizeof again), EFFBD_ACCEPTED);
+    printf("station %u, number %u, %s\n", station, first, memcmp(again, telegram, sizeof again) == 0 ? "the same bytes" : "other bytes");
 
     free(follower);
     free(leader);

@@ -4,6 +4,7 @@
 use crate::guard::lend;
 use crate::met::Met;
 use crate::{told, Verdict};
+use effbd::refusal::{AREA_SHORT, NO_TELEGRAM, NUMBER_NOT_NEXT, STATION_DIFFERS};
 use effbd::Answer;
 use std::fmt::{Debug, Write};
 
@@ -285,6 +286,93 @@ pub fn log_starts(met: &mut Met, file: &[u8], log: &[u8], row: u16, at: u32) -> 
                 "{why}\nfile {}, log {}, row {row}, at {at}",
                 hex(file),
                 hex(log)
+            )
+        })
+}
+
+/// Answers that a run of telegrams should have: accepted and each refusal.
+const UPWARD: [u32; 4] = [0, NO_TELEGRAM, NUMBER_NOT_NEXT, AREA_SHORT];
+const DOWNWARD: [u32; 5] = [0, NO_TELEGRAM, NUMBER_NOT_NEXT, STATION_DIFFERS, AREA_SHORT];
+
+/// The run is lent between guards too, and has to stay as it is; so in `telegrams_down`.
+pub fn telegrams_up(met: &mut Met, old: &[u8], station: u16, first: u32, area: &[u8]) -> Verdict {
+    let mut expected = area.to_vec();
+    let answer = told(model::editions::telegrams_up(
+        old,
+        station,
+        first,
+        &mut expected,
+    ));
+    let proved = lend(old, BYTE_GUARD, |old| {
+        lend(area, BYTE_GUARD, |area| {
+            effbd::telegrams_up(old, station, first, area)
+        })
+    });
+    proved
+        .and_then(|(lent, after_run)| {
+            let (found, after) = lent?;
+            met.note_among("telegrams up", &UPWARD, found);
+            equal("telegrams upward", &answer, &found)?;
+            equal_bytes("area", &expected, &after)?;
+            equal_bytes("run", old, &after_run)
+        })
+        .map_err(|why| {
+            format!(
+                "{why}\nrun {}, station {station}, first {first}, area of {} bytes",
+                hex(old),
+                area.len()
+            )
+        })
+}
+
+/// Station and first number as they are before the call.
+pub fn telegrams_down(
+    met: &mut Met,
+    run: &[u8],
+    area: &[u8],
+    (station, first): (u16, u32),
+) -> Verdict {
+    let mut expected = (area.to_vec(), station, first);
+    let answer = told(model::editions::telegrams_down(
+        run,
+        &mut expected.0,
+        &mut expected.1,
+        &mut expected.2,
+    ));
+    let proved = lend(run, BYTE_GUARD, |run| {
+        lend(area, BYTE_GUARD, |area| {
+            lend(&[station], WORD_GUARD, |station| {
+                lend(&[first], NUMBER_GUARD, |first| {
+                    effbd::telegrams_down(run, area, &mut station[0], &mut first[0])
+                })
+            })
+        })
+    });
+    proved
+        .and_then(|(lent, after_run)| {
+            let (lent, after) = lent?;
+            let (lent, after_station) = lent?;
+            let (found, after_first) = lent?;
+            met.note_among("telegrams down", &DOWNWARD, found);
+            equal("telegrams downward", &answer, &found)?;
+            equal(
+                "telegrams downward, the station",
+                &expected.1,
+                &after_station[0],
+            )?;
+            equal(
+                "telegrams downward, the first number",
+                &expected.2,
+                &after_first[0],
+            )?;
+            equal_bytes("area", &expected.0, &after)?;
+            equal_bytes("run", run, &after_run)
+        })
+        .map_err(|why| {
+            format!(
+                "{why}\nrun {}, area of {} bytes, station {station}, first {first}",
+                hex(run),
+                area.len()
             )
         })
 }

@@ -3,14 +3,15 @@
 use crate::calls::{self, equal, hex, End};
 use crate::met::{Met, Sight};
 use crate::Verdict;
-use model::bus::Telegram;
+use model::bus::{Telegram, TELEGRAM_LENGTH};
 use model::diagram::{Row, MOST_ROWS};
 use model::diagram_step::{fresh_state, moved, STEP};
+use model::editions::OLD_TELEGRAM_LENGTH;
 use model::generate::{
     accepted_log, bus_list, crowded_diagram, damaged_diagram, damaged_log, damaged_net, diagram,
-    foreign_net, killing_diagram, lasting_diagram, lasting_killing_diagram,
-    lasting_trigger_diagram, looping_diagram, net_state, odd_state, passing_state, round_log,
-    timeless_diagram, walk, Random,
+    first_number, foreign_net, killing_diagram, lasting_diagram, lasting_killing_diagram,
+    lasting_trigger_diagram, looping_diagram, net_state, odd_state, old_run, passing_state,
+    round_log, run, timeless_diagram, walk, Random,
 };
 use model::history::{moves_to_try, Call, History};
 use model::kills::{has_kills, kill_by};
@@ -28,7 +29,7 @@ const fn kind(name: &'static str, case: fn(&mut Random, &mut Met) -> Verdict) ->
     Kind { name, case }
 }
 
-pub const KINDS: [Kind; 9] = [
+pub const KINDS: [Kind; 10] = [
     kind("diagram files and translation", diagram_file),
     kind("annex texts", annex_text),
     kind("uses of rows", uses_of_rows),
@@ -38,6 +39,7 @@ pub const KINDS: [Kind; 9] = [
     kind("both bus ends", bus_ends),
     kind("lists of calls", call_list),
     kind("starts in logs", starts_in_logs),
+    kind("runs between editions", runs_between_editions),
 ];
 
 /// An accepted file. One with a long net costs as much as a hundred others.
@@ -318,7 +320,8 @@ fn any_telegram(random: &mut Random, end: End, (code, argument): (u16, u16)) -> 
         code,
         argument,
     }
-    .encode();
+    .encode()
+    .to_vec();
     match random.below(8) {
         0 => bytes.truncate(random.below(14)),
         1 => bytes.push(0),
@@ -368,7 +371,7 @@ fn areas_due(calls: &[Call], history: &History) -> Vec<Vec<u8>> {
         let mut due = area.clone();
         if *counted {
             let telegram = telegrams.next().map(Telegram::encode).unwrap_or_default();
-            due[..telegram.len()].copy_from_slice(&telegram);
+            due[..TELEGRAM_LENGTH].copy_from_slice(&telegram);
         }
         areas.push(due);
     }
@@ -555,4 +558,70 @@ fn starts_in_logs(random: &mut Random, met: &mut Met) -> Verdict {
         calls::log_starts(met, &file, &log, row, random.draw() as u32)?;
     }
     Ok(())
+}
+
+/// Bytes of a run in one edition, for so many in the other.
+fn converted(run: &[u8], from: usize, to: usize) -> usize {
+    run.len() / from * to
+}
+
+/// An area for a run: none, or near the bytes needed, or far from them.
+fn any_run_area(random: &mut Random, needed: usize) -> Vec<u8> {
+    let length = match random.below(12) {
+        0 => 0,
+        _ => any_area_length(random, needed),
+    };
+    any_area(random, length)
+}
+
+fn runs_between_editions(random: &mut Random, met: &mut Met) -> Verdict {
+    // A run costs a hundredth of what a plant does.
+    for _ in 0..8 {
+        let (old, station, first) = (old_run(random), random.word(), first_number(random));
+        let needed = converted(&old, OLD_TELEGRAM_LENGTH, TELEGRAM_LENGTH);
+        let area = any_run_area(random, needed);
+        calls::telegrams_up(met, &old, station, first, &area)?;
+        up_then_down(&old, station, first)?;
+
+        let new = run(random);
+        let needed = converted(&new, TELEGRAM_LENGTH, OLD_TELEGRAM_LENGTH);
+        let area = any_run_area(random, needed);
+        let lent = (random.word(), random.draw() as u32);
+        calls::telegrams_down(met, &new, &area, lent)?;
+        down_then_up(&new)?;
+    }
+    Ok(())
+}
+
+/// "Up then down yields the old bytes", and station and first number, which are 0 where the run is empty. Nothing of a run that is refused.
+fn up_then_down(old: &[u8], station: u16, first: u32) -> Verdict {
+    let mut new = vec![0; converted(old, OLD_TELEGRAM_LENGTH, TELEGRAM_LENGTH)];
+    if effbd::telegrams_up(old, station, first, &mut new).is_err() {
+        return Ok(());
+    }
+    let added = if old.is_empty() {
+        (0, 0)
+    } else {
+        (station, first)
+    };
+    let mut back = (vec![0; old.len()], !added.0, !added.1);
+    let answer = effbd::telegrams_down(&new, &mut back.0, &mut back.1, &mut back.2);
+    equal("up then down", &Ok(old.len() as u32), &answer)
+        .and_then(|()| equal("up then down, the old bytes", &old, &&back.0[..]))
+        .and_then(|()| equal("up then down, what was added", &added, &(back.1, back.2)))
+        .map_err(|why| format!("{why}\nrun {}, station {station}, first {first}", hex(old)))
+}
+
+/// "Down then up, with that station and first number, the new ones." Nothing of a run that is refused.
+fn down_then_up(new: &[u8]) -> Verdict {
+    let mut old = vec![0; converted(new, TELEGRAM_LENGTH, OLD_TELEGRAM_LENGTH)];
+    let (mut station, mut first) = (0, 0);
+    if effbd::telegrams_down(new, &mut old, &mut station, &mut first).is_err() {
+        return Ok(());
+    }
+    let mut back = vec![0; new.len()];
+    let answer = effbd::telegrams_up(&old, station, first, &mut back);
+    equal("down then up", &Ok(new.len() as u32), &answer)
+        .and_then(|()| equal("down then up, the new bytes", &new, &&back[..]))
+        .map_err(|why| format!("{why}\nrun {}", hex(new)))
 }

@@ -1,4 +1,5 @@
-//! Which answers a run has met, held against the list of refusals, and which calls have met kills and loops that spend no time.
+//! Which answers a run has met, held against the list of refusals, and which calls have met what they should: kills, loops that spend no time,
+//! each answer that runs of telegrams can have.
 
 use effbd::Answer;
 use std::collections::BTreeMap;
@@ -22,6 +23,13 @@ pub enum Sight {
     Kills,
     /// A file that is refused for a loop that spends no time.
     TimelessLoop,
+    /// An answer of this number, 0 accepted: `times` cannot tell whether this call had it, since others have such answers too.
+    Answer(u32),
+}
+
+/// The number of an answer; 0 is accepted.
+fn number_of(answer: Answer) -> u32 {
+    answer.map_or_else(|refusal| refusal.number, |_| 0)
 }
 
 /// How often each number was answered; 0 is accepted. How often each call met each sight.
@@ -33,8 +41,16 @@ pub struct Met {
 
 impl Met {
     pub fn note(&mut self, answer: Answer) {
-        let number = answer.map_or_else(|refusal| refusal.number, |_| 0);
-        *self.times.entry(number).or_default() += 1;
+        *self.times.entry(number_of(answer)).or_default() += 1;
+    }
+
+    /// Notes an answer of a call that should have each of these numbers now and then.
+    pub fn note_among(&mut self, call: &'static str, numbers: &[u32], answer: Answer) {
+        self.note(answer);
+        for number in numbers {
+            let times = usize::from(number_of(answer) == *number);
+            self.note_sight(Sight::Answer(*number), call, times);
+        }
     }
 
     fn times(&self, number: u32) -> u64 {

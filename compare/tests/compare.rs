@@ -1,4 +1,5 @@
-//! A short run of every kind of case, which meets every refusal of the list, and kills and loops that spend no time with every call.
+//! A short run of every kind of case, which meets every refusal of the list, and with every call what it should meet: kills, loops that spend no
+//! time, each answer to a run of telegrams.
 
 use compare::cases::KINDS;
 use compare::met::Met;

@@ -6,7 +6,7 @@ use effbd::{
     Starts,
 };
 use model::records::{push_record, record, NET_HEAD, PLACE, TRANSITION};
-use model::{annex, bus, diagram, diagram_step, examples, logs, net};
+use model::{annex, bus, diagram, diagram_step, editions, examples, logs, net};
 
 #[test]
 fn constants_are_those_of_the_model() {
@@ -16,6 +16,7 @@ fn constants_are_those_of_the_model() {
     assert_eq!(effbd::MOST_TRANSITIONS, net::MOST_TRANSITIONS);
     assert_eq!(effbd::ANNEX_NET_ROOM, annex::AREA_LENGTH);
     assert_eq!(effbd::TELEGRAM_LENGTH, bus::TELEGRAM_LENGTH);
+    assert_eq!(effbd::OLD_TELEGRAM_LENGTH, editions::OLD_TELEGRAM_LENGTH);
     assert_eq!(effbd::SETPOINT_LENGTH, logs::SETPOINT_LENGTH);
     assert_eq!(effbd::MOST_LOG_MOVES, logs::MOST_MOVES);
     assert_eq!(

@@ -3,7 +3,7 @@
 use crate::diagram;
 use crate::diagram_step;
 use crate::net_step;
-use crate::records::{push_words, word, TELEGRAM};
+use crate::records::{bytes_of, word, TELEGRAM};
 use crate::refusal::{
     refusal, Answer, Refusal, AREA_SHORT, COUNT_FULL, NO_TELEGRAM, NUMBER_AHEAD, NUMBER_PAST,
     OTHER_STATION,
@@ -24,12 +24,16 @@ pub struct Telegram {
 impl Telegram {
     /// "Telegram, 14 bytes: length 14, kind 48, number (32 bits), station,
     /// setpoint (move code, row or ticks)."
-    pub fn encode(&self) -> Vec<u8> {
-        let mut bytes = Vec::with_capacity(TELEGRAM_LENGTH);
-        push_words(&mut bytes, &[TELEGRAM_LENGTH as u16, TELEGRAM]);
-        bytes.extend_from_slice(&self.number.to_le_bytes());
-        push_words(&mut bytes, &[self.station, self.code, self.argument]);
-        bytes
+    pub fn encode(&self) -> [u8; TELEGRAM_LENGTH] {
+        bytes_of(&[
+            TELEGRAM_LENGTH as u16,
+            TELEGRAM,
+            self.number as u16,
+            (self.number >> 16) as u16,
+            self.station,
+            self.code,
+            self.argument,
+        ])
     }
 
     /// None where "size, length or kind" is off.

@@ -1,5 +1,5 @@
-//! Random diagrams, nets, states, lists and logs for comparisons. The same seed
-//! always gives the same ones.
+//! Random diagrams, nets, states, lists, logs and runs for comparisons. The same
+//! seed always gives the same ones.
 
 mod damage;
 mod diagrams;
@@ -8,6 +8,7 @@ mod lists;
 mod logs;
 mod loops;
 mod nets;
+mod runs;
 mod states;
 
 pub use diagrams::{
@@ -18,6 +19,7 @@ pub use diagrams::{
 pub use lists::bus_list;
 pub use logs::{accepted_log, damaged_log, round_log};
 pub use nets::{damaged_net, foreign_net};
+pub use runs::{first_number, old_run, run};
 pub use states::{net_state, odd_state, passing_state, walk};
 
 /// The generator splitmix64.

@@ -13,8 +13,9 @@
 //! | `logs` | 1, Starts in any hour |
 //! | `diagram`, `diagram_step`, `translate` | 2, Triggers reach everyone; 3, Branches that kill |
 //! | `diagram` | 4, Loops that spend no time |
+//! | `editions` | 5, Old panels on the new bus |
 //! | `examples`, `annex` | Plant-room examples |
-//! | `generate` | random diagrams, nets, states, lists and logs for comparisons |
+//! | `generate` | random diagrams, nets, states, lists, logs and runs for comparisons |
 //! | `kills` | which moves kill, for comparisons |
 //!
 //! Every public call takes the caller's bytes and words as they are and checks
@@ -26,6 +27,7 @@ pub mod annex;
 pub mod bus;
 pub mod diagram;
 pub mod diagram_step;
+pub mod editions;
 pub mod examples;
 pub mod generate;
 pub mod history;

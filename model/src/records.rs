@@ -27,6 +27,8 @@ pub const TRANSITION: u16 = 34;
 pub const TAKE: u16 = 35;
 pub const CLEAR: u16 = 36;
 pub const GIVE: u16 = 37;
+/// A telegram of the old edition.
+pub const OLD_TELEGRAM: u16 = 47;
 pub const TELEGRAM: u16 = 48;
 
 /// Length and kind, the two words before the fields.
@@ -52,6 +54,7 @@ pub fn shape(kind: u16) -> Option<(usize, usize)> {
         PLACE => (6, 1),
         TRANSITION => (10, 3),
         TAKE | CLEAR | GIVE => (8, 2),
+        OLD_TELEGRAM => (8, 2),
         // Its number has 32 bits, counted here as two fields.
         TELEGRAM => (14, 5),
         _ => return None,
@@ -64,6 +67,16 @@ pub fn word(bytes: &[u8], index: usize) -> u16 {
         Some([low, high]) => u16::from_le_bytes([*low, *high]),
         _ => 0,
     }
+}
+
+/// The bytes of these words, two each.
+pub fn bytes_of<const BYTES: usize>(words: &[u16]) -> [u8; BYTES] {
+    let mut bytes = [0; BYTES];
+    let (pairs, _) = bytes.as_chunks_mut();
+    for (pair, value) in pairs.iter_mut().zip(words) {
+        *pair = value.to_le_bytes();
+    }
+    bytes
 }
 
 /// Writes words behind the bytes.

@@ -11,12 +11,17 @@ pub struct Refusal {
     pub value: u32,
 }
 
-/// The refusal of this number. Rows, places, ticks and offsets of records are
-/// all far below 2^32.
+/// A value as it is returned, in 32 bits. Only of runs of telegrams of gigabytes
+/// it could be more: then it stops at 4,294,967,295.
+pub fn returned(value: usize) -> u32 {
+    u32::try_from(value).unwrap_or(u32::MAX)
+}
+
+/// The refusal of this number.
 pub fn refusal(number: u32, value: usize) -> Refusal {
     Refusal {
         number,
-        value: value as u32,
+        value: returned(value),
     }
 }
 
@@ -48,3 +53,5 @@ pub const MOVE_REFUSED: u32 = 42;
 pub const TRIGGER_OFF: u32 = 43;
 pub const KILLING_BRANCH_EMPTY: u32 = 44;
 pub const LOOP_SPENDS_NO_TIME: u32 = 45;
+pub const NUMBER_NOT_NEXT: u32 = 46;
+pub const STATION_DIFFERS: u32 = 47;

@@ -3,7 +3,7 @@
 mod common;
 
 use model::generate::{self, Random};
-use model::{annex, bus, diagram, diagram_step, image, logs, net, net_step, translate};
+use model::{annex, bus, diagram, diagram_step, editions, image, logs, net, net_step, translate};
 use std::collections::BTreeMap;
 
 /// Numbers of refusals and how often they came; 0 is accepted.
@@ -158,7 +158,7 @@ fn random_bytes() {
         let mut state: Vec<u16> = (0..length).map(|_| random.word()).collect();
         let before = state.clone();
         let mut area = [6; 20];
-        let mut at = 8;
+        let (mut at, mut station) = (8, 9);
         let (code, argument) = (random.word(), random.word());
         let answers = [
             diagram::read(&bytes),
@@ -171,9 +171,11 @@ fn random_bytes() {
             net_step::step(&bytes, &mut state, code, argument),
             bus::take(&bytes, &mut state, 1, argument, &bytes),
             logs::log_starts(&bytes, &bytes, argument, &mut at),
+            editions::telegrams_up(&bytes, argument, 1, &mut area),
+            editions::telegrams_down(&bytes, &mut area, &mut station, &mut at),
         ];
         if answers.iter().all(|answer| answer.is_err()) {
-            assert_eq!((state, area, at), (before, [6; 20], 8));
+            assert_eq!((state, area, at, station), (before, [6; 20], 8, 9));
         }
         annex::annex(&bytes);
     }

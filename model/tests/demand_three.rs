@@ -53,7 +53,7 @@ fn hand(number: u32, station: u16, code: u16, argument: u16) -> Call {
         argument,
     };
     Call::Hand {
-        bytes: telegram.encode(),
+        bytes: telegram.encode().to_vec(),
     }
 }
 

@@ -53,7 +53,7 @@ fn lengths_are_the_fields_lengths() {
         }
     }
     let kinds = (0..=u16::MAX).filter(|kind| shape(*kind).is_some());
-    assert_eq!(kinds.count(), 23);
+    assert_eq!(kinds.count(), 24);
 }
 
 #[test]
@@ -768,11 +768,11 @@ fn telegrams_refused() {
     for length in 0..14 {
         assert_eq!(take(5, 0x0201, &bytes[..length]), refused(30, 0));
     }
-    let mut longer = bytes.clone();
+    let mut longer = bytes.to_vec();
     longer.push(0);
     assert_eq!(take(5, 0x0201, &longer), refused(30, 0));
     for byte in 0..4 {
-        let mut off = bytes.clone();
+        let mut off = bytes;
         off[byte] ^= 1;
         assert_eq!(take(5, 0x0201, &off), refused(30, 0));
     }

@@ -1,4 +1,4 @@
-//! Flow diagrams, their nets, both bus ends and logs: safe calls of the proved functions.
+//! Flow diagrams, their nets, both bus ends, runs of telegrams and logs: safe calls of the proved functions.
 //!
 //! Each function takes whatever bytes, numbers and lent memory it is given, and answers with a value or with a numbered [`Refusal`] of
 //! the table of documents 01 and 02. A refusal alters nothing that was lent. What each call promises is proved in the Rattle crate that has it
@@ -6,7 +6,8 @@
 //!
 //! A file is looked at first (refusals 1 to 9; 43 right after 5 at the same record, 44 between 7 and 8 at the same row; 45 where no row is
 //! refused), then a state (20), the move (21 to 26), the leader's count (27), the area (10). The follower looks at the telegram (30 to 33)
-//! before all of these. Of a log, after the file: its length (40), the row (41), its moves (42).
+//! before all of these. Of a log, after the file: its length (40), the row (41), its moves (42). Of a run of telegrams each telegram in its
+//! turn (30, 46, 47), then the area (10).
 //!
 //! Example A of document 01, one move over the bus:
 //!
@@ -62,6 +63,8 @@ pub const ANNEX_NET_ROOM: usize = 65_536;
 pub const ANNEX_ROOM: usize = 393_216;
 /// Bytes of a telegram.
 pub const TELEGRAM_LENGTH: usize = 14;
+/// Bytes of a telegram of the old edition.
+pub const OLD_TELEGRAM_LENGTH: usize = 8;
 /// Bytes of a setpoint, one move of a log.
 pub const SETPOINT_LENGTH: usize = 4;
 /// Moves of a log, at most.
@@ -185,6 +188,8 @@ refusals! {
     43 TRIGGER_OFF "trigger's take or give above 1"
     44 KILLING_BRANCH_EMPTY "killing branch empty"
     45 LOOP_SPENDS_NO_TIME "loop spends no time"
+    46 NUMBER_NOT_NEXT "number not one above the last, or past 4,294,967,295"
+    47 STATION_DIFFERS "station differs from the first"
 }
 
 impl fmt::Display for Refusal {
@@ -271,6 +276,22 @@ mod proved {
             log_count: usize,
             row: u16,
             at: *mut u32,
+        ) -> u64;
+        pub fn telegrams_up(
+            old: *const u8,
+            old_count: usize,
+            station: u16,
+            first: u32,
+            area: *mut u8,
+            area_count: usize,
+        ) -> u64;
+        pub fn telegrams_down(
+            run: *const u8,
+            run_count: usize,
+            area: *mut u8,
+            area_count: usize,
+            station: *mut u16,
+            first: *mut u32,
         ) -> u64;
     }
 }
@@ -584,4 +605,61 @@ pub fn most_starts(file: &[u8], log: &[u8], row: u16) -> Result<Starts, Refusal>
     let mut at = 0;
     let most = log_starts(file, log, row, &mut at)?;
     Ok(Starts { most, at })
+}
+
+/// A run of telegrams of the old edition (length 8, kind 47, setpoint), one after another, as telegrams of this one, into the first bytes of an
+/// area; those beyond keep their values. They get `station`, and numbers from `first` on. Accepted: the bytes written, [`TELEGRAM_LENGTH`] for
+/// each [`OLD_TELEGRAM_LENGTH`] of the run.
+///
+/// At the first telegram that is off, with its index: [`refusal::NO_TELEGRAM`], also where fewer bytes are left;
+/// [`refusal::NUMBER_NOT_NEXT`] where its number would be past 4,294,967,295. Then [`refusal::AREA_SHORT`] returns the bytes needed. A value
+/// that 32 bits cannot hold, of runs of gigabytes, is returned as 4,294,967,295.
+///
+/// ```
+/// use effbd::{refusal, Refusal};
+///
+/// let old = [8, 0, 47, 0, 1, 0, 0, 0, 8, 0, 47, 0, 2, 0, 44, 1]; // step 0, wait 300
+/// let short = effbd::telegrams_up(&old, 9, 7, &mut []);
+/// assert_eq!(short, Err(Refusal { number: refusal::AREA_SHORT, value: 28 }));
+/// let mut run = [0; 28];
+/// assert_eq!(effbd::telegrams_up(&old, 9, 7, &mut run), Ok(28));
+/// assert_eq!(run[14..], [14, 0, 48, 0, 8, 0, 0, 0, 9, 0, 2, 0, 44, 1]); // numbered 8
+///
+/// // And back.
+/// let (mut area, mut station, mut first) = ([0; 16], 0, 0);
+/// assert_eq!(effbd::telegrams_down(&run, &mut area, &mut station, &mut first), Ok(16));
+/// assert_eq!((area, station, first), (old, 9, 7));
+/// ```
+pub fn telegrams_up(old: &[u8], station: u16, first: u32, area: &mut [u8]) -> Answer {
+    // SAFETY: as in `fresh_diagram`.
+    answer(unsafe {
+        proved::telegrams_up(
+            old.as_ptr(),
+            old.len(),
+            station,
+            first,
+            area.as_mut_ptr(),
+            area.len(),
+        )
+    })
+}
+
+/// The other way: a run of telegrams as telegrams of the old edition, into the first bytes of an area; those beyond keep their values.
+/// Accepted: the bytes written; `station` and `first` become the station and the number of the first telegram, with which [`telegrams_up`]
+/// gives the run back; of an empty run both 0.
+///
+/// At the first telegram that is off, with its index: [`refusal::NO_TELEGRAM`]; [`refusal::NUMBER_NOT_NEXT`] where its number is not one above
+/// the last; [`refusal::STATION_DIFFERS`] where its station is not the first one's. Then [`refusal::AREA_SHORT`] returns the bytes needed.
+pub fn telegrams_down(run: &[u8], area: &mut [u8], station: &mut u16, first: &mut u32) -> Answer {
+    // SAFETY: as in `fresh_diagram`; the two numbers are live, borrowed for the call alone.
+    answer(unsafe {
+        proved::telegrams_down(
+            run.as_ptr(),
+            run.len(),
+            area.as_mut_ptr(),
+            area.len(),
+            station,
+            first,
+        )
+    })
 }

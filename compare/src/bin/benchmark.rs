@@ -1,5 +1,6 @@
 //! `benchmark`: the time of each proved function, of the model, and their ratio, at 5, 30 and 64 rows, what one row more costs, and the same at
-//! plants with triggers, at plants with branches that kill and at a plant of loops, in one run; last, which ratio is the largest.
+//! plants with triggers, at plants with branches that kill and at a plant of loops, and of runs of telegrams between the editions, in one run;
+//! last, which ratio is the largest.
 //!
 //! Both are built for release and get the same inputs in the same order; states and areas are copied anew before each call, for both.
 //! At each size the calls go round plants of 960 rows in all, equally often: no single diagram's mix of rows decides the ratio, and the
@@ -17,10 +18,14 @@
 //!
 //! `12 loops` is 12 LPs one in the other, 64 rows in all, where only the last FUNCTION of the innermost spends time: all of them are looked
 //! through for it. Of its moves one half are steps of LP rows; its log is random.
+//!
+//! Runs are of 10, 1,000 and 100,000 telegrams, in areas of just their length; their times are of one telegram, which show whether a run costs as
+//! much as its telegrams do.
 
 use model::bus::Telegram;
 use model::diagram::{Diagram, Row, MOST_ITEMS, MOST_ROWS};
 use model::diagram_step::{STEP, WAIT};
+use model::editions::OldTelegram;
 use model::examples::{
     deep_loops, deep_trips_again, killing_rounds_again, triggers, triggers_again, trips_again,
 };
@@ -49,6 +54,8 @@ const ROWS_MOVED: usize = MOVES / 3;
 const NET_BYTES: usize = 1_000_000;
 /// A round there, or on a plant with kills or loops, may be long; as many sweeps come back to it.
 const LONG_ROUNDS: usize = 3;
+/// Telegrams of the longest run, and of each round on shorter ones.
+const TELEGRAMS: usize = 100_000;
 
 /// The plants that a time is of.
 #[derive(Clone, Copy, PartialEq, Eq)]
@@ -60,6 +67,8 @@ enum Size {
     },
     /// A plant by its name.
     Named(&'static str),
+    /// Runs of so many telegrams.
+    Telegrams(usize),
 }
 
 impl fmt::Display for Size {
@@ -71,6 +80,7 @@ impl fmt::Display for Size {
                 receivers,
             } => write!(to, "{triggers} x {receivers}"),
             Size::Named(name) => to.write_str(name),
+            Size::Telegrams(telegrams) => write!(to, "{telegrams}"),
         }
     }
 }
@@ -94,7 +104,7 @@ struct Plant {
 struct Move {
     before: Vec<u16>,
     image: Vec<u16>,
-    telegram: Vec<u8>,
+    telegram: [u8; effbd::TELEGRAM_LENGTH],
     code: u16,
     argument: u16,
 }
@@ -608,6 +618,85 @@ fn compare_with_steps(table: &mut Vec<Times>, course: &LogCourse) {
     keep_least(table, "log", course.size, 1, in_log, by_steps);
 }
 
+/// A run in both editions.
+struct Run {
+    telegrams: usize,
+    old: Vec<u8>,
+    new: Vec<u8>,
+}
+
+/// A run of so many telegrams with random setpoints.
+fn run_of(telegrams: usize) -> Run {
+    let mut random = Random::new(telegrams as u64);
+    let setpoints = (0..telegrams).map(|_| OldTelegram {
+        code: random.word(),
+        argument: random.word(),
+    });
+    let old: Vec<u8> = setpoints.flat_map(|setpoint| setpoint.encode()).collect();
+    let mut new = vec![0; telegrams * effbd::TELEGRAM_LENGTH];
+    let converted = model::editions::telegrams_up(&old, STATION, 1, &mut new);
+    assert!(converted.is_ok(), "a run that goes up");
+    Run {
+        telegrams,
+        old,
+        new,
+    }
+}
+
+/// The time of a telegram, in nanoseconds; a call makes all of a run.
+fn nanoseconds_a_telegram<T>(run: &Run, mut call: impl FnMut() -> T) -> f64 {
+    let calls = TELEGRAMS / run.telegrams;
+    nanoseconds(calls, &mut |_| call()) / run.telegrams as f64
+}
+
+/// A run upward, and downward.
+fn compare_runs(table: &mut Vec<Times>, run: &Run) {
+    let size = Size::Telegrams(run.telegrams);
+    let mut areas = (vec![0; run.new.len()], vec![0; run.new.len()]);
+    let proved = || {
+        nanoseconds_a_telegram(run, || {
+            effbd::telegrams_up(black_box(&run.old), STATION, 1, &mut areas.0)
+        })
+    };
+    let model = || {
+        nanoseconds_a_telegram(run, || {
+            model::editions::telegrams_up(black_box(&run.old), STATION, 1, &mut areas.1)
+        })
+    };
+    keep_least(table, "telegrams up", size, ROUNDS, proved, model);
+    assert!(
+        areas.0 == run.new && areas.1 == run.new,
+        "a run that went up"
+    );
+    let mut areas = (vec![0; run.old.len()], vec![0; run.old.len()]);
+    let (mut station, mut first) = ((0, 0), (0, 0));
+    let proved = || {
+        nanoseconds_a_telegram(run, || {
+            effbd::telegrams_down(
+                black_box(&run.new),
+                &mut areas.0,
+                &mut station.0,
+                &mut first.0,
+            )
+        })
+    };
+    let model = || {
+        nanoseconds_a_telegram(run, || {
+            model::editions::telegrams_down(
+                black_box(&run.new),
+                &mut areas.1,
+                &mut station.1,
+                &mut first.1,
+            )
+        })
+    };
+    keep_least(table, "telegrams down", size, ROUNDS, proved, model);
+    assert!(
+        areas.0 == run.old && areas.1 == run.old,
+        "a run that went down"
+    );
+}
+
 /// One line for each function and size: two times and their ratio.
 fn print_times([unit, first, second]: [&str; 3], table: &[Times]) {
     println!(
@@ -616,7 +705,7 @@ fn print_times([unit, first, second]: [&str; 3], table: &[Times]) {
     );
     for line in table {
         println!(
-            "{:<14} {:>9} {:>10.0} ns {:>10.0} ns {:>8.2}",
+            "{:<14} {:>9} {:>10.1} ns {:>10.1} ns {:>8.2}",
             line.name,
             line.size.to_string(),
             line.proved,
@@ -693,6 +782,8 @@ fn main() {
     let (mut calls, mut moves, mut steps) = (Vec::new(), Vec::new(), Vec::new());
     let (mut trigger_calls, mut trigger_moves) = (Vec::new(), Vec::new());
     let (mut named_calls, mut named_moves) = (Vec::new(), Vec::new());
+    let runs = [10, 1_000, TELEGRAMS].map(run_of);
+    let mut telegrams = Vec::new();
     for _ in 0..SWEEPS {
         for (course, logs) in &plain {
             compare_calls(&mut calls, course);
@@ -709,6 +800,9 @@ fn main() {
             compare_calls(&mut named_calls, course);
             compare_logs(&mut named_moves, logs);
         }
+        for run in &runs {
+            compare_runs(&mut telegrams, run);
+        }
     }
     print_times(["a call", "proved", "model"], &calls);
     print_rows(&calls);
@@ -718,6 +812,7 @@ fn main() {
     print_times(["triggers, move", "proved", "model"], &trigger_moves);
     print_times(["kills, loops", "proved", "model"], &named_calls);
     print_times(["the same, move", "proved", "model"], &named_moves);
+    print_times(["a telegram", "proved", "model"], &telegrams);
     let tables = [
         &calls,
         &moves,
@@ -725,6 +820,7 @@ fn main() {
         &trigger_moves,
         &named_calls,
         &named_moves,
+        &telegrams,
     ];
     print_largest(tables.into_iter().flatten());
 }

@@ -1,5 +1,5 @@
 //! `compare SEED SECONDS`: random cases of every kind until the time is up. Status 1 at the first difference, or where a run of some seconds
-//! did not meet every refusal of refusals.txt, or a call no kill or no loop that spends no time.
+//! did not meet every refusal of refusals.txt, or a call no kill, no loop that spends no time, or not every answer to a run of telegrams.
 //! `compare SEED KIND ROUND`: that one case again.
 
 use compare::cases::KINDS;
@@ -52,7 +52,7 @@ fn run(seed: u64, seconds: u64) -> Result<(), String> {
         let all = listed().count();
         println!("all {all} refusals met, {number} {name} least often: {times} times");
     }
-    println!("kills and timeless loops met, by call: {:?}", met.sights());
+    println!("met, by call: {:?}", met.sights());
     if seconds >= ENOUGH && !missing.is_empty() {
         return Err(format!("seed {seed}: refusals not met: {missing:?}"));
     }

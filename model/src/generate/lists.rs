@@ -60,8 +60,8 @@ fn handed_bytes(random: &mut Random, history: &History, station: u16) -> Vec<u8>
     let next = history.telegrams.get(history.taken as usize);
     let any = history.telegrams.get(random.below(history.telegrams.len()));
     match (random.below(10), next, any) {
-        (0..=4, Some(telegram), _) => telegram.encode(),
-        (5..=7, _, Some(telegram)) => telegram.encode(),
+        (0..=4, Some(telegram), _) => telegram.encode().to_vec(),
+        (5..=7, _, Some(telegram)) => telegram.encode().to_vec(),
         _ => rubbish(random, history, station),
     }
 }
@@ -78,9 +78,9 @@ fn rubbish(random: &mut Random, history: &History, station: u16) -> Vec<u8> {
         station,
         ..telegram
     };
-    let mut bytes = own.encode();
+    let mut bytes = own.encode().to_vec();
     match random.below(6) {
-        0 => bytes = telegram.encode(),
+        0 => bytes = telegram.encode().to_vec(),
         1 => bytes[0] ^= 1 << random.below(8),
         2 => bytes[2] ^= 1 << random.below(8),
         3 => bytes.truncate(random.below(14)),
