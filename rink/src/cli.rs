@@ -1,13 +1,16 @@
 //! The commands: their arguments, what they read and write, and their exit status.
 
+use crate::editions::{self, Added, Edition};
 use crate::net::Net;
 use crate::plant::Plant;
 use crate::play::{self, Game};
 use crate::text::{self, Fault, Place, Style};
 use crate::{annex, draw, formats, limits, refused};
+use std::fmt::Display;
 use std::fs::File;
 use std::io::{self, ErrorKind, IsTerminal, Read, Write};
 use std::path::Path;
+use std::str::FromStr;
 
 /// How a command ended when not well.
 pub enum Failure {
@@ -22,7 +25,7 @@ pub enum Failure {
 type Ended = Result<(), Failure>;
 
 const HELP: &str = "\
-rink: make, look at, print and play a plant
+rink: make, look at, print and play a plant; convert telegrams of old panels
 
   rink make  TEXT      the diagram file of a text
   rink show  FILE      the text of a diagram file
@@ -30,6 +33,8 @@ rink: make, look at, print and play a plant
   rink annex FILE      the annex to a contract (HTML), to be printed
   rink play  FILE      panel and controller, with a bus between them
   rink check FILE      accepted or refused, and the limits used
+  rink up    RUN       telegrams of an old panel in the new edition
+  rink down  RUN       telegrams of the new edition for an old panel
 
 `rink COMMAND --help` tells more. `-` as a file is standard input. What a command
 makes goes to standard output, or with `-o NAME` to a file.
@@ -113,6 +118,31 @@ annex program prints the net; a warning of each loop with a way round that may
 spend no time. Or the refusal in words, with row and offset.
 ";
 
+const UP_HELP: &str = "\
+rink up RUN --station NUMBER --first NUMBER [-o NAME]
+
+A run of telegrams of an old panel (length 8, kind 47, setpoint) in the new edition
+(length 14, kind 48, number, station, setpoint), one telegram for each.
+
+  --station       the station of all of them, 0 to 65535
+  --first         the number of the first, 0 to 4294967295; each other's is one above
+                  the last. A fresh controller takes number 1 first
+
+A telegram that is off is named by its index in the run, from 0, and its offset.
+`rink down` gives the run of the old panel back.
+";
+
+const DOWN_HELP: &str = "\
+rink down RUN [-o NAME]
+
+A run of telegrams of the new edition for an old panel, without their numbers and
+station: all have one station, and each number is one above the last. Standard
+error tells the station and the first number, with which `rink up` gives the run
+back.
+
+A telegram that is off is named by its index in the run, from 0, and its offset.
+";
+
 const NAMES_HELP: &str = "
 Names are those of the text: --names TEXT, or NAME.plant or NAME.txt beside
 NAME.dia. A text counts only if it makes the very bytes of the file; without one,
@@ -121,6 +151,7 @@ names are made up.
 
 /// The arguments of a command.
 struct Arguments {
+    command: &'static str,
     file: String,
     /// Options without a value that were given.
     flags: Vec<String>,
@@ -131,16 +162,13 @@ struct Arguments {
 impl Arguments {
     /// Takes a command's arguments apart: one file, and options of these lists.
     fn of(
-        command: &str,
+        command: &'static str,
         given: &[String],
         flags: &[&str],
         values: &[&str],
     ) -> Result<Self, Failure> {
-        let wrong = |words: String| {
-            let words = format!("{words}; `rink {command} --help` tells more\n");
-            Err(Failure::Trouble(words))
-        };
         let mut found = Arguments {
+            command,
             file: String::new(),
             flags: Vec::new(),
             values: Vec::new(),
@@ -152,22 +180,25 @@ impl Arguments {
                 found.flags.push(argument.clone());
             } else if values.contains(&argument.as_str()) {
                 let Some(value) = rest.next() else {
-                    return wrong(format!("{argument} without a value"));
+                    return Err(found.wrong(&format!("{argument} without a value")));
                 };
                 if found.value(argument).is_some() {
-                    return wrong(format!("{argument} stands twice"));
+                    return Err(found.wrong(&format!("{argument} stands twice")));
                 }
                 found.values.push((argument.clone(), value.clone()));
             } else if argument.starts_with('-') && argument != "-" {
-                return wrong(format!("no option {argument}"));
+                return Err(found.wrong(&format!("no option {argument}")));
             } else {
                 files.push(argument.clone());
             }
         }
         match files.as_slice() {
             [file] => found.file = file.clone(),
-            [] => return wrong("no file named".to_string()),
-            _ => return wrong(format!("one file at a time, not {}", files.join(" and "))),
+            [] => return Err(found.wrong("no file named")),
+            _ => {
+                let files = files.join(" and ");
+                return Err(found.wrong(&format!("one file at a time, not {files}")));
+            }
         }
         Ok(found)
     }
@@ -179,6 +210,24 @@ impl Arguments {
     fn value(&self, name: &str) -> Option<&str> {
         let found = self.values.iter().find(|(option, _)| option == name);
         found.map(|(_, value)| value.as_str())
+    }
+
+    /// The number of an option, where it is given: 0 up to the most of its type.
+    fn number<T: FromStr + Display>(&self, name: &str, most: T) -> Result<Option<T>, Failure> {
+        let number = self.value(name).map(str::parse).transpose();
+        number.map_err(|_| self.wrong(&format!("{name} has a number from 0 to {most}")))
+    }
+
+    /// The number of an option that the command needs.
+    fn needed<T: FromStr + Display>(&self, name: &str, most: T) -> Result<T, Failure> {
+        let number = self.number(name, most)?;
+        number.ok_or_else(|| self.wrong(&format!("no {name} given")))
+    }
+
+    /// What is wrong with the arguments.
+    fn wrong(&self, words: &str) -> Failure {
+        let command = self.command;
+        Failure::Trouble(format!("{words}; `rink {command} --help` tells more\n"))
     }
 }
 
@@ -209,6 +258,8 @@ fn known(command: &str) -> Option<Known> {
         "annex" => (annexed, [ANNEX_HELP, NAMES_HELP]),
         "play" => (played, [PLAY_HELP, NAMES_HELP]),
         "check" => (checked, [CHECK_HELP, NAMES_HELP]),
+        "up" => (up, [UP_HELP, ""]),
+        "down" => (down, [DOWN_HELP, ""]),
         _ => return None,
     };
     Some(Known { run, help })
@@ -274,6 +325,16 @@ fn write_out(file: Option<&str>, bytes: &[u8]) -> Ended {
     };
     let written = File::create(file).and_then(|mut output| output.write_all(bytes));
     written.map_err(|fault| trouble(file, &fault))
+}
+
+/// Writes bytes that are no text: never to a terminal. `what` they are and their file's usual ending are said there.
+fn write_bytes(file: Option<&str>, bytes: &[u8], what: &str, ending: &str) -> Ended {
+    let file = file.filter(|file| *file != "-");
+    if file.is_none() && io::stdout().is_terminal() {
+        let words = format!("{what} is no text for a terminal: name a file, by `> NAME.{ending}` or `-o NAME.{ending}`\n");
+        return Err(Failure::Trouble(words));
+    }
+    write_out(file, bytes)
 }
 
 /// A file of text.
@@ -359,12 +420,7 @@ fn names_of(text: &Path, file: &[u8]) -> Option<Plant> {
 fn make(given: &[String]) -> Ended {
     let arguments = Arguments::of("make", given, &[], &["-o"])?;
     let (file, _) = made(&arguments.file)?;
-    let output = arguments.value("-o").filter(|output| *output != "-");
-    if output.is_none() && io::stdout().is_terminal() {
-        let words = "a diagram file is no text for a terminal: name a file, by `> NAME.dia` or `-o NAME.dia`\n";
-        return Err(Failure::Trouble(words.to_string()));
-    }
-    write_out(output, &file)
+    write_bytes(arguments.value("-o"), &file, "a diagram file", "dia")
 }
 
 fn show(given: &[String]) -> Ended {
@@ -402,8 +458,7 @@ fn drawn(given: &[String]) -> Ended {
         &["--names", "-o"],
     )?;
     if arguments.flag("--dot") && arguments.flag("--tina") {
-        let words = "--dot or --tina, not both; `rink draw --help` tells more\n";
-        return Err(Failure::Trouble(words.to_string()));
+        return Err(arguments.wrong("--dot or --tina, not both"));
     }
     let (file, plant) = accepted(&arguments)?;
     let net = || Net::of_diagram(&file).map_err(|refusal| untranslated(&arguments, refusal));
@@ -438,15 +493,9 @@ const STATION: u16 = 7;
 fn played(given: &[String]) -> Ended {
     let options = ["--script", "--station", "--names", "-o"];
     let arguments = Arguments::of("play", given, &[], &options)?;
-    let wrong = |words: &str| {
-        let words = format!("{words}; `rink play --help` tells more\n");
-        Err(Failure::Trouble(words))
-    };
-    let station = match arguments.value("--station").map(str::parse) {
-        None => STATION,
-        Some(Ok(station)) => station,
-        Some(Err(_)) => return wrong("--station has a number from 0 to 65535"),
-    };
+    let wrong = |words| Err(arguments.wrong(words));
+    let station = arguments.number("--station", u16::MAX)?;
+    let station = station.unwrap_or(STATION);
     match arguments.value("--script") {
         None if arguments.file == "-" => {
             return wrong("moves are typed on standard input: a diagram from there needs --script")
@@ -483,4 +532,45 @@ fn lesson(game: Game, script: &str, output: Option<&str>) -> Ended {
             Err(wrong_text(script, &text, Fault::at(place, fault.words)))
         }
     }
+}
+
+fn up(given: &[String]) -> Ended {
+    let arguments = Arguments::of("up", given, &[], &["--station", "--first", "-o"])?;
+    let added = Added {
+        station: arguments.needed("--station", u16::MAX)?,
+        first: arguments.needed("--first", u32::MAX)?,
+    };
+    let run = read_in(&arguments.file)?;
+    let new = editions::up(&run, added);
+    let new = new.map_err(|refusal| refused_run(&arguments, &run, Edition::Old, refusal))?;
+    write_run(&arguments, &new)
+}
+
+fn down(given: &[String]) -> Ended {
+    let arguments = Arguments::of("down", given, &[], &["-o"])?;
+    let run = read_in(&arguments.file)?;
+    let old = editions::down(&run);
+    let (old, Added { station, first }) =
+        old.map_err(|refusal| refused_run(&arguments, &run, Edition::New, refusal))?;
+    write_run(&arguments, &old)?;
+    let words = format!(
+        "station {station}, first number {first}: `rink up --station {station} --first {first}` gives the run back\n"
+    );
+    let _ = io::stderr().write_all(words.as_bytes());
+    Ok(())
+}
+
+fn write_run(arguments: &Arguments, run: &[u8]) -> Ended {
+    write_bytes(arguments.value("-o"), run, "a run of telegrams", "run")
+}
+
+/// A refusal of a run of this edition in words.
+fn refused_run(
+    arguments: &Arguments,
+    run: &[u8],
+    edition: Edition,
+    refusal: effbd::Refusal,
+) -> Failure {
+    let words = editions::refused_words(run, edition, refusal);
+    Failure::Refused(format!("{}: {words}", named(&arguments.file)))
 }

@@ -1,12 +1,13 @@
-//! What the program `rink` is made of: a plant's text, its drawings, its annex and the game of both bus ends.
+//! What the program `rink` is made of: a plant's text, its drawings, its annex, the game of both bus ends and runs of telegrams.
 //!
-//! Whatever the proved functions do is left to them: reading, translating, stepping, both bus ends and the annex's text.
+//! Whatever the proved functions do is left to them: reading, translating, stepping, both bus ends, the annex's text and the telegrams' editions.
 
 #![forbid(unsafe_code)]
 
 pub mod annex;
 pub mod cli;
 pub mod draw;
+pub mod editions;
 pub mod formats;
 pub mod limits;
 pub mod net;

@@ -28,14 +28,18 @@ pub struct Found {
 impl Found {
     /// Why, with the number of the refusal.
     pub fn words(&self) -> String {
-        let Refusal { number, .. } = self.refusal;
-        format!("{} (refusal {number}, {})", self.why, self.refusal.words())
+        with_number(&self.why, self.refusal)
     }
 
     /// Where: the row or record and its offset.
     pub fn place(&self) -> String {
         format!("{}, offset {}", numbered(self.subject), self.offset)
     }
+}
+
+/// Why something was refused, with the refusal's number and what that means.
+pub fn with_number(why: &str, refusal: Refusal) -> String {
+    format!("{why} (refusal {}, {})", refusal.number, refusal.words())
 }
 
 /// How a reader of a file calls its items and rows: by their numbers.

@@ -1,85 +1,24 @@
 //! The program as it is called: what it answers, its exit status, and what it says of wrong input of every kind.
 
+mod program;
+
+use program::{example, fed, folder, program, rink, says, Answer, DONE, REFUSED, TROUBLE};
 use std::fs;
 use std::io::Write;
-use std::path::{Path, PathBuf};
-use std::process::{Command, Output, Stdio};
+use std::process::Stdio;
 
-const DONE: i32 = 0;
-const REFUSED: i32 = 1;
-const TROUBLE: i32 = 2;
+/// The commands that read a plant: its text or its diagram file.
+const OF_PLANTS: [&str; 6] = ["make", "show", "draw", "annex", "play", "check"];
+/// The commands that read a run of telegrams.
+const OF_RUNS: [&str; 2] = ["up", "down"];
 
-const COMMANDS: [&str; 6] = ["make", "show", "draw", "annex", "play", "check"];
-
-/// An answer of the program.
-struct Answer {
-    status: i32,
-    output: Vec<u8>,
-    said: String,
-}
-
-impl Answer {
-    fn of(output: Output) -> Answer {
-        Answer {
-            status: output.status.code().expect("it ends by itself"),
-            output: output.stdout,
-            said: String::from_utf8(output.stderr).expect("it says letters"),
-        }
-    }
-
-    fn text(&self) -> &str {
-        std::str::from_utf8(&self.output).expect("a text")
-    }
-}
-
-fn program(arguments: &[&str]) -> Command {
-    let mut program = Command::new(env!("CARGO_BIN_EXE_rink"));
-    program.args(arguments).stdin(Stdio::null());
-    program
-}
-
-fn rink(arguments: &[&str]) -> Answer {
-    Answer::of(program(arguments).output().expect("it runs"))
-}
-
-/// With these bytes on standard input.
-fn fed(arguments: &[&str], input: &[u8]) -> Answer {
-    let mut child = program(arguments)
-        .stdin(Stdio::piped())
-        .stdout(Stdio::piped())
-        .stderr(Stdio::piped())
-        .spawn()
-        .expect("it runs");
-    let mut pipe = child.stdin.take().expect("a pipe");
-    // It may end without having read all.
-    let _ = pipe.write_all(input);
-    drop(pipe);
-    Answer::of(child.wait_with_output().expect("it ends"))
-}
-
-/// It ends with this status and says this.
-fn says(answer: &Answer, status: i32, words: &str) {
-    let Answer { said, .. } = answer;
-    assert_eq!(answer.status, status, "{said}");
-    assert!(said.contains(words), "{words:?} is not in {said:?}");
-}
-
-fn example(name: &str) -> String {
-    let examples = Path::new(env!("CARGO_MANIFEST_DIR")).join("../examples");
-    examples.join(name).to_str().expect("letters").to_string()
-}
-
-/// A folder of this test's own, empty.
-fn folder(name: &str) -> PathBuf {
-    let folder = Path::new(env!("CARGO_TARGET_TMPDIR")).join(name);
-    let _ = fs::remove_dir_all(&folder);
-    fs::create_dir_all(&folder).expect("a folder");
-    folder
+fn commands() -> impl Iterator<Item = &'static str> {
+    OF_PLANTS.into_iter().chain(OF_RUNS)
 }
 
 #[test]
 fn help_of_each_command() {
-    for command in COMMANDS {
+    for command in commands() {
         let answer = rink(&[command, "--help"]);
         assert_eq!(answer.status, DONE);
         assert!(answer.text().contains(&format!("rink {command}")));
@@ -95,7 +34,7 @@ fn help_of_each_command() {
 #[test]
 fn wrong_arguments() {
     says(&rink(&["frob"]), TROUBLE, "no command frob");
-    for command in COMMANDS {
+    for command in commands() {
         says(&rink(&[command]), TROUBLE, "no file named");
         says(
             &rink(&[command, "--frob", "x"]),
@@ -138,7 +77,7 @@ fn wrong_paths() {
     let folder = folder("wrong-paths");
     let inside = folder.join("none/x").to_str().expect("letters").to_string();
     let folder = folder.to_str().expect("letters");
-    for command in COMMANDS {
+    for command in OF_PLANTS {
         says(
             &rink(&[command, &inside]),
             TROUBLE,
@@ -259,7 +198,7 @@ fn refused_files() {
     let answer = rink(&["check", &refused]);
     assert_eq!(answer.status, REFUSED);
     assert!(answer.text().contains(words));
-    for command in COMMANDS {
+    for command in OF_PLANTS {
         let answer = fed(&[command, "-"], b"");
         assert_ne!(answer.status, DONE, "{command}");
     }
