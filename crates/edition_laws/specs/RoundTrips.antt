@@ -1,21 +1,21 @@
 -- Up then down yields the old bytes, down then up the new ones; downward is refused exactly where nothing gives the run back.
 use Prim.Native.Nat.{ℕ, zero, suc, _+_, _*_, _/_, _%_, _≤_, _<_}
 use mathlib.Core.Path.{_≡_, refl, sym, _∙_, ap, ap₂}
-use mathlib.Core.Bool.{Bool, true, false, cond}
+use mathlib.Core.Bool.{true}
 use mathlib.Core.List.{List, [], _∷_, _++_}
 use native.Mathlib.Omega.{arith}
 use lib.ListN.{length, take, drop}
-use lib.Dec.{leb, ltb, eqb}
-use borrow.Author.Tests.{eqb-true, lt-ltb, leb-true}
+use lib.Dec.{ltb}
+use borrow.Author.Tests.{lt-ltb}
 use Rattle.effbd.specs.Answers.{accepted, refused}
 use Rattle.effbd.specs.Records.{areBytes}
-use Rattle.effbd.specs.BusEnds.{telegram, isTelegram, numberAt, stationAt, codeAt, argumentAt, mostCount}
+use Rattle.effbd.specs.BusEnds.{telegram, numberAt, stationAt, codeAt, argumentAt, mostCount}
 use Rattle.effbd.specs.Logs.{Setpoint}
-use Rattle.effbd.specs.Editions.{joined, convertFrom, oldTelegram, isOldTelegram, oldFault, newFault, newOf, oldOf, upward, downward}
+use Rattle.effbd.specs.Editions.{joined, convertFrom, oldTelegram, oldFault, newFault, newOf, oldOf, upward, downward}
 use Rattle.ranges.specs.Tests.{and-left, and-right, and-intro}
 use Rattle.agreement.specs.ByteLaws.{bytes-drop, never, next-inv, word-fits}
 use Rattle.agreement.specs.Telegrams.{telegram-back}
-use Rattle.edition_laws.specs.Runs.{joined-inv, bytes-take, Fine, newRun, oldRun, written-length, old-any, converts, parts, oldSetpoint, newSetpoint, old-sized, new-sized, old-fine, old-makes, new-fine, new-makes, old-back, new-back}
+use Rattle.edition_laws.specs.Runs.{joined-inv, bytes-take, Fine, newRun, oldRun, written-length, old-any, converts, parts, oldSetpoint, newSetpoint, old-sized, new-sized, old-fine, old-makes, new-fine, new-makes, old-back, new-back, old-fine-are, new-fine-are}
 
 abbrev oldEnc : ℕ → Setpoint → List ℕ
 oldEnc number m = oldTelegram (m .code) (m .argument)
@@ -65,6 +65,16 @@ down-run station first [] = unfold convertFrom in refl
 down-run station first (m ∷ ms) = let w = run-station station first m ms in
     down-at station first (stationAt (newRun station first (m ∷ ms))) (numberAt (newRun station first (m ∷ ms))) (m ∷ ms) (w .0) (w .1)
 
+-- a number that stands in bytes is one of 32 bits
+number-counted : (number : ℕ) (t : List ℕ) → areBytes t ≡ true → numberAt t ≡ number → number ≤ mostCount
+number-counted number t a e = let x = word-fits t a 4 in let y = word-fits t a 6 in omega arith
+
+-- no telegram's number is past the last: so few there are
+few : (fault : ℕ → List ℕ → ℕ) → ((n : ℕ) (t : List ℕ) → areBytes t ≡ true → fault n t ≡ 0 → n ≤ mostCount) → (first : ℕ) → first ≤ mostCount
+    → (n : ℕ) (ms : List Setpoint) → length ms ≡ n → ((i : ℕ) → i < n → Fine fault (first + i)) → Numbered first (length ms)
+few fault counted first f zero ms q h = omega arith
+few fault counted first f (suc n) ms q h = let t = h n (omega arith) in let k = counted (first + n) (t .bytes) (t .are) (t .none) in omega arith
+
 -- what is converted upward
 pub record UpParts (old : List ℕ) (station first : ℕ) (new : List ℕ) : Type 0 where
   pub moves : List Setpoint
@@ -75,27 +85,14 @@ pub record UpParts (old : List ℕ) (station first : ℕ) (new : List ℕ) : Typ
 pub up-parts : (old : List ℕ) (station first : ℕ) (new : List ℕ) → areBytes old ≡ true → first ≤ mostCount → upward old station first ≡ accepted new → UpParts old station first new
 unfolding upward
 up-parts old station first new b f e =
-    let n = (length old + 7) / 8 in
     let p = parts 8 oldFault (newOf station) oldEnc (newEnc station) oldSetpoint (λ n m. old-sized (m .code) (m .argument))
     (λ n t. old-back n t) (λ n m. old-makes station n (m .code) (m .argument)) first 0 ((length old + 7) / 8) old new b (omega arith) e in
     record {
       moves = p .moves;
       is-old = p .is-run ∙ old-any first 0 (p .moves);
       is-new = p .is-result;
-      numbered = fits ((length old + 7) / 8) (p .moves) (p .many) (p .each);
+      numbered = few oldFault (λ n t a z. old-fine-are n t z .1) first f ((length old + 7) / 8) (p .moves) (p .many) (p .each);
     }
-  where
-    number-fits : (number : ℕ) (t : List ℕ) → oldFault number t ≡ 0 → number ≤ mostCount
-    number-fits number t h = leb-true number mostCount (go (isOldTelegram t) (leb number mostCount) (unfold oldFault in h))
-      where
-        go : (x y : Bool) → _≡_ {A = ℕ} (cond x (cond y 0 46) 30) 0 → y ≡ true
-        go true true h = refl
-        go true false h = absurd (omega arith)
-        go false y h = absurd (omega arith)
-
-    fits : (n : ℕ) (ms : List Setpoint) → length ms ≡ n → ((i : ℕ) → i < n → Fine oldFault (first + i)) → Numbered first (length ms)
-    fits zero ms q h = omega arith
-    fits (suc n) ms q h = let t = h n (omega arith) in let k = number-fits (first + n) (t .bytes) (t .none) in omega arith
 
 -- what is converted downward
 pub record DownParts (run old : List ℕ) : Type 0 where
@@ -113,21 +110,9 @@ down-parts run old b e =
       moves = p .moves;
       is-old = p .is-result ∙ old-any (numberAt run) 0 (p .moves);
       is-new = p .is-run;
-      numbered = fits ((length run + 13) / 14) (p .moves) (p .many) (p .each);
+      numbered = few (newFault (stationAt run)) (λ n t a z. number-counted n t a (new-fine-are (stationAt run) n t z .number-is)) (numberAt run)
+          (number-counted (numberAt run) run b refl) ((length run + 13) / 14) (p .moves) (p .many) (p .each);
     }
-  where
-    number-is : (number : ℕ) (t : List ℕ) → areBytes t ≡ true → newFault (stationAt run) number t ≡ 0 → number ≤ mostCount
-    number-is number t a h = let z = eqb-true (numberAt t) number (go (isTelegram t) (eqb (numberAt t) number) (eqb (stationAt t) (stationAt run)) (unfold newFault in h)) in
-        let x = word-fits t a 4 in let y = word-fits t a 6 in omega arith
-      where
-        go : (x y z : Bool) → _≡_ {A = ℕ} (cond x (cond y (cond z 0 47) 46) 30) 0 → y ≡ true
-        go true true z h = refl
-        go true false z h = absurd (omega arith)
-        go false y z h = absurd (omega arith)
-
-    fits : (n : ℕ) (ms : List Setpoint) → length ms ≡ n → ((i : ℕ) → i < n → Fine (newFault (stationAt run)) (numberAt run + i)) → Numbered (numberAt run) (length ms)
-    fits zero ms q h = let x = word-fits run b 4 in let y = word-fits run b 6 in omega arith
-    fits (suc n) ms q h = let t = h n (omega arith) in let k = number-is (numberAt run + n) (t .bytes) (t .are) (t .none) in omega arith
 
 -- THEOREM: "Up then down yields the old bytes"
 pub up-then-down : (old : List ℕ) (station first : ℕ) (new : List ℕ) → areBytes old ≡ true → first ≤ mostCount

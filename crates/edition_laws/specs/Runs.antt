@@ -8,7 +8,7 @@ use native.Mathlib.Nat.{mul-suc}
 use lib.ListN.{length, getD, take, drop, length-append, length-drop, take-append-drop, drop-of-length-le}
 use lib.Seq.{take-at, drop-at}
 use lib.Dec.{leb, eqb}
-use borrow.Author.Tests.{eqb-true, le-leb, eq-eqb}
+use borrow.Author.Tests.{eqb-true, leb-true, le-leb, eq-eqb}
 use Rattle.effbd.specs.Answers.{Outcome, accepted, refused}
 use Rattle.effbd.specs.Records.{areBytes, word, wordBytes}
 use Rattle.effbd.specs.BusEnds.{telegram, isTelegram, numberAt, stationAt, codeAt, argumentAt, mostCount}
@@ -151,24 +151,39 @@ pub new-makes : (station number code argument : ℕ) → oldOf number (telegram 
 unfolding oldOf
 new-makes station number code argument = let h = telegram-back number station code argument in ap₂ oldTelegram (h .isCode) (h .isArgument)
 
+-- no fault: every test of it came out (an old telegram has no station to differ)
+fault-none : (a b c : Bool) → _≡_ {A = ℕ} (cond a (cond b (cond c 0 47) 46) 30) 0 → (a ≡ true) × (b ≡ true) × (c ≡ true)
+fault-none true true true e = (refl, refl, refl)
+fault-none true true false e = absurd (omega arith)
+fault-none true false c e = absurd (omega arith)
+fault-none false b c e = absurd (omega arith)
+
+pub old-fine-are : (number : ℕ) (t : List ℕ) → oldFault number t ≡ 0 → (isOldTelegram t ≡ true) × (number ≤ mostCount)
+unfolding oldFault
+old-fine-are number t e = let w = fault-none (isOldTelegram t) (leb number mostCount) true e in (w .0, leb-true number mostCount (w .1))
+
+pub old-whole : (number : ℕ) (t : List ℕ) → oldFault number t ≡ 0 → length t ≡ 8
+old-whole number t e = eqb-true (length t) 8 (and-left (eqb (length t) 8) _ (old-fine-are number t e .0))
+
+pub record NewFine (station number : ℕ) (t : List ℕ) : Type 0 where
+  pub is : isTelegram t ≡ true
+  pub number-is : numberAt t ≡ number
+  pub station-is : stationAt t ≡ station
+
+pub new-fine-are : (station number : ℕ) (t : List ℕ) → newFault station number t ≡ 0 → NewFine station number t
+unfolding newFault
+new-fine-are station number t e = let w = fault-none (isTelegram t) (eqb (numberAt t) number) (eqb (stationAt t) station) e in
+    record { is = w .0; number-is = eqb-true (numberAt t) number (w .1); station-is = eqb-true (stationAt t) station (w .2) }
+
+pub new-whole : (station number : ℕ) (t : List ℕ) → newFault station number t ≡ 0 → length t ≡ 14
+new-whole station number t e = eqb-true (length t) 14 (and-left (eqb (length t) 14) _ (new-fine-are station number t e .is))
+
 -- what is not off is such a telegram
-pub fault-none : (a b : Bool) → _≡_ {A = ℕ} (cond a (cond b 0 46) 30) 0 → (a ≡ true) × (b ≡ true)
-fault-none true true e = (refl, refl)
-fault-none true false e = absurd (omega arith)
-fault-none false b e = absurd (omega arith)
-
-pub fault-none-new : (a b c : Bool) → _≡_ {A = ℕ} (cond a (cond b (cond c 0 47) 46) 30) 0 → (a ≡ true) × (b ≡ true) × (c ≡ true)
-fault-none-new true true true e = (refl, refl, refl)
-fault-none-new true true false e = absurd (omega arith)
-fault-none-new true false c e = absurd (omega arith)
-fault-none-new false b c e = absurd (omega arith)
-
 pub old-back : (number : ℕ) (t : List ℕ) → areBytes t ≡ true → oldFault number t ≡ 0 → (length t ≡ 8) × (t ≡ oldTelegram (word t 4) (word t 6))
-unfolding oldFault oldTelegram
+unfolding oldTelegram
 old-back number t b e =
-    let w = fault-none (isOldTelegram t) (leb number mostCount) e in
-    let s = eqb-true (length t) 8 (and-left (eqb (length t) 8) _ (w .0)) in
-    let k = and-right (eqb (length t) 8) _ (w .0) in
+    let s = old-whole number t e in
+    let k = and-right (eqb (length t) 8) _ (old-fine-are number t e .0) in
     let l : word t 0 ≡ 8 = eqb-true (word t 0) 8 (and-left (eqb (word t 0) 8) _ k) in
     let q : word t 2 ≡ 47 = eqb-true (word t 2) 47 (and-right (eqb (word t 0) 8) _ k) in
     let end : drop 8 t ≡ [] = drop-of-length-le t {i = 8} (omega arith) in
@@ -179,15 +194,15 @@ old-back number t b e =
 
 pub new-back : (station number : ℕ) (t : List ℕ) → areBytes t ≡ true → newFault station number t ≡ 0
     → (length t ≡ 14) × (t ≡ telegram number station (codeAt t) (argumentAt t))
-unfolding newFault telegram
+unfolding telegram
 new-back station number t b e =
-    let w = fault-none-new (isTelegram t) (eqb (numberAt t) number) (eqb (stationAt t) station) e in
-    let s = eqb-true (length t) 14 (and-left (eqb (length t) 14) _ (w .0)) in
-    let k = and-right (eqb (length t) 14) _ (w .0) in
+    let w = new-fine-are station number t e in
+    let s = new-whole station number t e in
+    let k = and-right (eqb (length t) 14) _ (w .is) in
     let l : word t 0 ≡ 14 = eqb-true (word t 0) 14 (and-left (eqb (word t 0) 14) _ k) in
     let q : word t 2 ≡ 48 = eqb-true (word t 2) 48 (and-right (eqb (word t 0) 14) _ k) in
-    let n : word t 4 + 65536 * word t 6 ≡ number = eqb-true (numberAt t) number (w .1) in
-    let st : word t 8 ≡ station = eqb-true (stationAt t) station (w .2) in
+    let n : word t 4 + 65536 * word t 6 ≡ number = w .number-is in
+    let st : word t 8 ≡ station = w .station-is in
     let f4 = word-fits t b 4 in
     let n4 : number % 65536 ≡ word t 4 = omega arith in
     let n6 : number / 65536 ≡ word t 6 = omega arith in

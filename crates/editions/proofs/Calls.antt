@@ -12,7 +12,8 @@ use Rattle.effbd.specs.BusEnds.{stationAt, numberAt}
 use Rattle.effbd.specs.Editions.{joined, convertFrom, telegramCount, oldFault, newFault, newOf, oldOf, upward, downward, fitting, stopping, uppedAs, telegramsUp, downedAs, telegramsDown}
 use Rattle.agreement.specs.ByteLaws.{never}
 use Rattle.editions.specs.Checks.{checked}
-use Rattle.editions.proofs.Faults.{old-whole, new-whole-of, made-new, made-old}
+use Rattle.edition_laws.specs.Runs.{old-whole, new-whole}
+use Rattle.editions.proofs.Faults.{made-new, made-old}
 use Rattle.editions.proofs.Turns.{checked-joined, counts-8, counts-14, lengths}
 
 -- what telegrams become does not matter to the check
@@ -127,7 +128,7 @@ module _ (run area : List ℕ) (station first : ℕ) where
 
   down-size : (bytes : List ℕ) → downward run ≡ accepted bytes → length bytes ≡ length run / 14 * 8
   unfolding downward
-  down-size bytes e = let w = lengths 14 (newFault (stationAt run)) oldOf counts-14 refl 8 (new-whole-of (stationAt run)) made-old (numberAt run) 0 (telegramCount 14 run) run bytes e (omega arith) in
+  down-size bytes e = let w = lengths 14 (newFault (stationAt run)) oldOf counts-14 refl 8 (new-whole (stationAt run)) made-old (numberAt run) 0 (telegramCount 14 run) run bytes e (omega arith) in
       let a = w .0 in let b = w .1 in omega arith
 
   pub down-area : (bytes : List ℕ) → downward run ≡ accepted bytes → length bytes ≤ length area → telegramsDown run area station first .area ≡ bytes ++ drop (length bytes) area

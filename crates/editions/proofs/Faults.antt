@@ -7,13 +7,11 @@ use mathlib.Core.List.{List}
 use native.Mathlib.Omega.{arith}
 use lib.ListN.{length, take}
 use lib.Seq.{getD-take}
-use lib.Dec.{leb, eqb}
-use borrow.Author.Tests.{eq-eqb, ne-eqb, eqb-true, le-leb, lt-leb, leb-true}
+use borrow.Author.Tests.{eq-eqb, ne-eqb, le-leb, lt-leb}
 use Rattle.effbd.specs.Records.{word}
 use Rattle.effbd.specs.BusEnds.{telegram, isTelegram, numberAt, stationAt, codeAt, argumentAt, mostCount}
 use Rattle.effbd.specs.Editions.{oldTelegram, isOldTelegram, oldFault, newFault, newOf, oldOf}
-use Rattle.ranges.specs.Tests.{and-left}
-use Rattle.edition_laws.specs.Runs.{fault-none, fault-none-new, old-sized, new-sized}
+use Rattle.edition_laws.specs.Runs.{old-sized, new-sized}
 
 module _ (number : ℕ) (t : List ℕ) where
   pub old-30 : isOldTelegram t ≡ false → 30 ≡ oldFault number t
@@ -27,14 +25,6 @@ module _ (number : ℕ) (t : List ℕ) where
   pub old-none : isOldTelegram t ≡ true → number ≤ mostCount → 0 ≡ oldFault number t
   unfolding oldFault
   old-none e h = rw (e, le-leb number mostCount h)
-
-  pub old-whole : oldFault number t ≡ 0 → length t ≡ 8
-  unfolding oldFault
-  old-whole e = eqb-true (length t) 8 (and-left (eqb (length t) 8) _ (fault-none (isOldTelegram t) (leb number mostCount) e .0))
-
-  pub old-counted : oldFault number t ≡ 0 → number ≤ mostCount
-  unfolding oldFault
-  old-counted e = leb-true number mostCount (fault-none (isOldTelegram t) (leb number mostCount) e .1)
 
   module _ (station : ℕ) where
     pub new-30 : isTelegram t ≡ false → 30 ≡ newFault station number t
@@ -52,13 +42,6 @@ module _ (number : ℕ) (t : List ℕ) where
     pub new-none : isTelegram t ≡ true → numberAt t ≡ number → stationAt t ≡ station → 0 ≡ newFault station number t
     unfolding newFault
     new-none e n s = rw (e, eq-eqb (numberAt t) number n, eq-eqb (stationAt t) station s)
-
-    new-whole : newFault station number t ≡ 0 → length t ≡ 14
-    unfolding newFault
-    new-whole e = eqb-true (length t) 14 (and-left (eqb (length t) 14) _ (fault-none-new (isTelegram t) (eqb (numberAt t) number) (eqb (stationAt t) station) e .0))
-
-pub new-whole-of : (station number : ℕ) (t : List ℕ) → newFault station number t ≡ 0 → length t ≡ 14
-new-whole-of station number t = new-whole number t station
 
 -- what becomes of a telegram, by the words of a run that it stands at the front of
 word-take : (n i : ℕ) (l : List ℕ) → suc i < n → word (take n l) i ≡ word l i

@@ -25,7 +25,7 @@ fn stopped(n: usize) -> u32
 }
 
 // The first telegram of a run, or what is left of one.
-fn head<'a>(run: &'a [u8], size: usize) -> &'a [u8]
+fn front<'a>(run: &'a [u8], size: usize) -> &'a [u8]
     ensures { λ r. ⌜ now r ≡ take size (now (run .entry)) ⌝ }
 {
     if size <= run.len() {
@@ -70,7 +70,7 @@ fn check_up(old: &[u8], first: u32) -> Answer
     let mut rest = old;
     let mut index: usize = 0;
     while 0 < rest.len() {
-        let fault = old_fault(head(rest, OLD), first as usize + index);
+        let fault = old_fault(front(rest, OLD), first as usize + index);
         if fault != 0 {
             return Answer::Refused(fault, stopped(index));
         }
@@ -90,7 +90,7 @@ fn check_down(run: &[u8]) -> Answer
     let mut rest = run;
     let mut index: usize = 0;
     while 0 < rest.len() {
-        let fault = new_fault(head(rest, NEW), station, first as usize + index);
+        let fault = new_fault(front(rest, NEW), station, first as usize + index);
         if fault != 0 {
             return Answer::Refused(fault, stopped(index));
         }

@@ -24,8 +24,8 @@ long-requires c κs = search needs
 loop-holds : tie.Need-loop-holds Inv-loop μ-loop
 loop-holds c = (omega arith, check-begun 14 (newFault (c .before .word .result)) oldOf counts-14 refl (c .long .result) (c .before .before .before .args .run .now) ∙ (unfold downward in ap₂ (λ (s n : ℕ). checked (convertFrom 14 (newFault s) oldOf n 0 (telegramCount 14 (c .before .before .before .args .run .now)) (c .before .before .before .args .run .now))) (c .before .word .ensures) (c .long .ensures)))
 
-head-requires : tie.Need-head-requires Inv-loop μ-loop
-head-requires c κs = search needs
+front-requires : tie.Need-front-requires Inv-loop μ-loop
+front-requires c κs = search needs
 
 cast-new-fault : tie.Need-cast-new-fault Inv-loop μ-loop
 cast-new-fault c = search needs
@@ -40,7 +40,7 @@ stopped-requires : tie.Need-stopped-requires Inv-loop μ-loop
 stopped-requires c κs = search needs
 
 returns : tie.Need-returns Inv-loop μ-loop
-returns c = check-off 14 (newFault (c .before .before .before .before .before .before .before .word .result)) oldOf counts-14 refl (checked (downward (c .before .before .before .before .before .before .before .before .before .args .run .now))) (c .before .before .before .before .before .before .long .result) (c .before .before .before .before .before .loop .index) (c .before .before .new-fault .result) (c .before .before .before .before .before .loop .rest .now) (c .before .before .before .head .result .now) (c .before .before .before .head .ensures) (c .before .before .new-fault .ensures) (c .before .before .before .before .loop-test .taken) (c .before .before .before .before .before .loop .inv .1) (c .stopped .result) (c .before .if1 .taken) (c .stopped .ensures)
+returns c = check-off 14 (newFault (c .before .before .before .before .before .before .before .word .result)) oldOf counts-14 refl (checked (downward (c .before .before .before .before .before .before .before .before .before .args .run .now))) (c .before .before .before .before .before .before .long .result) (c .before .before .before .before .before .loop .index) (c .before .before .new-fault .result) (c .before .before .before .before .before .loop .rest .now) (c .before .before .before .front .result .now) (c .before .before .before .front .ensures) (c .before .before .new-fault .ensures) (c .before .before .before .before .loop-test .taken) (c .before .before .before .before .before .loop .inv .1) (c .stopped .result) (c .before .if1 .taken) (c .stopped .ensures)
 
 tail-requires : tie.Need-tail-requires Inv-loop μ-loop
 tail-requires c κs = search needs
@@ -52,7 +52,7 @@ loop-less : tie.Need-loop-less Inv-loop μ-loop
 loop-less c = let m = ap length (c .tail .ensures) ∙ length-drop 14 (c .before .before .before .before .before .loop .rest .now) in omega (arith, m, c .before .before .before .before .loop-test .taken)
 
 loop-again : tie.Need-loop-again Inv-loop μ-loop
-loop-again c = let m = ap length (c .tail .ensures) ∙ length-drop 14 (c .before .before .before .before .before .loop .rest .now) in let h = c .before .before .before .before .before .loop .inv .0 in (omega (arith, m, h, c .before .before .before .before .loop-test .taken), check-again 14 (newFault (c .before .before .before .before .before .before .before .word .result)) oldOf counts-14 refl (checked (downward (c .before .before .before .before .before .before .before .before .before .args .run .now))) (c .before .before .before .before .before .before .long .result) (c .before .before .before .before .before .loop .index) (c .before .before .new-fault .result) (c .before .before .before .before .before .loop .rest .now) (c .before .before .before .head .result .now) (c .before .before .before .head .ensures) (c .before .before .new-fault .ensures) (c .before .before .before .before .loop-test .taken) (c .before .before .before .before .before .loop .inv .1) (c .tail .result .now) (c .before .if1 .left) (c .tail .ensures))
+loop-again c = let m = ap length (c .tail .ensures) ∙ length-drop 14 (c .before .before .before .before .before .loop .rest .now) in let h = c .before .before .before .before .before .loop .inv .0 in (omega (arith, m, h, c .before .before .before .before .loop-test .taken), check-again 14 (newFault (c .before .before .before .before .before .before .before .word .result)) oldOf counts-14 refl (checked (downward (c .before .before .before .before .before .before .before .before .before .args .run .now))) (c .before .before .before .before .before .before .long .result) (c .before .before .before .before .before .loop .index) (c .before .before .new-fault .result) (c .before .before .before .before .before .loop .rest .now) (c .before .before .before .front .result .now) (c .before .before .before .front .ensures) (c .before .before .new-fault .ensures) (c .before .before .before .before .loop-test .taken) (c .before .before .before .before .before .loop .inv .1) (c .tail .result .now) (c .before .if1 .left) (c .tail .ensures))
 
 returns-2 : tie.Need-returns-2 Inv-loop μ-loop
 returns-2 c = check-done 14 (newFault (c .before .before .before .word .result)) oldOf counts-14 refl (checked (downward (c .before .before .before .before .before .args .run .now))) (c .before .before .long .result + c .before .loop .index) (c .before .loop .index) (c .before .loop .rest .now) (c .loop-test .left) (c .before .loop .inv .1)
@@ -66,7 +66,7 @@ check-down-spec =
     word-requires
     long-requires
     loop-holds
-    head-requires
+    front-requires
     cast-new-fault
     add-new-fault
     new-fault-requires

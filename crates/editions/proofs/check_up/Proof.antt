@@ -18,8 +18,8 @@ abbrev μ-loop : tie.MeasureT-loop
 loop-holds : tie.Need-loop-holds Inv-loop μ-loop
 loop-holds c = (omega arith, unfold upward in check-begun 8 oldFault (newOf 0) counts-8 refl (c .before .args .first) (c .before .args .old .now))
 
-head-requires : tie.Need-head-requires Inv-loop μ-loop
-head-requires c κs = search needs
+front-requires : tie.Need-front-requires Inv-loop μ-loop
+front-requires c κs = search needs
 
 add-old-fault : tie.Need-add-old-fault Inv-loop μ-loop
 add-old-fault c = search needs
@@ -31,7 +31,7 @@ stopped-requires : tie.Need-stopped-requires Inv-loop μ-loop
 stopped-requires c κs = search needs
 
 returns : tie.Need-returns Inv-loop μ-loop
-returns c = check-off 8 oldFault (newOf 0) counts-8 refl (checked (upward (c .before .before .before .before .before .before .before .args .old .now) 0 (c .before .before .before .before .before .before .before .args .first))) (c .before .before .before .before .before .before .before .args .first) (c .before .before .before .before .before .loop .index) (c .before .before .old-fault .result) (c .before .before .before .before .before .loop .rest .now) (c .before .before .before .head .result .now) (c .before .before .before .head .ensures) (c .before .before .old-fault .ensures) (c .before .before .before .before .loop-test .taken) (c .before .before .before .before .before .loop .inv .1) (c .stopped .result) (c .before .if1 .taken) (c .stopped .ensures)
+returns c = check-off 8 oldFault (newOf 0) counts-8 refl (checked (upward (c .before .before .before .before .before .before .before .args .old .now) 0 (c .before .before .before .before .before .before .before .args .first))) (c .before .before .before .before .before .before .before .args .first) (c .before .before .before .before .before .loop .index) (c .before .before .old-fault .result) (c .before .before .before .before .before .loop .rest .now) (c .before .before .before .front .result .now) (c .before .before .before .front .ensures) (c .before .before .old-fault .ensures) (c .before .before .before .before .loop-test .taken) (c .before .before .before .before .before .loop .inv .1) (c .stopped .result) (c .before .if1 .taken) (c .stopped .ensures)
 
 tail-requires : tie.Need-tail-requires Inv-loop μ-loop
 tail-requires c κs = search needs
@@ -43,7 +43,7 @@ loop-less : tie.Need-loop-less Inv-loop μ-loop
 loop-less c = let m = ap length (c .tail .ensures) ∙ length-drop 8 (c .before .before .before .before .before .loop .rest .now) in omega (arith, m, c .before .before .before .before .loop-test .taken)
 
 loop-again : tie.Need-loop-again Inv-loop μ-loop
-loop-again c = let m = ap length (c .tail .ensures) ∙ length-drop 8 (c .before .before .before .before .before .loop .rest .now) in let h = c .before .before .before .before .before .loop .inv .0 in (omega (arith, m, h, c .before .before .before .before .loop-test .taken), check-again 8 oldFault (newOf 0) counts-8 refl (checked (upward (c .before .before .before .before .before .before .before .args .old .now) 0 (c .before .before .before .before .before .before .before .args .first))) (c .before .before .before .before .before .before .before .args .first) (c .before .before .before .before .before .loop .index) (c .before .before .old-fault .result) (c .before .before .before .before .before .loop .rest .now) (c .before .before .before .head .result .now) (c .before .before .before .head .ensures) (c .before .before .old-fault .ensures) (c .before .before .before .before .loop-test .taken) (c .before .before .before .before .before .loop .inv .1) (c .tail .result .now) (c .before .if1 .left) (c .tail .ensures))
+loop-again c = let m = ap length (c .tail .ensures) ∙ length-drop 8 (c .before .before .before .before .before .loop .rest .now) in let h = c .before .before .before .before .before .loop .inv .0 in (omega (arith, m, h, c .before .before .before .before .loop-test .taken), check-again 8 oldFault (newOf 0) counts-8 refl (checked (upward (c .before .before .before .before .before .before .before .args .old .now) 0 (c .before .before .before .before .before .before .before .args .first))) (c .before .before .before .before .before .before .before .args .first) (c .before .before .before .before .before .loop .index) (c .before .before .old-fault .result) (c .before .before .before .before .before .loop .rest .now) (c .before .before .before .front .result .now) (c .before .before .before .front .ensures) (c .before .before .old-fault .ensures) (c .before .before .before .before .loop-test .taken) (c .before .before .before .before .before .loop .inv .1) (c .tail .result .now) (c .before .if1 .left) (c .tail .ensures))
 
 returns-2 : tie.Need-returns-2 Inv-loop μ-loop
 returns-2 c = check-done 8 oldFault (newOf 0) counts-8 refl (checked (upward (c .before .before .before .args .old .now) 0 (c .before .before .before .args .first))) (c .before .before .before .args .first + c .before .loop .index) (c .before .loop .index) (c .before .loop .rest .now) (c .loop-test .left) (c .before .loop .inv .1)
@@ -55,7 +55,7 @@ check-up-spec =
     Inv-loop
     μ-loop
     loop-holds
-    head-requires
+    front-requires
     add-old-fault
     old-fault-requires
     stopped-requires

@@ -3,7 +3,8 @@ use mathlib.Core.Path.{_≡_, refl, sym, _∙_, ap}
 use native.Mathlib.Omega.{arith}
 use lib.ListN.{length, length-drop}
 use Rattle.effbd.specs.Editions.{oldFault, newOf, convertFrom, telegramCount, upward}
-use Rattle.editions.proofs.Faults.{old-whole, old-counted, made-new, new-of}
+use Rattle.edition_laws.specs.Runs.{old-whole, old-fine-are}
+use Rattle.editions.proofs.Faults.{made-new, new-of}
 use Rattle.editions.proofs.Turns.{counts-8, Underway, begun, next, same-length as same-length-kept, turn, ended}
 use Rattle.editions.proofs.Calls.{up-ready, up-area}
 use borrow.Author.Needs.{needs}
@@ -20,10 +21,10 @@ loop-holds : tie.Need-loop-holds Inv-loop μ-loop
 loop-holds c = let r = up-ready (c .before .before .args .old .now) (c .before .before .args .station) (c .before .before .args .first) (c .before .before .args .area .now) (c .before .before .pre) in begun 8 oldFault (newOf (c .before .before .args .station)) counts-8 refl 14 old-whole (made-new (c .before .before .args .station)) (upward (c .before .before .args .old .now) (c .before .before .args .station) (c .before .before .args .first)) (c .before .before .args .area .now) (c .before .before .args .first + 0) (c .before .before .args .old .now) (r .bytes) (r .is) (r .room) (unfold upward in ap (λ (n : ℕ). convertFrom 8 oldFault (newOf (c .before .before .args .station)) n 0 (telegramCount 8 (c .before .before .args .old .now)) (c .before .before .args .old .now)) (let z : c .before .before .args .first + 0 ≡ c .before .before .args .first = omega arith in z))
 
 add-number : tie.Need-add-number Inv-loop μ-loop
-add-number c = let n = next 8 oldFault (newOf (c .before .before .before .before .args .station)) counts-8 refl 14 old-whole (made-new (c .before .before .before .before .args .station)) (upward (c .before .before .before .before .args .old .now) (c .before .before .before .before .args .station) (c .before .before .before .before .args .first)) (c .before .before .before .before .args .area .now) (c .before .loop .area) (c .before .loop .rest .now) (c .before .before .before .before .args .first + c .before .loop .index) (c .before .loop .at) (c .before .loop .inv) (omega (arith, c .loop-test .taken)) in let k = old-counted _ _ (n .fine) in omega arith
+add-number c = let n = next 8 oldFault (newOf (c .before .before .before .before .args .station)) counts-8 refl 14 old-whole (made-new (c .before .before .before .before .args .station)) (upward (c .before .before .before .before .args .old .now) (c .before .before .before .before .args .station) (c .before .before .before .before .args .first)) (c .before .before .before .before .args .area .now) (c .before .loop .area) (c .before .loop .rest .now) (c .before .before .before .before .args .first + c .before .loop .index) (c .before .loop .at) (c .before .loop .inv) (omega (arith, c .loop-test .taken)) in let k = old-fine-are _ _ (n .fine) .1 in omega arith
 
 cast-number : tie.Need-cast-number Inv-loop μ-loop
-cast-number c = let n = next 8 oldFault (newOf (c .before .before .before .before .args .station)) counts-8 refl 14 old-whole (made-new (c .before .before .before .before .args .station)) (upward (c .before .before .before .before .args .old .now) (c .before .before .before .before .args .station) (c .before .before .before .before .args .first)) (c .before .before .before .before .args .area .now) (c .before .loop .area) (c .before .loop .rest .now) (c .before .before .before .before .args .first + c .before .loop .index) (c .before .loop .at) (c .before .loop .inv) (omega (arith, c .loop-test .taken)) in let k = old-counted _ _ (n .fine) in omega arith
+cast-number c = let n = next 8 oldFault (newOf (c .before .before .before .before .args .station)) counts-8 refl 14 old-whole (made-new (c .before .before .before .before .args .station)) (upward (c .before .before .before .before .args .old .now) (c .before .before .before .before .args .station) (c .before .before .before .before .args .first)) (c .before .before .before .before .args .area .now) (c .before .loop .area) (c .before .loop .rest .now) (c .before .before .before .before .args .first + c .before .loop .index) (c .before .loop .at) (c .before .loop .inv) (omega (arith, c .loop-test .taken)) in let k = old-fine-are _ _ (n .fine) .1 in omega arith
 
 word-requires : tie.Need-word-requires Inv-loop μ-loop
 word-requires c κs = search needs
@@ -47,7 +48,7 @@ tail-requires : tie.Need-tail-requires Inv-loop μ-loop
 tail-requires c κs = search needs
 
 add-index : tie.Need-add-index Inv-loop μ-loop
-add-index c = let n = next 8 oldFault (newOf (c .before .before .before .before .before .before .before .before .before .before .before .args .station)) counts-8 refl 14 old-whole (made-new (c .before .before .before .before .before .before .before .before .before .before .before .args .station)) (upward (c .before .before .before .before .before .before .before .before .before .before .before .args .old .now) (c .before .before .before .before .before .before .before .before .before .before .before .args .station) (c .before .before .before .before .before .before .before .before .before .before .before .args .first)) (c .before .before .before .before .before .before .before .before .before .before .before .args .area .now) (c .before .before .before .before .before .before .before .before .loop .area) (c .before .before .before .before .before .before .before .before .loop .rest .now) (c .before .before .before .before .before .before .before .before .before .before .before .args .first + c .before .before .before .before .before .before .before .before .loop .index) (c .before .before .before .before .before .before .before .before .loop .at) (c .before .before .before .before .before .before .before .before .loop .inv) (omega (arith, c .before .before .before .before .before .before .before .loop-test .taken)) in let k = old-counted _ _ (n .fine) in omega arith
+add-index c = let n = next 8 oldFault (newOf (c .before .before .before .before .before .before .before .before .before .before .before .args .station)) counts-8 refl 14 old-whole (made-new (c .before .before .before .before .before .before .before .before .before .before .before .args .station)) (upward (c .before .before .before .before .before .before .before .before .before .before .before .args .old .now) (c .before .before .before .before .before .before .before .before .before .before .before .args .station) (c .before .before .before .before .before .before .before .before .before .before .before .args .first)) (c .before .before .before .before .before .before .before .before .before .before .before .args .area .now) (c .before .before .before .before .before .before .before .before .loop .area) (c .before .before .before .before .before .before .before .before .loop .rest .now) (c .before .before .before .before .before .before .before .before .before .before .before .args .first + c .before .before .before .before .before .before .before .before .loop .index) (c .before .before .before .before .before .before .before .before .loop .at) (c .before .before .before .before .before .before .before .before .loop .inv) (omega (arith, c .before .before .before .before .before .before .before .loop-test .taken)) in let k = old-fine-are _ _ (n .fine) .1 in omega arith
 
 add-at : tie.Need-add-at Inv-loop μ-loop
 add-at c = let n = next 8 oldFault (newOf (c .before .before .before .before .before .before .before .before .before .before .before .args .station)) counts-8 refl 14 old-whole (made-new (c .before .before .before .before .before .before .before .before .before .before .before .args .station)) (upward (c .before .before .before .before .before .before .before .before .before .before .before .args .old .now) (c .before .before .before .before .before .before .before .before .before .before .before .args .station) (c .before .before .before .before .before .before .before .before .before .before .before .args .first)) (c .before .before .before .before .before .before .before .before .before .before .before .args .area .now) (c .before .before .before .before .before .before .before .before .loop .area) (c .before .before .before .before .before .before .before .before .loop .rest .now) (c .before .before .before .before .before .before .before .before .before .before .before .args .first + c .before .before .before .before .before .before .before .before .loop .index) (c .before .before .before .before .before .before .before .before .loop .at) (c .before .before .before .before .before .before .before .before .loop .inv) (omega (arith, c .before .before .before .before .before .before .before .loop-test .taken)) in let k = n .fits in let q = same-length-kept 8 oldFault (newOf (c .before .before .before .before .before .before .before .before .before .before .before .args .station)) counts-8 refl 14 old-whole (made-new (c .before .before .before .before .before .before .before .before .before .before .before .args .station)) (upward (c .before .before .before .before .before .before .before .before .before .before .before .args .old .now) (c .before .before .before .before .before .before .before .before .before .before .before .args .station) (c .before .before .before .before .before .before .before .before .before .before .before .args .first)) (c .before .before .before .before .before .before .before .before .before .before .before .args .area .now) (c .before .before .before .before .before .before .before .before .loop .area) (c .before .before .before .before .before .before .before .before .loop .rest .now) (c .before .before .before .before .before .before .before .before .before .before .before .args .first + c .before .before .before .before .before .before .before .before .loop .index) (c .before .before .before .before .before .before .before .before .loop .at) (c .before .before .before .before .before .before .before .before .loop .inv) in search needs

@@ -4,8 +4,8 @@ use native.Mathlib.Omega.{arith}
 use lib.ListN.{length, take}
 use lib.Seq.{take-all}
 use borrow.Author.Needs.{needs}
-use Rattle.editions.proofs.head.Statement.{statement}
-use Rattle.editions.proofs.head.Tie as tie
+use Rattle.editions.proofs.front.Statement.{statement}
+use Rattle.editions.proofs.front.Tie as tie
 
 sub-result : tie.Need-sub-result
 sub-result c = search needs
@@ -31,8 +31,8 @@ part-result-end-2 c = search needs
 returns-2 : tie.Need-returns-2
 returns-2 c = take-all (length (c .before .before .args .run .now) - 0) (c .before .before .args .run .now) (omega arith) ∙ sym (take-all (c .before .before .args .size) (c .before .before .args .run .now) (omega (arith, c .before .if1 .left)))
 
-pub head-spec : {M : Type 1} → statement M
-head-spec =
+pub front-spec : {M : Type 1} → statement M
+front-spec =
     tie.close
     (tie.spec
     sub-result
