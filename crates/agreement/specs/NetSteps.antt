@@ -34,7 +34,7 @@ module _ {X : Type 0} (N : ℕ) (f h : X → Effect) (ns : List X) (all : AllOf 
   abbrev G : Behaviour
   G = record { places = N; effects = map h ns }
 
-  enabled-alike : (t u : Effect) (m : List ℕ) → Alike N t u → covers g t m ≡ covers G u m
+  pub enabled-alike : (t u : Effect) (m : List ℕ) → Alike N t u → covers g t m ≡ covers G u m
   unfolding covers
   enabled-alike t u m a = all-ext N _ _ (λ p l. ap (λ x. leb x (getD m p 0)) (a .take p l))
 
@@ -152,7 +152,7 @@ module _ (d : Diagram) where
       or-off true = refl
       or-off false = refl
 
-  all-alike : (ns : List (Name d)) → AllOf (λ x. Alike (places d) (effectOf (transitionOf d x)) (lift d x)) ns
+  pub all-alike : (ns : List (Name d)) → AllOf (λ x. Alike (places d) (effectOf (transitionOf d x)) (lift d x)) ns
   all-alike [] = tt
   all-alike (x ∷ ns) = (transition-alike x, all-alike ns)
 
@@ -164,7 +164,7 @@ module _ (d : Diagram) where
   unfolding netOf
   effects-are = map-map effectOf (transitionOf d) (names d (rowCount d))
 
-  net-is : behaviourOf (netOf d) ≡ record { places = places d; effects = map (λ x. effectOf (transitionOf d x)) (names d (rowCount d)) }
+  pub net-is : behaviourOf (netOf d) ≡ record { places = places d; effects = map (λ x. effectOf (transitionOf d x)) (names d (rowCount d)) }
   net-is = λ j. record { places = many-marks j; effects = effects-are j }
 
   -- THEOREM: stepping the net of a diagram, as its file has it, is stepping the net by its patterns

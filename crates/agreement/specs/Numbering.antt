@@ -77,13 +77,13 @@ module _ (d : Diagram) where
   unfoldable pub none : Name d
   none = record { label = 0; index = 0 }
 
-  marksOf : (Place → ℕ) → List ℕ
+  unfoldable pub marksOf : (Place → ℕ) → List ℕ
   marksOf m = tabulate (3 * rowCount d + countTotal d) (λ p. m (placeOf d p))
 
-  tr : Name d → Pattern
+  unfoldable pub tr : Name d → Pattern
   tr x = getD (patterns d (x .label)) (x .index) noPattern
 
-  enabled-flat : (x : Name d) (m : Place → ℕ) → covers (behaviour d) (lift d x) (marksOf m) ≡ enabled d (tr x) m
+  pub enabled-flat : (x : Name d) (m : Place → ℕ) → covers (behaviour d) (lift d x) (marksOf m) ≡ enabled d (tr x) m
   unfolding covers lift marksOf tr
   enabled-flat x m = all-ext (3 * rowCount d + countTotal d) (λ p. leb (tr x .take (placeOf d p)) (getD (marksOf m) p 0)) (λ p. leb (tr x .take (placeOf d p)) (m (placeOf d p)))
       (λ p l. ap (leb (tr x .take (placeOf d p))) (getD-tab (3 * rowCount d + countTotal d) (λ y. m (placeOf d y)) p 0 l))
@@ -184,7 +184,7 @@ module _ (d : Diagram) where
   ans (accepted n) = accepted (flatNet d n)
   ans (refused a b) = refused a b
 
-  nm : ℕ → ℕ → Name d
+  unfoldable pub nm : ℕ → ℕ → Name d
   nm q i = record { label = q; index = i }
 
   module _ (r : ℕ) (n : NamedState) where
@@ -219,7 +219,7 @@ module _ (d : Diagram) where
         ∙ (other-row m (length (patterns d m)) 0 (length (names d m)) rest (omega arith) ∙ ap (go rest) (sym (length-names-suc m))))
 
     -- the number of a name
-    name-of : (m i : ℕ) → r < m → i < length (patterns d r) → (length (names d r) + i < length (names d m)) × (getD (names d m) (length (names d r) + i) none ≡ nm r i)
+    pub name-of : (m i : ℕ) → r < m → i < length (patterns d r) → (length (names d r) + i < length (names d m)) × (getD (names d m) (length (names d r) + i) none ≡ nm r i)
     unfolding names nm
     name-of zero i l h = absurd (omega arith)
     name-of (suc m) i l h = decide (eqb r m)

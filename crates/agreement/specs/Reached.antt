@@ -2,14 +2,14 @@
 use Prim.Native.Nat.{ℕ, _+_}
 use mathlib.Core.Path.{_≡_, refl, sym, _∙_, ap, ap₂, subst}
 use mathlib.Core.Bool.{true}
-use mathlib.Core.List.{List, [], _∷_, _++_, map}
+use mathlib.Core.List.{List, [], _∷_, map}
 use lib.ListN.{length, length-append, length-map}
 use lib.Seq.{take-at, drop-at}
 use lib.Dec.{eqb}
 use borrow.Author.Tests.{eq-eqb}
 use Rattle.effbd.specs.Answers.{Outcome, accepted, afterwards, isAccepted, refused}
 use Rattle.effbd.specs.Diagrams.{Diagram, rowCount}
-use Rattle.effbd.specs.Firing.{NetState, behaviourOf, checkedNetMove, freshNetWords, netMove, netStateOf, netWords, netWordsOutcome, stepNet}
+use Rattle.effbd.specs.Firing.{NetState, behaviourOf, checkedNetMove, freshNetWords, netMove, netStateOf, netWordCount, netWords, netWordsOutcome, stepNet}
 use Rattle.effbd.specs.Image.{image, imageWords}
 use Rattle.effbd.specs.Layout.{places}
 use Rattle.effbd.specs.Moves.{Move, checkedMove, moveOf, moveWords, stepDiagram, wordsOutcome, no-move, step-row, wait-ticks}
@@ -53,28 +53,25 @@ module _ (d : Diagram) (h : Held d) where
   unfolding image flatNet
   image-clocks l = length-map (names d (rowCount d)) _
 
-  many-trans : length (netOf d .transitions) ≡ length (names d (rowCount d))
+  pub many-trans : length (netOf d .transitions) ≡ length (names d (rowCount d))
   unfolding netOf
   many-trans = length-map (names d (rowCount d)) (transitionOf d)
 
-  table-at : (m : Move) (l : List ℕ) → checkedNetMove (netOf d) m (imageWords d l) ≡ netWordsOutcome (netMove (behaviourOf (netOf d)) m (image d l))
-  unfolding checkedNetMove imageWords
-  table-at m l = rw (eq-eqb (length (ms ++ cs)) (length (netOf d .marks) + length (netOf d .transitions)) sizes) (ap (λ s. netWordsOutcome (netMove (behaviourOf (netOf d)) m s)) back)
-    where
-      ms : List ℕ
-      ms = image d l .marks
+  -- the words of an image are a state of the net, and read back to it
+  pub image-long : (l : List ℕ) → length (imageWords d l) ≡ netWordCount (netOf d)
+  unfolding imageWords
+  image-long l = length-append (image d l .marks) (image d l .clocks) ∙ ap₂ (λ (x y : ℕ). x + y) (image-marks l ∙ sym (many-marks d)) (image-clocks l ∙ sym many-trans)
 
-      cs : List ℕ
-      cs = image d l .clocks
+  pub image-back : (l : List ℕ) → netStateOf (length (netOf d .marks)) (imageWords d l) ≡ image d l
+  unfolding imageWords
+  image-back l = λ j. record {
+    marks = take-at (image d l .marks) (image d l .clocks) (length (netOf d .marks)) (image-marks l ∙ sym (many-marks d)) j;
+    clocks = drop-at (image d l .marks) (image d l .clocks) (length (netOf d .marks)) (image-marks l ∙ sym (many-marks d)) j;
+  }
 
-      sizes : length (ms ++ cs) ≡ length (netOf d .marks) + length (netOf d .transitions)
-      sizes = length-append ms cs ∙ ap₂ (λ (x y : ℕ). x + y) (image-marks l ∙ sym (many-marks d)) (image-clocks l ∙ sym many-trans)
-
-      back : netStateOf (length (netOf d .marks)) (ms ++ cs) ≡ image d l
-      back = λ j. record {
-        marks = take-at ms cs (length (netOf d .marks)) (image-marks l ∙ sym (many-marks d)) j;
-        clocks = drop-at ms cs (length (netOf d .marks)) (image-marks l ∙ sym (many-marks d)) j;
-      }
+  pub table-at : (m : Move) (l : List ℕ) → checkedNetMove (netOf d) m (imageWords d l) ≡ netWordsOutcome (netMove (behaviourOf (netOf d)) m (image d l))
+  unfolding checkedNetMove
+  table-at m l = rw (eq-eqb (length (imageWords d l)) (netWordCount (netOf d)) (image-long l)) (ap (λ s. netWordsOutcome (netMove (behaviourOf (netOf d)) m s)) (image-back l))
 
   diagram-at : (m : Move) (l : List ℕ) → Good l → checkedMove d m l ≡ moveWords d m l
   unfolding checkedMove Kept

@@ -1,3 +1,4 @@
+pub mod FiredCalls
 pub mod LineLengths
 pub mod ListReading
 pub mod WrittenCalls

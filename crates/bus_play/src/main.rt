@@ -1,6 +1,7 @@
-// Plays a list of calls on a diagram and its net, call by call, and prints what each call was answered and both ends after it; at the end
-// which telegrams were lost. The first argument names the diagram's file, the second the list's: records as crate calls has them.
+// Plays a list of calls on a diagram and its net, call by call, and prints what each call was answered, which transition of the annex its step
+// fires, and both ends after it; at the end which telegrams were lost. The first argument names the diagram's file, the second the list's: records as crate calls has them.
 
+mod fired;
 mod lines;
 
 ghost use Prim.Native.Nat.{_≤_};
@@ -11,7 +12,7 @@ ghost use Rattle.ends.specs.ReadyEnds.{leaderRoom, followerRoom};
 ghost use Rattle.calls.specs.CallList.{callOf};
 ghost use Rattle.calls.specs.LiveEnds.{liveAnswer, liveAfter, Called};
 ghost use Rattle.text.specs.Laid.{Laid};
-ghost use Rattle.call_lines.specs.Lines.{lineText};
+ghost use Rattle.call_lines.specs.Lines.{callFires, lineText};
 use calls::CallResult;
 use calls::Counts;
 use effbd::Answer;
@@ -46,12 +47,13 @@ fn play_call(
 ) -> Shown
     requires { ⌜ length (now call) ≤ mostWord ⌝ }
     ensures { λ r. ⌜ Called (now (file .entry)) (now (net .entry)) station (record { leader = now (leader .entry); sent = counts .sent; follower = now (follower .entry); taken = counts .taken }) (now (call .entry)) (now (leader .exit)) (now (follower .exit)) (now (call .exit)) (said (r .result .answer)) (r .result .counts .sent) (r .result .counts .taken) ⌝ }
-    ensures { λ r. ⌜ Laid (now (text .entry)) 0 (now (text .exit)) (r .size) (lineText (callOf (now (call .entry))) (liveAnswer (now (file .entry)) (now (net .entry)) station (record { leader = now (leader .entry); sent = counts .sent; follower = now (follower .entry); taken = counts .taken }) (callOf (now (call .entry)))) (liveAfter (now (file .entry)) (now (net .entry)) station (record { leader = now (leader .entry); sent = counts .sent; follower = now (follower .entry); taken = counts .taken }) (callOf (now (call .entry))))) ⌝ }
+    ensures { λ r. ⌜ Laid (now (text .entry)) 0 (now (text .exit)) (r .size) (lineText (callOf (now (call .entry))) (liveAnswer (now (file .entry)) (now (net .entry)) station (record { leader = now (leader .entry); sent = counts .sent; follower = now (follower .entry); taken = counts .taken }) (callOf (now (call .entry)))) (callFires (now (file .entry)) (now (net .entry)) (now (leader .entry)) (now (follower .entry)) (callOf (now (call .entry)))) (liveAfter (now (file .entry)) (now (net .entry)) station (record { leader = now (leader .entry); sent = counts .sent; follower = now (follower .entry); taken = counts .taken }) (callOf (now (call .entry))))) ⌝ }
 {
     let behind_call = lines::put_call(text, 0, call);
+    let fires = fired::by_call(file, net, leader, follower, call);
     let result = calls::make_call(file, net, leader, follower, station, counts, call);
     let answer = result.answer;
-    let behind_answer = call_lines::put_answer_column(text, behind_call, answer);
+    let behind_answer = call_lines::put_answer_column(text, behind_call, answer, fires);
     let after = result.counts;
     let size = call_lines::put_ends_column(text, behind_answer, after, leader, follower);
     Shown {

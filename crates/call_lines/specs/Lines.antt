@@ -5,7 +5,8 @@ use mathlib.Core.List.{List, [], _∷_, _++_}
 use lib.ListN.{length}
 use lib.Dec.{ltb, eqb}
 use Rattle.effbd.specs.Answers.{Outcome, accepted, refused}
-use Rattle.effbd.specs.BusEnds.{isTelegram, numberAt, stationAt}
+use Rattle.effbd.specs.BusEnds.{isTelegram, numberAt, stationAt, codeAt, argumentAt}
+use Rattle.effbd.specs.Transitions.{transitionDiagram, transitionNet}
 use Rattle.effbd.specs.History.{Call, offer, hand}
 use Rattle.effbd.specs.Annex.{number}
 use Rattle.text.specs.Letters.{letters}
@@ -46,6 +47,27 @@ abbrev pub answerText : Outcome ℕ → List ℕ
 answerText (accepted count) = letters "accepted: count" ++ number count
 answerText (refused n value) = ((letters "refused" ++ number n) ++ number value) ++ reason n
 
+-- which transition of the annex the step in a call fires, asked before it is made: of an offer the leader's state knows a FUNCTION's, of a telegram the
+-- follower's state knows every row's; 21 where there is no step
+abbrev pub offerFires : (file leader : List ℕ) (code argument : ℕ) → Outcome ℕ
+offerFires file leader code argument = cond (eqb code 1) (transitionDiagram file argument leader) (refused 21 0)
+
+abbrev pub handFires : (net follower bytes : List ℕ) → Outcome ℕ
+handFires net follower bytes = cond (eqb (codeAt bytes) 1) (transitionNet net (argumentAt bytes) follower) (refused 21 0)
+
+abbrev pub callFires : (file net leader follower : List ℕ) → Call → Outcome ℕ
+callFires file net leader follower (offer code argument area) = offerFires file leader code argument
+callFires file net leader follower (hand bytes) = handFires net follower bytes
+
+-- it is said of an accepted call
+abbrev pub transitionText : (fired : Outcome ℕ) → List ℕ
+transitionText (accepted t) = letters ", fires t" ++ number t
+transitionText (refused n value) = []
+
+abbrev pub firedText : (answer fired : Outcome ℕ) → List ℕ
+firedText (accepted count) fired = transitionText fired
+firedText (refused n value) fired = []
+
 -- the words of a state, each after a space
 unfoldable pub wordsText : List ℕ → List ℕ
 wordsText [] = []
@@ -66,9 +88,9 @@ gap at column = cond (ltb at column) (column - at) 1
 abbrev pub upTo : (column : ℕ) → List ℕ → List ℕ
 upTo column text = text ++ spaces (gap (length text) column)
 
--- a call, its answer and both ends after it, in columns
-unfoldable pub lineText : Call → Outcome ℕ → Live → List ℕ
-lineText call answer v = (upTo 70 (upTo 34 (callText call) ++ answerText answer) ++ endsText v) ++ (10 ∷ [])
+-- a call, its answer with what it fires, and both ends after it, in columns
+unfoldable pub lineText : Call → (answer fired : Outcome ℕ) → Live → List ℕ
+lineText call answer fired v = (upTo 70 (upTo 34 (callText call) ++ (answerText answer ++ firedText answer fired)) ++ endsText v) ++ (10 ∷ [])
 
 -- what is played
 unfoldable pub headText : (bytes station leader follower : ℕ) → List ℕ

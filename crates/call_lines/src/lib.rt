@@ -3,7 +3,7 @@ ghost use mathlib.Core.Path.{_≡_};
 ghost use mathlib.Core.List.{[], _∷_, _++_};
 ghost use Rattle.effbd.specs.Answers.{refused, said};
 ghost use Rattle.text.specs.Laid.{Laid};
-ghost use Rattle.call_lines.specs.Lines.{moveText, reason as reasonText, answerText, wordsText, endsText, spaces, gap, headText, closingText};
+ghost use Rattle.call_lines.specs.Lines.{moveText, reason as reasonText, answerText, transitionText, firedText, wordsText, endsText, spaces, gap, headText, closingText};
 use calls::Counts;
 use effbd::Answer;
 use effbd::moves;
@@ -92,12 +92,33 @@ fn put_spaces(text: &mut [u8], at: usize, count: usize) -> usize
     next
 }
 
-// The answer in its column.
-pub fn put_answer_column(text: &mut [u8], at: usize, answer: Answer) -> usize
-    ensures { λ r. ⌜ Laid (now (text .entry)) at (now (text .exit)) r (spaces (gap at 34) ++ answerText (said answer)) ⌝ }
+// The transition of the annex that a step fires, if it fires one.
+fn put_transition(text: &mut [u8], at: usize, fired: Answer) -> usize
+    ensures { λ r. ⌜ Laid (now (text .entry)) at (now (text .exit)) r (transitionText (said fired)) ⌝ }
+{
+    match fired {
+        Answer::Accepted(number) => text::put_named(text, at, b", fires t", number),
+        Answer::Refused(_, _) => at,
+    }
+}
+
+// The same behind the answer of a call; a refused one fires nothing.
+fn put_fired(text: &mut [u8], at: usize, answer: Answer, fired: Answer) -> usize
+    ensures { λ r. ⌜ Laid (now (text .entry)) at (now (text .exit)) r (firedText (said answer) (said fired)) ⌝ }
+{
+    match answer {
+        Answer::Accepted(_) => put_transition(text, at, fired),
+        Answer::Refused(_, _) => at,
+    }
+}
+
+// The answer in its column, and what the call fires.
+pub fn put_answer_column(text: &mut [u8], at: usize, answer: Answer, fired: Answer) -> usize
+    ensures { λ r. ⌜ Laid (now (text .entry)) at (now (text .exit)) r (spaces (gap at 34) ++ (answerText (said answer) ++ firedText (said answer) (said fired))) ⌝ }
 {
     let column = put_spaces(text, at, gap_to(at, ANSWER_COLUMN));
-    put_answer(text, column, answer)
+    let behind_answer = put_answer(text, column, answer);
+    put_fired(text, behind_answer, answer, fired)
 }
 
 // The words of a state.

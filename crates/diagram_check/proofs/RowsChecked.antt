@@ -9,7 +9,7 @@ use lib.ListN.{length}
 use borrow.Author.Tests.{le-leb, eqb-true}
 use Rattle.effbd.specs.Ranges.{allBelow}
 use Rattle.ranges.specs.Tests.{and-left, and-right, and-intro}
-use Rattle.diagram_table.specs.Cells.{kindIn, firstIn, countsIn}
+use Rattle.diagram_table.specs.Cells.{kindIn, firstIn}
 use Rattle.diagram_moves.specs.Decisions.{activityAllowed, turnsAllowed, clockAllowed, rowAllowed, sharedAllowed, stateAllowed}
 
 -- a row at rest passes, whatever its kind
@@ -34,14 +34,11 @@ and-off false y z e = refl
 and-on : (x y z : Bool) → (x && y) ≡ true → (x && (y && z)) ≡ z
 and-on x y z e = rw (and-left x y e, and-right x y e)
 
-module _ (table : List ℕ) (rows items : ℕ) (l : List ℕ) {c : ℕ} {b : Bool} (counts : c ≡ countsIn table items) (told : b ≡ (eqb (length l) (3 * rows + c) && allBelow rows (rowAllowed table l))) where
-  told-so : (eqb (length l) (3 * rows + countsIn table items) && allBelow rows (rowAllowed table l)) ≡ b
-  told-so = rw (sym counts) (sym told)
-
-  pub rows-off : b ≡ false → false ≡ stateAllowed table rows items l
+module _ (table : List ℕ) (rows items counts : ℕ) (l : List ℕ) {b : Bool} (told : b ≡ (eqb (length l) (3 * rows + counts) && allBelow rows (rowAllowed table l))) where
+  pub rows-off : b ≡ false → false ≡ stateAllowed table rows items counts l
   unfolding stateAllowed
-  rows-off e = sym (and-off (eqb (length l) (3 * rows + countsIn table items)) (allBelow rows (rowAllowed table l)) (sharedAllowed table rows items l) (told-so ∙ e))
+  rows-off e = sym (and-off (eqb (length l) (3 * rows + counts)) (allBelow rows (rowAllowed table l)) (sharedAllowed table rows items l) (sym told ∙ e))
 
-  pub rows-pass : b ≡ true → stateAllowed table rows items l ≡ sharedAllowed table rows items l
+  pub rows-pass : b ≡ true → stateAllowed table rows items counts l ≡ sharedAllowed table rows items l
   unfolding stateAllowed
-  rows-pass e = and-on (eqb (length l) (3 * rows + countsIn table items)) (allBelow rows (rowAllowed table l)) (sharedAllowed table rows items l) (told-so ∙ e)
+  rows-pass e = and-on (eqb (length l) (3 * rows + counts)) (allBelow rows (rowAllowed table l)) (sharedAllowed table rows items l) (sym told ∙ e)

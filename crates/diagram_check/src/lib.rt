@@ -123,12 +123,12 @@ fn shared_allowed(table: &[u16], rows: u32, items: u32, state: &[u16]) -> bool
     true
 }
 
-// The check of a state on any table: its rows with the counts that the table has, then the shared counts of its triggers.
-pub fn state_allowed(table: &[u16], rows: u32, items: u16, state: &[u16]) -> bool
-    ensures { λ r. ⌜ r ≡ stateAllowed (now (table .entry)) rows items (now (state .entry)) ⌝ }
+// The check of a state that has so many counts: its rows, then the shared counts of its triggers.
+pub fn state_allowed(table: &[u16], rows: u32, items: u32, counts: u32, state: &[u16]) -> bool
+    ensures { λ r. ⌜ r ≡ stateAllowed (now (table .entry)) rows items counts (now (state .entry)) ⌝ }
 {
-    if !rows_allowed(table, rows, table_counts::count_total(table, items), state) {
+    if !rows_allowed(table, rows, counts, state) {
         return false;
     }
-    shared_allowed(table, rows, items as u32, state)
+    shared_allowed(table, rows, items, state)
 }

@@ -8,7 +8,7 @@ use Rattle.words.specs.Stores.{copied}
 use Rattle.effbd.specs.Answers.{Outcome, accepted, refused}
 use Rattle.effbd.specs.Diagrams.{Use}
 use Rattle.effbd.specs.States.{activityAt, turnsAt, clockAt}
-use Rattle.diagram_table.specs.Cells.{kindIn, firstIn, ownerIn, branchIn, closeIn, loopIn, runFirst, runLength, usesIn, killsIn, enteredIn}
+use Rattle.diagram_table.specs.Cells.{kindIn, firstIn, ownerIn, branchIn, closeIn, loopIn, countsIn, runFirst, runLength, usesIn, killsIn, enteredIn}
 use Rattle.words.specs.Sums.{added}
 use Rattle.diagram_moves.specs.Decisions.{countPlace, amountOf, changed, stateAllowed, moveVerdict}
 
@@ -119,7 +119,7 @@ module _ (table : List ℕ) (rows items : ℕ) (file words : List ℕ) (code arg
 
   -- the check of the state, then the move
   unfoldable pub checkedTableMove : Outcome (List ℕ)
-  checkedTableMove = cond (stateAllowed table rows items words) tableMove (refused 20 0)
+  checkedTableMove = cond (stateAllowed table rows items (countsIn table items) words) tableMove (refused 20 0)
 
 -- the first `size` words of `source` in the place of `words`: 20 where their number is another
 unfoldable pub freshPlaced : (size : ℕ) (source words : List ℕ) → Outcome (List ℕ)

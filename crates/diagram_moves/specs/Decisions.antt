@@ -10,7 +10,7 @@ use Rattle.effbd.specs.Diagrams.{Use}
 use Rattle.effbd.specs.States.{activityAt, turnsAt, clockAt}
 use Rattle.effbd.specs.Moves.{mostWord}
 use Rattle.words.specs.Sums.{added}
-use Rattle.diagram_table.specs.Cells.{kindIn, firstIn, secondIn, ownerIn, branchIn, closeIn, triggerIn, someTriggerIn, countsIn, runFirst, runLength, usesIn}
+use Rattle.diagram_table.specs.Cells.{kindIn, firstIn, secondIn, ownerIn, branchIn, closeIn, triggerIn, someTriggerIn, runFirst, runLength, usesIn}
 
 -- where count k stands in a state of so many rows
 abbrev pub countPlace : ℕ → ℕ → ℕ
@@ -75,8 +75,9 @@ module _ (table : List ℕ) where
   unfoldable pub sharedAllowed : (rows items : ℕ) → List ℕ → Bool
   sharedAllowed rows items words = cond (eqb (someTriggerIn table) 0) true (allBelow items (countAllowed rows words))
 
-  unfoldable pub stateAllowed : (rows items : ℕ) → List ℕ → Bool
-  stateAllowed rows items words = eqb (length words) (3 * rows + countsIn table items) && (allBelow rows (rowAllowed words) && sharedAllowed rows items words)
+  -- 20 of a state that has so many counts
+  unfoldable pub stateAllowed : (rows items counts : ℕ) → List ℕ → Bool
+  stateAllowed rows items counts words = eqb (length words) (3 * rows + counts) && (allBelow rows (rowAllowed words) && sharedAllowed rows items words)
 
   -- the BRANCH row b of an AND and those before it are done: each has the one before it for the branch that it ends, the first itself; n turns, which
   -- are enough where b is below n

@@ -2,7 +2,7 @@
 use Prim.Native.Nat.{ℕ, _+_, _*_, _≤_}
 use mathlib.Core.Path.{_≡_, refl, _∙_, ap}
 use mathlib.Core.Logic.{_≢_}
-use mathlib.Core.Bool.{true}
+use mathlib.Core.Bool.{true, _&&_}
 use mathlib.Core.List.{List, append-nil}
 use native.Mathlib.Omega.{arith}
 use lib.ListN.{length, drop-of-length-le}
@@ -12,18 +12,21 @@ use Rattle.effbd.specs.Answers.{Outcome, accepted, refused, andThen, refusalNum
 use Rattle.effbd.specs.Records.{areBytes}
 use Rattle.effbd.specs.Diagrams.{Diagram}
 use Rattle.effbd.specs.Nesting.{readDiagram}
+use Rattle.effbd.specs.Counts.{countTotal}
 use Rattle.effbd.specs.Layout.{places}
 use Rattle.effbd.specs.States.{stateWords, stateOf, freshWords, statePasses}
 use Rattle.effbd.specs.Moves.{stepDiagram, freshDiagram}
 use Rattle.effbd.specs.Logs.{made}
-use Rattle.diagram_table.specs.Held.{HoldsPlant, FreshOf}
+use Rattle.effbd.specs.Transitions.{transitionDiagram}
+use Rattle.diagram_table.specs.Held.{HoldsFile, HoldsPlant, FreshOf}
 use Rattle.ranges.specs.Tests.{decide}
 use Rattle.ranges.specs.RangeLaws.{length-tab}
 use Rattle.agreement.specs.AcceptedFiles.{held}
 use Rattle.diagram_table.specs.Cells.{countsIn}
 use Rattle.diagram_moves.specs.Changes.{tableMove, checkedTableMove, freshPlaced}
 use Rattle.diagram_moves.specs.FunctionMoves.{Small}
-use Rattle.diagram_moves.specs.MovesAre.{made-is, move-is}
+use Rattle.diagram_moves.specs.MovesAre.{allowed-is, made-is, move-is}
+use Rattle.diagram_moves.specs.Decisions.{stateAllowed}
 
 -- a refused file turns every call away with its own number and value
 refusing : {A : Type 0} (o : Outcome Diagram) (f : Diagram → Outcome A) → refusalNumber o ≢ 0 → andThen o f ≡ refused (refusalNumber o) (refusalValue o)
@@ -38,6 +41,15 @@ module _ (file l : List ℕ) where
   pub fresh-refused : refusalNumber (readDiagram file) ≢ 0 → freshDiagram file l ≡ refused (refusalNumber (readDiagram file)) (refusalValue (readDiagram file))
   unfolding freshDiagram
   fresh-refused n = refusing (readDiagram file) _ n
+
+  pub transition-refused : (r : ℕ) → refusalNumber (readDiagram file) ≢ 0 → transitionDiagram file r l ≡ refused (refusalNumber (readDiagram file)) (refusalValue (readDiagram file))
+  unfolding transitionDiagram
+  transition-refused r n = refusing (readDiagram file) _ n
+
+  -- THEOREM: of the table that an accepted file gives, the check of a state is document 01's
+  pub check-is : (rows items counts : ℕ) (table : List ℕ) (h : HoldsFile file rows items table) → counts ≡ countTotal (h .diagram)
+      → stateAllowed table rows items counts l ≡ (eqb (length l) (places (h .diagram)) && statePasses (h .diagram) (stateOf (h .diagram) l))
+  check-is rows items counts table h c = allowed-is (h .diagram) rows items table l (h .holds) counts c
 
   module _ (rows items : ℕ) (table : List ℕ) (h : HoldsPlant file rows items table) (b : areBytes file ≡ true) (small : Small l) (code argument : ℕ) where
     d : Diagram

@@ -9,7 +9,7 @@ use lib.ListN.{length, set, List·getD-eq-default}
 use lib.Dec.{leb, ltb, eqb}
 use borrow.Author.Tests.{ltb-true, ltb-false, eqb-true, eq-eqb, not-true}
 use Rattle.effbd.specs.Ranges.{allBelow, only, within}
-use Rattle.effbd.specs.Answers.{Outcome, accepted, refused}
+use Rattle.effbd.specs.Answers.{accepted, refused}
 use Rattle.effbd.specs.Diagrams.{Diagram, Kind, Row, function, and-open, branch, and-close, or-open, or-close, it-open, it-close, lp-open, lp-close, loop-exit, end, plain, numberOf, sameKind, row, rowCount, itemTotal, isTrigger, kind, isKind}
 use Rattle.effbd.specs.Counts.{Tally, copy, countTotal, itemOf, shared, tally}
 use Rattle.effbd.specs.Nesting.{owner, close, branchOf, loop, isClose}
@@ -27,7 +27,7 @@ use Rattle.agreement.specs.TokenSteps.{branch-kind, branch-owner}
 use Rattle.agreement.specs.AcceptedFiles.{Held}
 use Rattle.agreement.specs.Sources.{item-in, item-shared, known, numbers}
 use Rattle.agreement.specs.Sources.{numberOf as tallyNumber}
-use Rattle.diagram_table.specs.Cells.{kindIn, ownerIn, branchIn, closeIn, someTriggerIn}
+use Rattle.diagram_table.specs.Cells.{countsIn, kindIn, ownerIn, branchIn, closeIn, someTriggerIn}
 use Rattle.words.specs.Sums.{added}
 use Rattle.words.proofs.PlainSums.{whole-sum}
 use Rattle.diagram_moves.specs.Decisions.{activityAllowed, turnsAllowed, clockAllowed, rowAllowed, countAllowed, sharedAllowed, stateAllowed, andDone, readyVerdict, branchVerdict, closeVerdict, rowVerdict, functionHolds, rowHolds, rowFree, waitVerdict, moveVerdict}
@@ -109,8 +109,7 @@ activity-shape d lp-close ofAnd a = refl
 activity-shape d loop-exit ofAnd a = refl
 activity-shape d end ofAnd a = refl
 
-module _ (d : Diagram) (H : Held d) (table : List ℕ) (h : Holds d (rowCount d) (itemTotal d) table) (own : HoldsCopies d table) (ranks : HoldsRanks d table)
-    (file : List ℕ) (u : HoldsUses file d table) (l : List ℕ) (s : State) (e : Reads d l s) where
+module _ (d : Diagram) (table : List ℕ) (h : Holds d (rowCount d) (itemTotal d) table) (l : List ℕ) (s : State) (e : Reads d l s) where
   row-allowed : (q : ℕ) → q < rowCount d → rowAllowed table l q ≡ rowPasses d s q
   unfolding rowAllowed activityAllowed turnsAllowed clockAllowed
   row-allowed q b = rw (
@@ -154,6 +153,8 @@ module _ (d : Diagram) (H : Held d) (table : List ℕ) (h : Holds d (rowCount d)
   unfolding counts
   passes-is = rw (all-ext (rowCount d) (rowAllowed table l) (rowPasses d s) row-allowed, counts-allowed)
 
+module _ (d : Diagram) (H : Held d) (table : List ℕ) (h : Holds d (rowCount d) (itemTotal d) table) (own : HoldsCopies d table) (ranks : HoldsRanks d table)
+    (file : List ℕ) (u : HoldsUses file d table) (l : List ℕ) (s : State) (e : Reads d l s) where
   -- an AND close is the close of its owner
   closing : (r : ℕ) → kind d r ≡ and-close → isClose d r ≡ true
   closing r k = rw k
@@ -410,23 +411,29 @@ module _ (d : Diagram) (H : Held d) (table : List ℕ) (h : Holds d (rowCount d)
       (λ z. rw z (beyond x (ltb-false x (rowCount d) z)))))
       (λ y. rw y (decide (eqb code 2) (λ z. rw z (wait-is x p)) (λ z. rw z)))
 
-module _ (file : List ℕ) (d : Diagram) (rows items : ℕ) (table l : List ℕ) (H : Held d) (h : Holds d rows items table) (own : HoldsCopies d table) (ranks : HoldsRanks d table)
-    (u : HoldsUses file d table) (small : Small l) (code x : ℕ) where
+module _ (d : Diagram) (rows items : ℕ) (table l : List ℕ) (h : Holds d rows items table) where
   -- the table's own numbers of rows and items are the diagram's
-  same-numbers : (F : ℕ → ℕ → Outcome (List ℕ)) (o : Outcome (List ℕ)) → (Holds d (rowCount d) (itemTotal d) table → F (rowCount d) (itemTotal d) ≡ o) → F rows items ≡ o
+  same-numbers : {A : Type 0} (F : ℕ → ℕ → A) (o : A) → (Holds d (rowCount d) (itemTotal d) table → F (rowCount d) (itemTotal d) ≡ o) → F rows items ≡ o
   same-numbers F o f = rw (h .records .rowsAre, h .records .itemsAre) (f (rw (h .records .rowsAre, h .records .itemsAre) at h))
 
+  -- THEOREM: the check over the table, of a state with as many counts as the diagram has, is the check of the state, 20
+  pub allowed-is : (counts : ℕ) → counts ≡ countTotal d → stateAllowed table rows items counts l ≡ (eqb (length l) (places d) && statePasses d (stateOf d l))
+  unfolding stateAllowed
+  allowed-is counts c = same-numbers (λ n m. stateAllowed table n m counts l) (eqb (length l) (places d) && statePasses d (stateOf d l)) (λ g. rw c (decide (eqb (length l) (places d))
+      (λ y. rw (y, passes-is d table g l (stateOf d l) (words-read d l (eqb-true (length l) (places d) y))))
+      (λ y. rw y)))
+
+module _ (file : List ℕ) (d : Diagram) (rows items : ℕ) (table l : List ℕ) (H : Held d) (h : Holds d rows items table) (own : HoldsCopies d table) (ranks : HoldsRanks d table)
+    (u : HoldsUses file d table) (small : Small l) (code x : ℕ) where
   -- THEOREM: on a state that passes 20 the verdict and the stores are the move of the diagram that the table holds
   pub made-is : length l ≡ places d → statePasses d (stateOf d l) ≡ true → tableMove table rows items file l code x ≡ moveWords d (moveOf code x) l
   unfolding moveWords
-  made-is long passes = same-numbers (λ n m. tableMove table n m file l code x) (wordsOutcome d (move d (moveOf code x) (stateOf d l)))
+  made-is long passes = same-numbers d rows items table l h (λ n m. tableMove table n m file l code x) (wordsOutcome d (move d (moveOf code x) (stateOf d l)))
       (λ g. code-is d H table g own ranks file u l (stateOf d l) (words-read d l long) (small-counts d l small) passes code x)
 
   -- THEOREM: with the check of the state they are its checked move
   pub move-is : checkedTableMove table rows items file l code x ≡ checkedMove d (moveOf code x) l
-  unfolding checkedTableMove stateAllowed checkedMove moveWords
-  move-is = same-numbers (λ n m. checkedTableMove table n m file l code x) (checkedMove d (moveOf code x) l) (λ g. rw (own .total) (decide (eqb (length l) (places d))
-      (λ y. let e = words-read d l (eqb-true (length l) (places d) y) in
-      rw (y, passes-is d H table g own ranks file u l (stateOf d l) e) (decide (statePasses d (stateOf d l))
-      (λ z. rw z (code-is d H table g own ranks file u l (stateOf d l) e (small-counts d l small) z code x)) (λ z. rw z)))
-      (λ y. rw y)))
+  unfolding checkedTableMove checkedMove
+  move-is = rw (allowed-is d rows items table l h (countsIn table items) (ap (countsIn table) (h .records .itemsAre) ∙ own .total)) (decide (eqb (length l) (places d))
+      (λ y. rw y (decide (statePasses d (stateOf d l)) (λ z. rw z (made-is (eqb-true (length l) (places d) y) z)) (λ z. rw z)))
+      (λ y. rw y))

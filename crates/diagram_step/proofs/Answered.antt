@@ -19,7 +19,7 @@ use Rattle.diagram_moves.specs.FileMoves.{step-refused, fresh-refused}
 use Rattle.table_move.proofs.Answered.{Answered, told-refused}
 
 -- the check of a state: on with the move, or 20
-module _ (table : List ℕ) (rows items : ℕ) (file l : List ℕ) (code argument : ℕ) (b : Bool) (told : b ≡ stateAllowed table rows items l) where
+module _ (table : List ℕ) (rows items : ℕ) (file l : List ℕ) (code argument : ℕ) (b : Bool) (told : b ≡ stateAllowed table rows items (countsIn table items) l) where
   pub check-passed : b ≡ true → (answer : Outcome ℕ) (m : List ℕ) → Answered answer l m (tableMove table rows items file l code argument) → Answered answer l m (checkedTableMove table rows items file l code argument)
   unfolding checkedTableMove
   check-passed e answer m h = rw (sym told ∙ e) h
@@ -28,8 +28,12 @@ module _ (table : List ℕ) (rows items : ℕ) (file l : List ℕ) (code argumen
   unfolding checkedTableMove
   check-failed e = rw (sym told ∙ e) (refl, refl)
 
--- the same of a plant without triggers, which has no more counts than items
-pub plain-check : (table : List ℕ) (rows items : ℕ) (l : List ℕ) (b : Bool) → someTriggerIn table ≡ 0 → b ≡ (eqb (length l) (3 * rows + items) && allBelow rows (rowAllowed table l)) → b ≡ stateAllowed table rows items l
+-- the counts as they were told; of a plant without triggers as many as items
+pub counted-check : (table : List ℕ) (rows items : ℕ) (l : List ℕ) {counts : ℕ} {b : Bool} → counts ≡ countsIn table items → b ≡ stateAllowed table rows items counts l
+    → b ≡ stateAllowed table rows items (countsIn table items) l
+counted-check table rows items l c told = told ∙ ap (λ (n : ℕ). stateAllowed table rows items n l) c
+
+pub plain-check : (table : List ℕ) (rows items : ℕ) (l : List ℕ) (b : Bool) → someTriggerIn table ≡ 0 → b ≡ (eqb (length l) (3 * rows + items) && allBelow rows (rowAllowed table l)) → b ≡ stateAllowed table rows items (countsIn table items) l
 unfolding stateAllowed sharedAllowed countsIn
 plain-check table rows items l b none told = rw none (told ∙ ap (λ (x : Bool). eqb (length l) (3 * rows + items) && x) (sym (and-true (allBelow rows (rowAllowed table l)))))
   where

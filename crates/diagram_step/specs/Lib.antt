@@ -1,1 +1,1 @@
--- no definitions of its own
+pub mod Numbers

@@ -1,4 +1,4 @@
-// The diagram's stepper: the file is read once, the state checked, then the move made.
+// The diagram's stepper: the file is read once, the state checked, then the move made, or told which transition of the net it fires.
 ghost use mathlib.Core.Path.{_≡_};
 ghost use Rattle.effbd.specs.Answers.{said, returningZero, afterwards};
 ghost use Rattle.effbd.specs.Moves.{stepDiagram, freshDiagram};
@@ -7,7 +7,10 @@ ghost use lib.ListN.{length};
 ghost use Rattle.diagram_table.specs.Cells.{someTriggerIn};
 ghost use Rattle.diagram_table.specs.Held.{HoldsFile};
 ghost use Rattle.diagram_moves.specs.Changes.{checkedTableMove, freshPlaced};
+ghost use Rattle.effbd.specs.Transitions.{transitionDiagram};
+ghost use Rattle.diagram_step.specs.Numbers.{functionNumberIn, Checked};
 use diagram::Diagram;
+use diagram_state::cells;
 use diagram_table::SOME_TRIGGER;
 use diagram_table::WIDE;
 use effbd::Answer;
@@ -46,7 +49,8 @@ fn step_table(
     ensures { λ r. ⌜ said r ≡ returningZero (checkedTableMove (now (table .entry)) rows items (now (file .entry)) (now (state .entry)) code argument) ⌝ }
     ensures { λ r. ⌜ now (state .exit) ≡ afterwards (now (state .entry)) (checkedTableMove (now (table .entry)) rows items (now (file .entry)) (now (state .entry)) code argument) ⌝ }
 {
-    if diagram_check::state_allowed(table, rows, items, state) {
+    let counts = table_counts::count_total(table, items);
+    if diagram_check::state_allowed(table, rows, items as u32, counts, state) {
         return table_move::make_move(code, argument, table, state, rows, items as u32, file);
     }
     Answer::Refused(refusals::STATE_OFF, 0)
@@ -77,6 +81,51 @@ pub fn step(file: &[u8], state: &mut [u16], code: u16, argument: u16) -> Answer
     let mut table = [0u16; WIDE];
     copies::widen(&mut table, &diagram.table, rows, items, file);
     step_table(&table, rows as u32, items, file, state, code, argument)
+}
+
+// Are these words a state of the file's diagram? Of a plant with triggers it must be known how many copies they have, no more.
+fn is_state(table: &[u16], rows: u16, items: u16, file: &[u8], state: &[u16]) -> bool
+    requires { ⌜ HoldsFile (now file) rows items (now table) ⌝ }
+    ensures { λ r. ⌜ Checked (now (file .entry)) (now (state .entry)) r ⌝ }
+{
+    if diagram_table::cell(table, SOME_TRIGGER, 0) == 0 {
+        return diagram_check::rows_allowed(table, rows as u32, items as u32, state);
+    }
+    let counts = items as u32 + copies::copy_total(table, rows, items, file) as u32;
+    diagram_check::state_allowed(table, rows as u32, items as u32, counts, state)
+}
+
+// The first one's number plus activity less 1: no branch chooses between a FUNCTION's start and its end.
+fn function_number(table: &[u16], rows: u16, state: &[u16], row: u16) -> Answer
+    ensures { λ r. ⌜ said r ≡ functionNumberIn (now (table .entry)) rows (now (state .entry)) row ⌝ }
+{
+    if rows <= row {
+        return Answer::Refused(refusals::NOT_STANDING, row as u32);
+    }
+    if diagram_table::kind(table, row as u32) != kinds::FUNCTION {
+        return Answer::Refused(refusals::NOT_STANDING, row as u32);
+    }
+    let activity = cells::activity(state, row as u32) as usize;
+    if activity == 0 {
+        return Answer::Refused(refusals::NOT_STANDING, row as u32);
+    }
+    let first = net_numbers::first_number(table, row);
+    Answer::Accepted((first + activity - 1) as u32)
+}
+
+// Which transition of the net the step of a ready or running FUNCTION fires: the number behind `t` in the annex. Whether the step would be accepted
+// is not asked; where it is, at a state reached by moves, the net fires just this one at the image (theorem `which-fires` of crate liveness).
+pub fn transition(file: &[u8], state: &[u16], row: u16) -> Answer
+    ensures { λ r. ⌜ said r ≡ transitionDiagram (now (file .entry)) row (now (state .entry)) ⌝ }
+{
+    let diagram = diagram_file::parse(file);
+    if diagram.number != 0 {
+        return Answer::Refused(diagram.number, diagram.value);
+    }
+    if is_state(&diagram.table, diagram.rows, diagram.items, file, state) {
+        return function_number(&diagram.table, diagram.rows, state, row);
+    }
+    Answer::Refused(refusals::STATE_OFF, 0)
 }
 
 // The first `size` words of a fresh state in the place of `state`, if it has just so many.

@@ -12,6 +12,7 @@ pub mod Starts
 pub mod Nets
 pub mod Firing
 pub mod Patterns
+pub mod Transitions
 pub mod Image
 pub mod Annex
 pub mod BusEnds

@@ -6,6 +6,7 @@ ghost use Rattle.effbd.specs.Answers.{returningZero, afterwards, packed};
 ghost use Rattle.effbd.specs.Moves.{stepDiagram, freshDiagram};
 ghost use Rattle.effbd.specs.Firing.{stepNet, freshNet, wordsOf};
 ghost use Rattle.effbd.specs.Patterns.{translated};
+ghost use Rattle.effbd.specs.Transitions.{transitionDiagram};
 ghost use Rattle.effbd.specs.Annex.{annexIn, over};
 ghost use Rattle.effbd.specs.BusEnds.{offered, taken};
 ghost use Rattle.effbd.specs.States.{stateLength};
@@ -47,6 +48,14 @@ pub extern "C" fn effbd_step(file: &[u8], state: &mut [u16], code: u16, argument
     ensures { λ _. ⌜ now (state .exit) ≡ afterwards (now (state .entry)) (stepDiagram (now (file .entry)) code argument (now (state .entry))) ⌝ }
 {
     answers::pack(diagram_step::step(file, state, code, argument))
+}
+
+// The transition of the net that a ready or running FUNCTION's step fires.
+#[no_mangle]
+pub extern "C" fn effbd_transition(file: &[u8], state: &[u16], row: u16) -> u64
+    ensures { λ r. ⌜ r ≡ packed (transitionDiagram (now (file .entry)) row (now (state .entry))) ⌝ }
+{
+    answers::pack(diagram_step::transition(file, state, row))
 }
 
 // The net of a diagram.

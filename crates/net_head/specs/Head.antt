@@ -1,30 +1,5 @@
--- How many transitions a net's head says. Assumes nothing.
-use Prim.Native.Nat.{ℕ, zero, suc, _+_}
-use mathlib.Core.Bool.{cond, _&&_}
-use mathlib.Core.List.{List}
-use lib.Dec.{eqb}
-use Rattle.effbd.specs.Diagrams.{function, branch, or-open, it-open, end, numberOf}
-use Rattle.diagram_table.specs.Cells.{kindIn, ownerIn}
+-- The kind of a net's head. Assumes nothing.
+use Prim.Native.Nat.{ℕ}
 
--- the kind of a net's head
 abbrev pub netHead : ℕ
 netHead = 32
-
--- how many transitions a row of kind k has: by its kind, and, for a BRANCH, by the kind j of its construct's open row
-unfoldable pub ownNumber : ℕ → ℕ
-ownNumber k =
-    cond (eqb k (numberOf function)) 2
-    (cond (eqb k (numberOf it-open)) 2
-    (cond (eqb k (numberOf end)) 0
-    (cond (eqb k (numberOf or-open)) 0
-    (cond (eqb k (numberOf branch)) 0 1))))
-
-unfoldable pub branchNumber : (j k : ℕ) → ℕ
-branchNumber j k = cond (eqb k (numberOf branch) && eqb j (numberOf or-open)) 1 0
-
-unfoldable pub numberAs : (j k : ℕ) → ℕ
-numberAs j k = ownNumber k + branchNumber j k
-
-unfoldable pub tally : (table : List ℕ) → ℕ → ℕ
-tally table zero = 0
-tally table (suc r) = tally table r + numberAs (kindIn table (ownerIn table r)) (kindIn table r)

@@ -1,35 +1,30 @@
 -- What a call comes to, by what the reader of the file answered.
 use Prim.Native.Nat.{ℕ, _+_, _*_, _≤_}
 use mathlib.Core.Path.{_≡_, sym, _∙_}
-use mathlib.Core.Bool.{true, _&&_}
+use mathlib.Core.Bool.{true}
 use mathlib.Core.List.{List}
 use native.Mathlib.Omega.{arith}
 use lib.ListN.{length, take, drop, getD, length-take, List·getD-eq-default}
 use lib.Seq.{getD-take, length-take-le}
-use lib.Dec.{leb, ltb}
+use lib.Dec.{ltb}
 use borrow.Author.Tests.{eq-eqb, ne-eqb, ltb-true, ltb-false}
-use Rattle.ranges.specs.Tests.{decide, and-right}
+use Rattle.ranges.specs.Tests.{decide}
 use Rattle.effbd.specs.Answers.{refused}
 use Rattle.effbd.specs.Records.{areBytes, word}
 use Rattle.effbd.specs.Moves.{mostWord}
-use Rattle.effbd.specs.Nets.{Net, mostPlaces, mostTransitions, readNet}
+use Rattle.effbd.specs.Nets.{readNet}
 use Rattle.effbd.specs.Firing.{netWordCount, wordsOf, checkedNetMove, stepNet}
 use Rattle.net_file.specs.Contents.{transitionsIn, behindPlaces}
-use Rattle.agreement.specs.Formed.{marksFine, transitionsFine, wellFormed}
-use Rattle.agreement.specs.NetFiles.{net-back}
 use Rattle.net_file.proofs.Accepted.{place-count}
 use Rattle.net_file.proofs.Answers.{refused-inv, Read}
 use Rattle.net_walk.proofs.Effects.{Words}
+use Rattle.net_walk.proofs.FineArcs.{arcs-fine}
 use Rattle.net_step.specs.Stepping.{movedWords}
-use Rattle.net_step.proofs.Refines.{fine-at, move-is}
+use Rattle.net_step.proofs.Refines.{move-is}
 
 pub step-refused : (file words : List ℕ) (code argument a b : ℕ) → refused a b ≡ wordsOf (readNet file) → stepNet file code argument words ≡ refused a b
 unfolding stepNet
 step-refused file words code argument a b e = rw (refused-inv file a b e)
-
-well-formed : (n : Net) → wellFormed n ≡ true → transitionsFine (length (n .marks)) 0 (n .transitions) ≡ true
-unfolding wellFormed
-well-formed n e = and-right (marksFine (n .marks)) _ (and-right (leb 1 (length (n .marks)) && (leb (length (n .marks)) mostPlaces && leb (length (n .transitions)) mostTransitions)) _ e)
 
 module _ (file words : List ℕ) (size : ℕ) (read : Read file size) where
   pub step-length : (code argument : ℕ) → (length words ≡ size → ⊥) → stepNet file code argument words ≡ refused 20 0
@@ -54,9 +49,6 @@ module _ (file words : List ℕ) (size : ℕ) (read : Read file size) where
   unfolding stepNet checkedNetMove behindPlaces
   step-moves bytes code argument places count transitions l w ep ec et =
       rw (read .says, eq-eqb (length words) (netWordCount (read .net)) (l ∙ sym (read .counts)))
-      (move-is (length (read .net .marks)) (read .net .transitions) (λ i m. fine-at (length (read .net .marks)) 0 (read .net .transitions) i _ m fine)
+      (move-is (length (read .net .marks)) (read .net .transitions) (λ i m. arcs-fine file (read .net) bytes (read .says) i _ m)
       (take (length (read .net .marks)) words) (drop (length (read .net .marks)) words) (length-take-le (length (read .net .marks)) words (omega (arith, mark-count, l, read .adds))) (marks-words w) code argument
       ∙ (rw (mark-count, read .holds .transitions, et, ec, ep)))
-    where
-      fine : transitionsFine (length (read .net .marks)) 0 (read .net .transitions) ≡ true
-      fine = well-formed (read .net) (net-back file (read .net) bytes (read .says) .fine)

@@ -3,19 +3,19 @@ use Prim.Native.Nat.{ℕ, zero, suc, _+_, _-_, _<_}
 use mathlib.Core.Path.{_≡_, refl, ap, ap₂, sym, _∙_}
 use mathlib.Core.Bool.{Bool, true, false, not, cond, _&&_, _||_}
 use mathlib.Core.List.{List, [], _∷_, _++_, map}
-use native.Mathlib.Nat.{le-of-suc-le-suc, not-suc-le-zero, add-zero, zero-add}
+use native.Mathlib.Nat.{add-zero, zero-add}
 use native.Mathlib.Omega.{arith}
 use lib.ListN.{length, getD, length-map}
 use lib.Dec.{leb, ltb, eqb}
 use borrow.Author.Tests.{ltb-false, le-leb, eqb-true, eqb-false, eq-eqb, ne-eqb}
-use Rattle.ranges.specs.Tests.{decide, clash, and-left, and-right}
+use Rattle.ranges.specs.Tests.{decide, clash}
 use Rattle.ranges.specs.RangeLaws.{all-elim, tab-ext, all-ext, all-front}
 use Rattle.effbd.specs.Ranges.{allBelow, least, only, tabulate}
 use Rattle.effbd.specs.Answers.{accepted, refused, andThen}
 use Rattle.effbd.specs.Moves.{step-row, wait-ticks, no-move, moveOf}
-use Rattle.effbd.specs.Nets.{Transition, takeArc, giveArc, transitionFine}
+use Rattle.effbd.specs.Nets.{Transition, takeArc, giveArc}
 use Rattle.effbd.specs.Firing.{Effect, noEffect, Behaviour, NetState, effectOf, covers, takenAndCleared, firedState, overflows, fire, fireLowest, letsPass, tickedState, netWait, netMove, netWordsOutcome}
-use Rattle.agreement.specs.Formed.{fitsWord, arcsFine, transitionsFine}
+use Rattle.agreement.specs.Formed.{arcsFine}
 use Rattle.agreement.specs.Numbering.{getD-map}
 use Rattle.net_walk.specs.Walked.{covered, applied, reduced, sums, stands, lowest}
 use Rattle.net_walk.proofs.Effects.{Words, reduced-is, reduced-length}
@@ -52,14 +52,6 @@ held-from ticks marks x (t ∷ ts) clocks none =
     apart : (a b : Bool) → not (a || b) ≡ (not a && not b)
     apart true b = refl
     apart false b = refl
-
--- a well-formed net: the arcs of each transition are fine
-pub fine-at : (count label : ℕ) (ts : List Transition) (i : ℕ) (none : Transition) → i < length ts → transitionsFine count label ts ≡ true → arcsFine count takeArc 0 (getD ts i none .arcs) ≡ true
-unfolding transitionsFine
-fine-at count label [] i none l h = absurd (not-suc-le-zero l)
-fine-at count label (t ∷ ts) zero none l h = and-left (arcsFine count takeArc 0 (t .arcs)) _ (and-right (fitsWord (t .latest)) _ (and-right (transitionFine label t) _ h))
-fine-at count label (t ∷ ts) (suc i) none l h =
-    fine-at count (t .label) ts i none (le-of-suc-le-suc l) (and-right (arcsFine count takeArc 0 (t .arcs)) _ (and-right (fitsWord (t .latest)) _ (and-right (transitionFine label t) _ h)))
 
 module _ (places : ℕ) (ts : List Transition) (fine : (i : ℕ) → i < length ts → arcsFine places takeArc 0 (getD ts i (noTransition ts) .arcs) ≡ true)
     (marks clocks : List ℕ) (size : length marks ≡ places) (words : Words marks) where

@@ -1,3 +1,4 @@
 pub mod Turns
 pub mod Effects
 pub mod Rising
+pub mod FineArcs

@@ -1,4 +1,4 @@
--- The table of examples holds, and so do the list of calls and the starts in a log: computed.
+-- The table of examples holds, and so do the list of calls, the starts in a log and the transitions that steps fire: computed.
 use mathlib.Core.Path.{_≡_, refl}
 use mathlib.Core.Bool.{true}
 use native.Mathlib.Omega.{arith}
@@ -13,6 +13,7 @@ use Rattle.effbd.specs.Moves.{moveOf, lowestItem, wordsOutcome, moveWords, chec
 use Rattle.effbd.specs.Nets.{arcBytes, transitionBytes, markBytes, netBytes, arcDue, arcFine, above, transitionFine, netHeadFault, markFault, arcFault, transitionFault, readTail, afterPlaces, readNet}
 use Rattle.effbd.specs.Firing.{weightAt, clearedAt, effectOf, covers, takenAndCleared, firedState, overflows, fire, fireLowest, letsPass, tickedState, netWait, netMove, checkedNetMove, stepNet, freshNetWords}
 use Rattle.effbd.specs.Patterns.{names, arcsOf, rangesFrom, transitionOf, netOf}
+use Rattle.effbd.specs.Transitions.{checkedNumber, transitionDiagram, lowestEnabled, checkedNetNumber, transitionNet}
 use Rattle.effbd.specs.Annex.{digits, number, numbers, arcLines, transitionLines, netLines, printed, annexIn}
 use Rattle.effbd.specs.BusEnds.{telegram, isOurs, offered, taken}
 use Rattle.effbd.specs.History.{freshEnds, run, seen, runAll, seenAll, offers, wrote-before, foreign, MayBeHanded}
@@ -22,6 +23,7 @@ use Rattle.plantroom.specs.Table.{fileOf, fileA, sameWords, plays, holds
 use Rattle.plantroom.specs.Requests.{refusals, requests, requestsHold}
 use Rattle.plantroom.specs.Calls.{diagramA, calls, accepting, callsHold}
 use Rattle.plantroom.specs.Starts.{questions, answered, startsHold}
+use Rattle.plantroom.specs.Transitions.{turns, told, apart, transitionsHold}
 
 -- THEOREM: document 01's examples A to I, with every number that it gives
 pub examples-hold : tableHolds ≡ true
@@ -68,3 +70,15 @@ unfolding kindTable entryIn lengthOf fieldsOf faultAt readMany
     setpointsAt setpoints logFault made stateFrom playedFrom isStart startsFrom fallIn busiestFrom startsOf logStarts
     fileOf questions answered startsHold
 starts-hold = refl
+
+-- THEOREM: request 6's worked example
+pub transitions-hold : transitionsHold ≡ true
+unfolding areBytes kindTable entryIn lengthOf fieldsOf faultAt readMany
+    kindOf headFault itemFault usesAt usesFine rowAt rowRight rowFine rowFault triggersFine rowFaultIn copiesOf copies tallies countTotal tally takes gives initialCount
+    stack owner close branchOf loop nestingBroken killerEmpty exitMisplaced thirteenthOpen nestingFault firstFaulty spendsNoTime unlessRow nested afterRows afterItems readDiagram
+    placeOf stateWords stateOf enteredRow endsKiller killed entered branchEntries freshWords moveOf lowestItem wordsOutcome moveWords checkedMove stepDiagram
+    arcBytes transitionBytes markBytes netBytes arcDue arcFine above transitionFine netHeadFault markFault arcFault transitionFault readTail afterPlaces readNet
+    weightAt clearedAt effectOf covers takenAndCleared firedState overflows fire fireLowest letsPass tickedState netWait netMove checkedNetMove stepNet freshNetWords
+    names arcsOf rangesFrom transitionOf netOf checkedNumber transitionDiagram lowestEnabled checkedNetNumber transitionNet
+    fileOf turns told apart transitionsHold
+transitions-hold = refl

@@ -5,12 +5,13 @@ use Rattle.diagram_table.specs.Cells.{enteredIn, countsIn}
 use Rattle.net_records.specs.Writing.{Records, runs}
 use Rattle.net_records.specs.Records.{pair}
 use Rattle.net_rows.specs.Rows.{rowRecords, mostRowBytes}
-use Rattle.net_head.specs.Head.{netHead, tally}
+use Rattle.net_numbers.specs.Numbers.{firstNumberIn}
+use Rattle.net_head.specs.Head.{netHead}
 use Rattle.net_counts.specs.Marks.{countMarks}
 use Rattle.net_marks.specs.Marks.{rowMarks}
 
 unfoldable pub netRecords : (table file : List ℕ) (rows items : ℕ) → Records
-netRecords table file rows items = pair netHead (3 * rows + countsIn table items) (tally table rows)
+netRecords table file rows items = pair netHead (3 * rows + countsIn table items) (firstNumberIn table rows)
     ++ runs (rowMarks table (enteredIn table 0)) rows ++ countMarks table items ++ runs (rowRecords table file rows) rows
 
 -- no net of so many rows, items and counts is longer (theorem `net-small`)

@@ -13,10 +13,10 @@ play-call-requires : tie.Need-play-call-requires
 play-call-requires c κs = search needs
 
 array-share-prefix-text : tie.Need-array-share-prefix-text
-array-share-prefix-text c = let f = played-fits (c .before .before .before .before .before .before .before .play-call .ensures .0) (omega arith) (omega arith) (c .before .before .before .before .before .before .before .play-call .ensures .1) in omega arith
+array-share-prefix-text c = let f = played-fits (c .before .before .before .before .before .before .before .play-call .ensures .0) _ (omega arith) (omega arith) (c .before .before .before .before .before .before .before .play-call .ensures .1) in omega arith
 
 slice-aggregate-write-all : tie.Need-slice-aggregate-write-all
-slice-aggregate-write-all c = let f = played-fits (c .before .before .before .before .before .before .before .before .play-call .ensures .0) (omega arith) (omega arith) (c .before .before .before .before .before .before .before .before .play-call .ensures .1) in sym (length-take-le (c .before .before .before .before .before .before .before .before .play-call .result .size) _ (omega arith))
+slice-aggregate-write-all c = let f = played-fits (c .before .before .before .before .before .before .before .before .play-call .ensures .0) _ (omega arith) (omega arith) (c .before .before .before .before .before .before .before .before .play-call .ensures .1) in sym (length-take-le (c .before .before .before .before .before .before .before .before .play-call .result .size) _ (omega arith))
 
 write-all-requires : tie.Need-write-all-requires
 write-all-requires c κs = search needs

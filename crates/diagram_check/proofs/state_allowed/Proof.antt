@@ -5,26 +5,22 @@ use borrow.Author.Needs.{needs}
 use Rattle.diagram_check.proofs.state_allowed.Statement.{statement}
 use Rattle.diagram_check.proofs.state_allowed.Tie as tie
 
-count-total-requires : tie.Need-count-total-requires
-count-total-requires c κs = search needs
-
 rows-allowed-requires : tie.Need-rows-allowed-requires
 rows-allowed-requires c κs = search needs
 
 returns : tie.Need-returns
-returns c = let a = c .before .before .before .before .before .args in rows-off (a .table .now) (a .rows) (a .items) (a .state .now) (c .before .before .count-total .ensures) (c .before .rows-allowed .ensures) (not-true _ (c .if1 .taken))
+returns c = let a = c .before .before .before .before .args in rows-off (a .table .now) (a .rows) (a .items) (a .counts) (a .state .now) (c .before .rows-allowed .ensures) (not-true _ (c .if1 .taken))
 
 shared-allowed-requires : tie.Need-shared-allowed-requires
 shared-allowed-requires c κs = search needs
 
 returns-2 : tie.Need-returns-2
-returns-2 c = let a = c .before .before .before .before .before .before .args in c .shared-allowed .ensures ∙ sym (rows-pass (a .table .now) (a .rows) (a .items) (a .state .now) (c .before .before .before .count-total .ensures) (c .before .before .rows-allowed .ensures) (not-false _ (c .before .if1 .left)))
+returns-2 c = let a = c .before .before .before .before .before .args in c .shared-allowed .ensures ∙ sym (rows-pass (a .table .now) (a .rows) (a .items) (a .counts) (a .state .now) (c .before .before .rows-allowed .ensures) (not-false _ (c .before .if1 .left)))
 
 pub state-allowed-spec : {M : Type 1} → statement M
 state-allowed-spec =
     tie.close
     (tie.spec
-    count-total-requires
     rows-allowed-requires
     returns
     shared-allowed-requires

@@ -10,8 +10,8 @@ use Rattle.net_head.proofs.head.Tie as tie
 count-total-requires : tie.Need-count-total-requires
 count-total-requires c κs = search needs
 
-tally-requires : tie.Need-tally-requires
-tally-requires c κs = search needs
+first-number-requires : tie.Need-first-number-requires
+first-number-requires c κs = search needs
 
 mul-pair : tie.Need-mul-pair
 mul-pair c = search needs
@@ -29,14 +29,14 @@ same-length : tie.Need-same-length
 same-length c = search needs
 
 returns : tie.Need-returns
-returns c = same (ap₂ (λ (n t : ℕ). pair netHead (3 * c .before .before .before .before .before .before .before .before .args .rows + n) t) (c .before .before .before .before .before .count-total .ensures) (c .before .before .before .before .tally .ensures)) (c .before .before .pair .ensures)
+returns c = same (ap₂ (λ (n t : ℕ). pair netHead (3 * c .before .before .before .before .before .before .before .before .args .rows + n) t) (c .before .before .before .before .before .count-total .ensures) (c .before .before .before .before .first-number .ensures .0)) (c .before .before .pair .ensures)
 
 pub head-spec : {M : Type 1} → statement M
 head-spec =
     tie.close
     (tie.spec
     count-total-requires
-    tally-requires
+    first-number-requires
     mul-pair
     cast-pair
     add-pair

@@ -1,10 +1,10 @@
 use Prim.Native.Nat.{_+_}
 use mathlib.Core.Path.{ap₂}
 use native.Mathlib.Omega.{arith}
-use Rattle.net_head.specs.Head.{numberAs}
+use Rattle.net_numbers.specs.Numbers.{numberAs}
 use borrow.Author.Needs.{needs}
-use Rattle.net_head.proofs.number.Statement.{statement}
-use Rattle.net_head.proofs.number.Tie as tie
+use Rattle.net_numbers.proofs.number.Statement.{statement}
+use Rattle.net_numbers.proofs.number.Tie as tie
 
 own-number-requires : tie.Need-own-number-requires
 own-number-requires c κs = search needs

@@ -2,9 +2,9 @@ use mathlib.Core.Logic.{⊎-elim}
 use mathlib.Core.Path.{refl}
 use borrow.Author.Tests.{eq-eqb, ne-eqb}
 use native.Mathlib.Omega.{arith}
-use Rattle.net_head.specs.Head.{branchNumber}
-use Rattle.net_head.proofs.branch_number.Statement.{statement}
-use Rattle.net_head.proofs.branch_number.Tie as tie
+use Rattle.net_numbers.specs.Numbers.{branchNumber}
+use Rattle.net_numbers.proofs.branch_number.Statement.{statement}
+use Rattle.net_numbers.proofs.branch_number.Tie as tie
 
 returns : tie.Need-returns
 unfolding branchNumber

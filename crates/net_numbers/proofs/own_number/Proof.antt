@@ -1,9 +1,9 @@
 use mathlib.Core.Path.{refl, ap, sym}
 use borrow.Author.Tests.{ne-eqb}
 use native.Mathlib.Omega.{arith}
-use Rattle.net_head.specs.Head.{ownNumber}
-use Rattle.net_head.proofs.own_number.Statement.{statement}
-use Rattle.net_head.proofs.own_number.Tie as tie
+use Rattle.net_numbers.specs.Numbers.{ownNumber}
+use Rattle.net_numbers.proofs.own_number.Statement.{statement}
+use Rattle.net_numbers.proofs.own_number.Tie as tie
 
 returns : tie.Need-returns
 unfolding ownNumber

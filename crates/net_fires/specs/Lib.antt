@@ -1,0 +1,1 @@
+-- no definitions of its own
