@@ -1,5 +1,5 @@
 /* What bindings/c/effbd.h says of lent memory, tried: empty lists as (NULL, 0), bytes beyond a result, texts, a wrong number of words,
- * single numbers, runs of telegrams, of gigabytes too, and that the constants have room for the largest diagrams, nets, texts and logs. Says
+ * words that are only read, single numbers, runs of telegrams, of gigabytes too, and that the constants have room for the largest diagrams, nets, texts and logs. Says
  * what does not hold; exit status 1 then. */
 #define _GNU_SOURCE /* memfd_create */
 #include "../bindings/c/effbd.h"
@@ -47,6 +47,10 @@ static void empty_lists(void) {
     IS(effbd_fresh(file, sizeof file, NULL, 0), EFFBD_STATE_OFF, 0);
     IS(effbd_step(NULL, 0, NULL, 0, EFFBD_WAIT, 1), EFFBD_CUT_SHORT, 0);
     IS(effbd_step(file, sizeof file, NULL, 0, EFFBD_WAIT, 1), EFFBD_STATE_OFF, 0);
+    IS(effbd_transition(NULL, 0, NULL, 0, 0), EFFBD_CUT_SHORT, 0);
+    IS(effbd_transition(NULL, 0, state, WORDS, UINT16_MAX), EFFBD_CUT_SHORT, 0);
+    IS(effbd_transition(file, sizeof file, NULL, 0, 0), EFFBD_STATE_OFF, 0);
+    IS(effbd_transition(file, sizeof file, NULL, 0, UINT16_MAX), EFFBD_STATE_OFF, 0);
     IS(effbd_translate(NULL, 0, NULL, 0), EFFBD_CUT_SHORT, 0);
     IS(effbd_translate(file, sizeof file, NULL, 0), EFFBD_AREA_SHORT, NET);
     HOLDS(effbd_annex(NULL, 0, NULL, 0, NULL, 0) == strlen("refused 1 0\n"));
@@ -129,6 +133,7 @@ static void wrong_number_of_words(void) {
     for (size_t count = WORDS - 1; count <= WORDS + 1; count += 2) {
         IS(effbd_fresh(file, sizeof file, words, count), EFFBD_STATE_OFF, 0);
         IS(effbd_step(file, sizeof file, words, count, EFFBD_WAIT, 1), EFFBD_STATE_OFF, 0);
+        IS(effbd_transition(file, sizeof file, words, count, 0), EFFBD_STATE_OFF, 0);
         IS(tpn_fresh(net, NET, words, count), EFFBD_STATE_OFF, 0);
         IS(tpn_step(net, NET, words, count, EFFBD_WAIT, 1), EFFBD_STATE_OFF, 0);
         IS(leader_offer(file, sizeof file, words, count, 0, STATION, EFFBD_WAIT, 1, telegram, sizeof telegram), EFFBD_STATE_OFF, 0);
@@ -156,6 +161,40 @@ static void single_numbers(void) {
     at = FILLED;
     IS(log_starts(one_function, sizeof one_function, one_start, sizeof one_start, 0, &at), EFFBD_ACCEPTED, 1);
     HOLDS(at == 0);
+}
+
+/* A state that is lent for reading stays, and the words beside it: accepted, of an idle row, another kind, no row, off, of a refused file. */
+static void words_only_read(void) {
+    enum { A_WORDS = 7 };
+    static const uint16_t ready[A_WORDS] = {1, 0, 0, 0, 0, 0, 3}, running[A_WORDS] = {2, 0, 1, 0, 0, 0, 2}, idle[A_WORDS] = {0, 0, 0, 1, 0, 0, 2},
+                          off[A_WORDS] = {2, 0, 6, 0, 0, 0, 2}, longer[A_WORDS + 1] = {1, 0, 0, 0, 0, 0, 3, 0};
+    static const struct {
+        const uint16_t *words;
+        size_t file_count;
+        uint16_t row;
+        uint32_t number, value;
+    } cases[] = {
+        {ready, sizeof one_function, 0, EFFBD_ACCEPTED, 0},
+        {running, sizeof one_function, 0, EFFBD_ACCEPTED, 1},
+        {idle, sizeof one_function, 0, EFFBD_NOT_STANDING, 0},
+        {idle, sizeof one_function, 1, EFFBD_NOT_STANDING, 1},
+        {running, sizeof one_function, EFFBD_MOST_ROWS, EFFBD_NOT_STANDING, EFFBD_MOST_ROWS},
+        {running, sizeof one_function, UINT16_MAX, EFFBD_NOT_STANDING, UINT16_MAX},
+        {off, sizeof one_function, 0, EFFBD_STATE_OFF, 0},
+        {off, sizeof one_function, UINT16_MAX, EFFBD_STATE_OFF, 0},
+        {off, sizeof one_function - 1, 0, EFFBD_CUT_SHORT, 30},
+    };
+    for (size_t at = 0; at < sizeof cases / sizeof *cases; at++) {
+        uint16_t lent[A_WORDS + 2] = {FILLED};
+        memcpy(lent + 1, cases[at].words, A_WORDS * sizeof *lent);
+        lent[A_WORDS + 1] = FILLED;
+        is("transition of a row", effbd_transition(one_function, cases[at].file_count, lent + 1, A_WORDS, cases[at].row), cases[at].number,
+           cases[at].value);
+        HOLDS(memcmp(lent + 1, cases[at].words, A_WORDS * sizeof *lent) == 0 && lent[0] == FILLED && lent[A_WORDS + 1] == FILLED);
+    }
+    IS(effbd_transition(one_function, sizeof one_function, longer, A_WORDS + 1, 0), EFFBD_STATE_OFF, 0);
+    IS(effbd_transition(one_function, sizeof one_function, longer, A_WORDS, 0), EFFBD_ACCEPTED, 0);
+    IS(effbd_transition(one_function, sizeof one_function, longer, A_WORDS - 1, 0), EFFBD_STATE_OFF, 0);
 }
 
 /* Step 0 and wait 300, of the old edition, and of this one from a station, numbered from the first. */
@@ -295,6 +334,9 @@ static void largest(void) {
     IS(tpn_read(area, LONGEST_NET), EFFBD_ACCEPTED, EFFBD_MOST_PLACES + 2 * (EFFBD_MOST_ROWS - 1));
     HOLDS(effbd_annex(large, length, area, EFFBD_ANNEX_NET_ROOM, text, sizeof text) == strlen(refused));
     HOLDS(memcmp(text, refused, strlen(refused)) == 0);
+    static uint16_t words[EFFBD_MOST_STATE_WORDS];
+    words[3 * (EFFBD_MOST_ROWS - 2)] = 2;
+    IS(effbd_transition(large, length, words, EFFBD_MOST_STATE_WORDS, EFFBD_MOST_ROWS - 2), EFFBD_ACCEPTED, 125);
     IS(large_net(EFFBD_MOST_PLACES, EFFBD_MOST_TRANSITIONS), EFFBD_ACCEPTED, EFFBD_MOST_NET_STATE_WORDS);
     IS(large_net(EFFBD_MOST_PLACES + 1, EFFBD_MOST_TRANSITIONS), EFFBD_HEAD_VALUE_OFF, 0);
     IS(large_net(EFFBD_MOST_PLACES, EFFBD_MOST_TRANSITIONS + 1), EFFBD_HEAD_VALUE_OFF, 0);
@@ -312,6 +354,7 @@ int main(void) {
     texts();
     wrong_number_of_words();
     single_numbers();
+    words_only_read();
     runs_upward();
     runs_downward();
     largest();

@@ -106,6 +106,12 @@ uint64_t effbd_fresh(const uint8_t *file, size_t file_count, uint16_t *state, si
  * EFFBD_STATE_OFF where state_count is not the number of words that effbd_read answers, or where the words are no state of this diagram. */
 uint64_t effbd_step(const uint8_t *file, size_t file_count, uint16_t *state, size_t state_count, uint16_t code, uint16_t argument);
 
+/* Which transition of the net a ready or running FUNCTION's step fires: the row's first transition's number plus activity less 1. That is the
+ * number behind `t` in the annex. Accepted: the number. It does not ask whether the step would be accepted now. Where it is, at any state that
+ * moves have reached, the net of the diagram fires just this transition.
+ * EFFBD_STATE_OFF as effbd_step; EFFBD_NOT_STANDING, with the row, where it is no FUNCTION, is idle, or the file does not have it. */
+uint64_t effbd_transition(const uint8_t *file, size_t file_count, const uint16_t *state, size_t state_count, uint16_t row);
+
 /* The net of a diagram, into the first bytes of an area; those beyond the net keep their values. Accepted: the net's length, at most
  * EFFBD_NET_ROOM.
  * EFFBD_AREA_SHORT returns the bytes needed, so that an area (NULL, 0) asks for them. */

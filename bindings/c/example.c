@@ -1,5 +1,5 @@
-/* Example A of document 01 from C: the net in an area of just its length, a move over the bus, what a caller does where it is turned away,
- * the starts of a log, and telegrams of the old edition. */
+/* Example A of document 01 from C: the net in an area of just its length, a move over the bus and its transition, what a caller does where it
+ * is turned away, the starts of a log, and telegrams of the old edition. */
 #include "effbd.h"
 #include <stdio.h>
 #include <stdlib.h>
@@ -44,11 +44,16 @@ int main(void) {
     value_of("fresh diagram", effbd_fresh(file, sizeof file, leader, leader_words), EFFBD_ACCEPTED);
     value_of("fresh net", tpn_fresh(net, length, follower, follower_words), EFFBD_ACCEPTED);
 
+    /* Which transition of the net a step of row 0 fires: ready, its first one. */
+    value_of("transition of row 0, ready", effbd_transition(file, sizeof file, leader, leader_words, 0), EFFBD_ACCEPTED);
+
     uint8_t telegram[EFFBD_TELEGRAM_LENGTH];
     uint64_t offered = leader_offer(file, sizeof file, leader, leader_words, 0, STATION, EFFBD_STEP, 0, telegram, sizeof telegram);
     value_of("offer step 0", offered, EFFBD_ACCEPTED);
     uint64_t taken = follower_take(net, length, follower, follower_words, 0, STATION, telegram, sizeof telegram);
     uint32_t count = value_of("take it", taken, EFFBD_ACCEPTED);
+    value_of("transition of row 0, running", effbd_transition(file, sizeof file, leader, leader_words, 0), EFFBD_ACCEPTED);
+    value_of("transition of row 1", effbd_transition(file, sizeof file, leader, leader_words, 1), EFFBD_NOT_STANDING);
 
     /* The bus repeats it: the refusal's value is the follower's count, which stays. */
     taken = follower_take(net, length, follower, follower_words, count, STATION, telegram, sizeof telegram);

@@ -4,7 +4,9 @@
 use crate::guard::lend;
 use crate::met::Met;
 use crate::{told, Verdict};
-use effbd::refusal::{AREA_SHORT, NO_TELEGRAM, NUMBER_NOT_NEXT, STATION_DIFFERS};
+use effbd::refusal::{
+    AREA_SHORT, NOT_STANDING, NO_TELEGRAM, NUMBER_NOT_NEXT, STATE_OFF, STATION_DIFFERS,
+};
 use effbd::Answer;
 use std::fmt::{Debug, Write};
 
@@ -154,6 +156,28 @@ pub fn step_diagram(
             hex(file)
         )
     })
+}
+
+/// Answers that a row's transition should have: accepted, and each refusal behind the file's own.
+const OF_A_ROW: [u32; 3] = [0, STATE_OFF, NOT_STANDING];
+
+/// File and state are lent between guards, and have to stay as they are.
+pub fn transition(met: &mut Met, file: &[u8], state: &[u16], row: u16) -> Verdict {
+    let answer = told(model::transitions::transition(file, state, row));
+    let proved = lend(file, BYTE_GUARD, |file| {
+        lend(state, WORD_GUARD, |state| {
+            effbd::transition(file, state, row)
+        })
+    });
+    proved
+        .and_then(|(lent, after_file)| {
+            let (found, after) = lent?;
+            met.note_among("transition", &OF_A_ROW, found);
+            equal("transition of a row", &answer, &found)?;
+            equal("transition of a row, the state", &state, &&after[..])?;
+            equal_bytes("file", file, &after_file)
+        })
+        .map_err(|why| format!("{why}\nfile {}, state {state:?}, row {row}", hex(file)))
 }
 
 pub fn read_net(met: &mut Met, net: &[u8]) -> Verdict {

@@ -5,7 +5,7 @@ use crate::met::{Met, Sight};
 use crate::Verdict;
 use model::bus::{Telegram, TELEGRAM_LENGTH};
 use model::diagram::{Row, MOST_ROWS};
-use model::diagram_step::{fresh_state, moved, STEP};
+use model::diagram_step::{activity, check, fresh_state, moved, IDLE, READY, STEP};
 use model::editions::OLD_TELEGRAM_LENGTH;
 use model::generate::{
     accepted_log, bus_list, crowded_diagram, damaged_diagram, damaged_log, damaged_net, diagram,
@@ -29,7 +29,7 @@ const fn kind(name: &'static str, case: fn(&mut Random, &mut Met) -> Verdict) ->
     Kind { name, case }
 }
 
-pub const KINDS: [Kind; 10] = [
+pub const KINDS: [Kind; 11] = [
     kind("diagram files and translation", diagram_file),
     kind("annex texts", annex_text),
     kind("uses of rows", uses_of_rows),
@@ -40,6 +40,7 @@ pub const KINDS: [Kind; 10] = [
     kind("lists of calls", call_list),
     kind("starts in logs", starts_in_logs),
     kind("runs between editions", runs_between_editions),
+    kind("transitions of rows", transitions_of_rows),
 ];
 
 /// An accepted file. One with a long net costs as much as a hundred others.
@@ -151,6 +152,11 @@ fn annex_text(random: &mut Random, met: &mut Met) -> Verdict {
 }
 
 /// Every row, some that the file does not have, and any.
+fn rows_and_others(random: &mut Random, file: &[u8]) -> impl Iterator<Item = u16> {
+    let rows = model::diagram::parse(file).map_or(8, |diagram| diagram.rows.len() as u16);
+    (0..rows + 2).chain([63, 64, 65, 65_535, random.word()])
+}
+
 fn uses_of_rows(random: &mut Random, met: &mut Met) -> Verdict {
     let file = if random.chance(70) {
         plant(random)
@@ -158,8 +164,7 @@ fn uses_of_rows(random: &mut Random, met: &mut Met) -> Verdict {
         any_diagram(random)
     };
     note_sights(met, "uses", &file, kills_of(&file));
-    let rows = model::diagram::parse(&file).map_or(8, |diagram| diagram.rows.len() as u16);
-    for row in (0..rows + 2).chain([63, 64, 65, 65_535, random.word()]) {
+    for row in rows_and_others(random, &file) {
         calls::uses(&file, row)?;
     }
     Ok(())
@@ -624,4 +629,71 @@ fn down_then_up(new: &[u8]) -> Verdict {
     equal("down then up", &Ok(new.len() as u32), &answer)
         .and_then(|()| equal("down then up, the new bytes", &new, &&back[..]))
         .map_err(|why| format!("{why}\nrun {}", hex(new)))
+}
+
+/// What a row is at a state that passes: all of these a run should ask of.
+const ROWS: [&str; 6] = [
+    "ready",
+    "running",
+    "idle",
+    "another kind, idle",
+    "another kind, not idle",
+    "no row",
+];
+
+/// Which of these a row is; none at a state that does not pass, or of a refused file.
+fn row_asked(file: &[u8], state: &[u16], row: u16) -> Option<&'static str> {
+    let diagram = model::diagram::parse(file).ok()?;
+    check(&diagram, state).ok()?;
+    let number = usize::from(row);
+    let Some(found) = diagram.rows.get(number) else {
+        return Some("no row");
+    };
+    Some(match (found, state[activity(number)]) {
+        (Row::Function(_), IDLE) => "idle",
+        (Row::Function(_), READY) => "ready",
+        (Row::Function(_), _) => "running",
+        (_, IDLE) => "another kind, idle",
+        _ => "another kind, not idle",
+    })
+}
+
+fn transitions_of_rows(random: &mut Random, met: &mut Met) -> Verdict {
+    let file = likely_diagram(random);
+    let state = any_state(random, &file);
+    note_sights(met, "transition", &file, kills_of(&file));
+    for row in rows_and_others(random, &file) {
+        let asked = row_asked(&file, &state, row);
+        for name in ROWS {
+            met.note_sight(
+                Sight::Row(name),
+                "transition",
+                usize::from(asked == Some(name)),
+            );
+        }
+        calls::transition(met, &file, &state, row)?;
+    }
+    let reached = walk(random, &file, 20).pop().unwrap_or_default();
+    fires_as_told(&file, &reached)
+}
+
+/// At a state reached, "where the row's step is accepted, that is the transition that the net fires at the image": the number that the proved
+/// function tells beside the one that the model's net fires. Nothing of a refused file.
+fn fires_as_told(file: &[u8], state: &[u16]) -> Verdict {
+    let Ok(diagram) = model::diagram::parse(file) else {
+        return Ok(());
+    };
+    let net = model::translate::table(&diagram);
+    let image = model::image::image_of(&diagram, state);
+    for (row, found) in (0..).zip(&diagram.rows) {
+        let accepted = effbd::step_diagram(file, &mut state.to_vec(), STEP, row).is_ok();
+        if !matches!(found, Row::Function(_)) || !accepted {
+            continue;
+        }
+        let fired = model::net_step::fired_by(&net, &image, row).map(|number| Ok(number as u32));
+        let told = effbd::transition(file, state, row);
+        equal("the transition that the net fires", &fired, &Some(told))
+            .map_err(|why| format!("{why}\nfile {}, state {state:?}, row {row}", hex(file)))?;
+    }
+    Ok(())
 }

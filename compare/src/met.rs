@@ -1,5 +1,5 @@
 //! Which answers a run has met, held against the list of refusals, and which calls have met what they should: kills, loops that spend no time,
-//! each answer that runs of telegrams can have.
+//! each answer that runs of telegrams and a row's transition can have, each kind of row that a transition is asked of.
 
 use effbd::Answer;
 use std::collections::BTreeMap;
@@ -23,6 +23,8 @@ pub enum Sight {
     Kills,
     /// A file that is refused for a loop that spends no time.
     TimelessLoop,
+    /// A row of this kind and activity, or none, asked at a state that passes.
+    Row(&'static str),
     /// An answer of this number, 0 accepted: `times` cannot tell whether this call had it, since others have such answers too.
     Answer(u32),
 }

@@ -1,5 +1,5 @@
 //! A short run of every kind of case, which meets every refusal of the list, and with every call what it should meet: kills, loops that spend no
-//! time, each answer to a run of telegrams.
+//! time, each answer to a run of telegrams, each kind of row.
 
 use compare::cases::KINDS;
 use compare::met::Met;

@@ -41,6 +41,7 @@ fn assert_read(file: &[u8], answer: Answer) {
         same(calls::fresh_diagram(met, file, &state));
         for made in [(STEP, 0), (WAIT, 1), (0, 0)] {
             same(calls::step_diagram(met, file, &state, made.0, made.1));
+            same(calls::transition(met, file, &state, made.1));
             same(calls::offer(met, file, &state, end, made, &[7; 3]));
         }
     }

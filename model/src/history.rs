@@ -8,6 +8,7 @@ use crate::image::image;
 use crate::net;
 use crate::net_step;
 use crate::refusal::{refusal, Answer, Refusal, ITEM_SHORT, NOT_STANDING, SUM_TOO_LARGE};
+use crate::transitions::transition;
 use crate::translate::net_of;
 
 /// "The list mixes, in any order, moves offered to the leader (any code, row or
@@ -246,8 +247,8 @@ fn check_premise(file: &[u8], station: u16, calls: &[Call]) -> Result<(), String
 
 /// "At every state of the history the diagram's stepper, and the net's at its
 /// image, accept the same moves", for one move. Also: the image of the new
-/// state is the net's new state, a refusal alters neither, and the net's
-/// refusal is the one that belongs to the diagram's.
+/// state is the net's new state, a refusal alters neither, the net's refusal is
+/// the one that belongs to the diagram's, and the transition is request 6's.
 pub fn agreement(
     file: &[u8],
     net: &[u8],
@@ -269,6 +270,25 @@ pub fn agreement(
     })?;
     ensure(image(file, &diagram_state) == Some(net_state), || {
         format!("move {code} {argument} at {state:?}: images differ")
+    })?;
+    match diagram.rows.get(usize::from(argument)) {
+        Some(Row::Function(_)) if code == STEP && by_diagram.is_ok() => {
+            fires_as_told(file, net, state, argument)
+        }
+        _ => Ok(()),
+    }
+}
+
+/// Request 6: "at every state reached by a list of moves where the row's step is
+/// accepted, that is the transition that the net fires at the image". Of their
+/// numbers, since two transitions may do the same.
+fn fires_as_told(file: &[u8], net: &[u8], state: &[u16], row: u16) -> Result<(), String> {
+    let net = net::parse(net).map_err(describe)?;
+    let image = image(file, state).ok_or("no image")?;
+    let fired = net_step::fired_by(&net, &image, row).map(|number| Ok(number as u32));
+    let told = transition(file, state, row);
+    ensure(fired == Some(told), || {
+        format!("row {row} at {state:?}: told {told:?} but net fires {fired:?}")
     })
 }
 

@@ -14,6 +14,7 @@
 //! | `diagram`, `diagram_step`, `translate` | 2, Triggers reach everyone; 3, Branches that kill |
 //! | `diagram` | 4, Loops that spend no time |
 //! | `editions` | 5, Old panels on the new bus |
+//! | `transitions` | 6, Which transition, by arithmetic |
 //! | `examples`, `annex` | Plant-room examples |
 //! | `generate` | random diagrams, nets, states, lists, logs and runs for comparisons |
 //! | `kills` | which moves kill, for comparisons |
@@ -38,6 +39,7 @@ pub mod net;
 pub mod net_step;
 pub mod records;
 pub mod refusal;
+pub mod transitions;
 pub mod translate;
 
 pub use refusal::{Answer, Refusal};

@@ -51,17 +51,21 @@ fn enabled(net: &Net, transition: &Transition, marks: &[u16]) -> bool {
     })
 }
 
+/// The number of "the lowest-numbered enabled transition labelled r" at a state
+/// of the right length.
+pub fn fired_by(net: &Net, state: &[u16], label: u16) -> Option<usize> {
+    let marks = &state[..net.marks.len()];
+    let fires =
+        |transition: &Transition| transition.label == label && enabled(net, transition, marks);
+    net.transitions.iter().position(fires)
+}
+
 /// "Step r fires the lowest-numbered enabled transition labelled r"; none is
 /// 22, and its clock below a is 24.
 fn stepped(net: &Net, state: &[u16], label: u16) -> Result<Vec<u16>, Refusal> {
-    let (marks, clocks) = state.split_at(net.marks.len());
-    let fires =
-        |transition: &Transition| transition.label == label && enabled(net, transition, marks);
-    let fired = net
-        .transitions
-        .iter()
-        .position(fires)
-        .ok_or(refusal(NOT_STANDING, usize::from(label)))?;
+    let not_standing = refusal(NOT_STANDING, usize::from(label));
+    let fired = fired_by(net, state, label).ok_or(not_standing)?;
+    let clocks = &state[net.marks.len()..];
     let earliest = net.transitions[fired].a;
     if clocks[fired] < earliest {
         let lacking = usize::from(earliest - clocks[fired]);

@@ -3,7 +3,9 @@
 mod common;
 
 use model::generate::{self, Random};
-use model::{annex, bus, diagram, diagram_step, editions, image, logs, net, net_step, translate};
+use model::{
+    annex, bus, diagram, diagram_step, editions, image, logs, net, net_step, transitions, translate,
+};
 use std::collections::BTreeMap;
 
 /// Numbers of refusals and how often they came; 0 is accepted.
@@ -164,6 +166,7 @@ fn random_bytes() {
             diagram::read(&bytes),
             diagram_step::fresh(&bytes, &mut state),
             diagram_step::step(&bytes, &mut state, code, argument),
+            transitions::transition(&bytes, &state, argument),
             translate::translate(&bytes, &mut area),
             bus::offer(&bytes, &mut state, 1, 1, code, argument, &mut area),
             net::read(&bytes),

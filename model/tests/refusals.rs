@@ -12,6 +12,7 @@ use model::records::{
     record, shape, AND_CLOSE, AND_OPEN, BRANCH, END, FUNCTION, HEAD, ITEM, IT_CLOSE, IT_OPEN,
     KILLING_BRANCH, LOOP_EXIT, LP_CLOSE, LP_OPEN, OR_CLOSE, OR_OPEN, TRIGGER,
 };
+use model::transitions::transition;
 use model::translate::translate;
 use model::{logs, net_step, Answer};
 
@@ -31,6 +32,7 @@ fn assert_file_refused(bytes: &[u8], number: u32, value: u32) {
     let mut area = [6; 70_000];
     assert_eq!(diagram_step::fresh(bytes, &mut state), expected);
     assert_eq!(diagram_step::step(bytes, &mut state, 0, 0), expected);
+    assert_eq!(transition(bytes, &state, 65_535), expected);
     assert_eq!(translate(bytes, &mut area), expected);
     assert_eq!(translate(bytes, &mut area[..3]), expected);
     let offered = bus::offer(bytes, &mut state, u32::MAX, 1, 0, 0, &mut area[..3]);
@@ -567,6 +569,10 @@ fn assert_state_off(file: &[u8], state: &[u16]) {
         assert_eq!(diagram_step::step(file, &mut lent, code, 1), refused(20, 0));
         let offered = bus::offer(file, &mut lent, u32::MAX, 1, code, 1, &mut area);
         assert_eq!(offered, refused(20, 0));
+    }
+    // 20 stands before 22.
+    for row in [0, 1, 64, 65_535] {
+        assert_eq!(transition(file, &lent, row), refused(20, 0));
     }
     assert_eq!(lent, state);
     assert_eq!(area, [6; 14]);

@@ -1,8 +1,8 @@
-//! Example A of document 01 from Rust: a move over the bus, and what is turned away.
+//! Example A of document 01 from Rust: a move over the bus, its transition, and what is turned away.
 
 use effbd::{
-    fresh_diagram, fresh_net, move_diagram, offer_move, read_diagram, read_net, take, translate,
-    Move, Refusal, NET_ROOM, TELEGRAM_LENGTH,
+    fresh_diagram, fresh_net, move_diagram, offer_move, read_diagram, read_net, take, transition,
+    translate, Move, Refusal, NET_ROOM, TELEGRAM_LENGTH,
 };
 
 fn main() -> Result<(), Refusal> {
@@ -18,17 +18,22 @@ fn main() -> Result<(), Refusal> {
     fresh_diagram(&file, &mut leader)?;
     fresh_net(net, &mut follower)?;
 
+    // Which transition of the net a step of row 0 fires, ready and then running.
+    let starts = transition(&file, &leader, 0)?;
     let station = 9;
     let mut telegram = [0; TELEGRAM_LENGTH];
     let sent = offer_move(&file, &mut leader, 0, station, Move::Step(0), &mut telegram)?;
     let taken = take(net, &mut follower, 0, station, &telegram)?;
+    let ends = transition(&file, &leader, 0)?;
     println!("net {length} bytes, {sent} sent, {taken} taken");
+    println!("row 0 starts by t {starts}, ends by t {ends}");
     println!("diagram {leader:?}, net {follower:?}");
 
-    // The same telegram again, and an end that comes too early.
+    // The same telegram again, an end that comes too early, and the transition of END, which has none.
     for refused in [
         take(net, &mut follower, taken, station, &telegram),
         move_diagram(&file, &mut leader, Move::Step(0)),
+        transition(&file, &leader, 1),
     ] {
         match refused {
             Ok(value) => println!("accepted: {value}"),

@@ -218,6 +218,13 @@ mod proved {
             code: u16,
             argument: u16,
         ) -> u64;
+        pub fn effbd_transition(
+            file: *const u8,
+            file_count: usize,
+            state: *const u16,
+            state_count: usize,
+            row: u16,
+        ) -> u64;
         pub fn effbd_translate(
             file: *const u8,
             file_count: usize,
@@ -367,6 +374,38 @@ pub fn step_diagram(file: &[u8], state: &mut [u16], code: u16, argument: u16) ->
 /// [`step_diagram`] with a [`Move`].
 pub fn move_diagram(file: &[u8], state: &mut [u16], made: Move) -> Answer {
     step_diagram(file, state, made.code(), made.argument())
+}
+
+/// Which transition of the net a ready or running FUNCTION's step fires: the row's first transition's number plus activity less 1, the number
+/// behind `t` in the annex. Accepted: the number. It does not ask whether the step would be accepted now. Where it is, at any state that moves
+/// have reached, the net of the diagram fires just this transition.
+///
+/// [`refusal::STATE_OFF`] as [`step_diagram`]; [`refusal::NOT_STANDING`], with the row, where it is no FUNCTION, is idle, or the file does not
+/// have it.
+///
+/// ```
+/// use effbd::{refusal, Move, Refusal};
+///
+/// let file = [
+///     10, 0, 1, 0, 1, 0, 2, 0, 1, 0, // head: edition 1, 2 rows, 1 item
+///     6, 0, 2, 0, 3, 0, // item: 3
+///     14, 0, 16, 0, 2, 0, 5, 0, 0, 0, 1, 0, 0, 0, // FUNCTION: 2 to 5 ticks, takes 1 of item 0
+///     4, 0, 27, 0, // END
+/// ];
+/// let mut state = [0; 7];
+/// effbd::fresh_diagram(&file, &mut state)?;
+/// assert_eq!(effbd::transition(&file, &state, 0), Ok(0)); // ready: it starts
+/// effbd::move_diagram(&file, &mut state, Move::Step(0))?;
+/// assert_eq!(effbd::transition(&file, &state, 0), Ok(1)); // running: it ends
+/// let at_end = effbd::transition(&file, &state, 1);
+/// assert_eq!(at_end, Err(Refusal { number: refusal::NOT_STANDING, value: 1 }));
+/// # Ok::<(), Refusal>(())
+/// ```
+pub fn transition(file: &[u8], state: &[u16], row: u16) -> Answer {
+    // SAFETY: as in `read_diagram`.
+    answer(unsafe {
+        proved::effbd_transition(file.as_ptr(), file.len(), state.as_ptr(), state.len(), row)
+    })
 }
 
 /// The net of a diagram, into the first bytes of an area; those beyond the net keep their values. Accepted: the net's length, at most

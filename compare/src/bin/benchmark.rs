@@ -2,7 +2,8 @@
 //! plants with triggers, at plants with branches that kill and at a plant of loops, and of runs of telegrams between the editions, in one run;
 //! last, which ratio is the largest.
 //!
-//! Both are built for release and get the same inputs in the same order; states and areas are copied anew before each call, for both.
+//! Both are built for release and get the same inputs in the same order; states and areas that are written are copied anew before each call, for
+//! both.
 //! At each size the calls go round plants of 960 rows in all, equally often: no single diagram's mix of rows decides the ratio, and the
 //! processor has as much to foresee at each size, and as many turns to learn it.
 //!
@@ -19,12 +20,16 @@
 //! `12 loops` is 12 LPs one in the other, 64 rows in all, where only the last FUNCTION of the innermost spends time: all of them are looked
 //! through for it. Of its moves one half are steps of LP rows; its log is random.
 //!
+//! A row's transition is asked at the states before the moves, of the last FUNCTION row that is ready or running, which has the most rows before
+//! it, or of END where none is. The model counts the transitions of those rows here; elsewhere it looks for the row in the whole net, which of
+//! `16 x 63` has 65,000 arcs.
+//!
 //! Runs are of 10, 1,000 and 100,000 telegrams, in areas of just their length; their times are of one telegram, which show whether a run costs as
 //! much as its telegrams do.
 
 use model::bus::Telegram;
 use model::diagram::{Diagram, Row, MOST_ITEMS, MOST_ROWS};
-use model::diagram_step::{STEP, WAIT};
+use model::diagram_step::{activity, IDLE, STEP, WAIT};
 use model::editions::OldTelegram;
 use model::examples::{
     deep_loops, deep_trips_again, killing_rounds_again, triggers, triggers_again, trips_again,
@@ -32,6 +37,7 @@ use model::examples::{
 use model::generate::{accepted_log, lasting_diagram, plain_diagram_up_to, Random};
 use model::kills::kill_by;
 use model::logs::{log, Log, Logged, MOST_MOVES};
+use model::transitions::transition_by_counting;
 use model::translate::net_of;
 use std::fmt;
 use std::hint::black_box;
@@ -100,9 +106,10 @@ struct Plant {
     moves: Vec<Move>,
 }
 
-/// A move with the diagram's state before it, that state's image and the telegram that carries it.
+/// A move with the diagram's state before it, that state's image, the row whose transition is asked there and the telegram that carries it.
 struct Move {
     before: Vec<u16>,
+    asked: u16,
     image: Vec<u16>,
     telegram: [u8; effbd::TELEGRAM_LENGTH],
     code: u16,
@@ -259,11 +266,21 @@ fn carried(file: &[u8], before: Vec<u16>, code: u16, argument: u16) -> Option<Mo
     };
     Some(Move {
         image: model::image::image(file, &before)?,
+        asked: row_to_ask(file, &before)?,
         telegram: telegram.encode(),
         before,
         code,
         argument,
     })
+}
+
+/// The last FUNCTION row that is ready or running, or else END.
+fn row_to_ask(file: &[u8], state: &[u16]) -> Option<u16> {
+    let rows = model::diagram::parse(file).ok()?.rows;
+    let is_busy =
+        |row: &usize| matches!(rows[*row], Row::Function(_)) && state[activity(*row)] != IDLE;
+    let asked = (0..rows.len()).rev().find(is_busy);
+    Some(asked.unwrap_or(rows.len() - 1) as u16)
 }
 
 /// The plant of a call and its move: the plants take turns, each with its moves in order.
@@ -379,7 +396,7 @@ fn lent<'a>(buffer: &'a mut [u16], before: &[u16]) -> &'a mut [u16] {
     state
 }
 
-/// The diagram's step and the leader's call.
+/// The diagram's step, the leader's call and a row's transition.
 fn compare_diagram(table: &mut Vec<Times>, course: &Course) {
     let plants = &course.plants;
     let mut states = ([0; STATE_ROOM], [0; STATE_ROOM]);
@@ -430,6 +447,19 @@ fn compare_diagram(table: &mut Vec<Times>, course: &Course) {
                 made.argument,
                 area,
             )
+        },
+    );
+    compare(
+        table,
+        "transition",
+        course,
+        |number| {
+            let (plant, made) = turn(plants, number);
+            effbd::transition(&plant.file, &made.before, made.asked)
+        },
+        |number| {
+            let (plant, made) = turn(plants, number);
+            transition_by_counting(&plant.file, &made.before, made.asked)
         },
     );
 }

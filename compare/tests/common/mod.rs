@@ -52,6 +52,7 @@ impl Plant {
         let (file, net) = (&self.file, &self.net);
         same(calls::step_diagram(met, file, &self.state, code, argument));
         same(calls::step_net(met, net, &self.marks, code, argument));
+        same(calls::transition(met, file, &self.state, argument));
         (
             step_diagram(file, &mut self.state, code, argument),
             step_net(net, &mut self.marks, code, argument),
