@@ -7,6 +7,7 @@ use rink::play::{
     parse, screen, scripted, terminal, Activity, Command, Game, Outcome, Then, Which,
 };
 use rink::structure;
+use std::collections::{BTreeMap, BTreeSet};
 
 const STATION: u16 = 7;
 /// Characters of a line, at most.
@@ -218,7 +219,7 @@ fn copies_in_words() {
     for words in [
         "door@1 65534 -> 65535; door@2 65534 -> 65535; door@pump 65534 -> 65535\n",
         "oil 1, door@1 65535, door@2 65535, door@pump 65535",
-        "starts; door@1 65535 -> 65534\n",
+        "starts, fires transition 2; door@1 65535 -> 65534\n",
         // Its own copy has room again, the others do not.
         "fan (row 1) cannot end: it gives 1 to door@2, which has 65535 and holds at most 65535",
     ] {
@@ -370,8 +371,52 @@ fn lists_what_the_model_accepts(game: &Game, file: &[u8]) {
     assert!(longest == u16::MAX || !accepts(WAIT, longest + 1));
 }
 
+/// Of each telegram the transition that the panel said its move fires; how many of these the controller fired.
+#[derive(Default)]
+struct Said {
+    of_telegram: BTreeMap<u32, usize>,
+    fired: usize,
+}
+
+impl Said {
+    /// Hears the calls of the last command: the controller fires what the panel said, which is something just of FUNCTIONs. Returns these.
+    fn hear(&mut self, game: &Game) -> Vec<usize> {
+        let mut heard = Vec::new();
+        let mut outcomes = game.outcomes().iter().peekable();
+        while let Some(outcome) = outcomes.next() {
+            let fires = outcomes.peek().and_then(|next| match next {
+                Outcome::Fires(number) => Some(*number),
+                _ => None,
+            });
+            match (outcome, fires) {
+                (Outcome::Accepted(number), Some(said)) => {
+                    self.of_telegram.insert(*number, said);
+                }
+                (Outcome::Accepted(number), None) => {
+                    self.of_telegram.remove(number);
+                }
+                (Outcome::Taken(number), fired) => {
+                    let said = self.of_telegram.get(number).copied();
+                    let fired = fired.filter(|fired| of_function(game, *fired));
+                    assert_eq!(said, fired, "telegram {number}");
+                    heard.extend(fired);
+                }
+                _ => {}
+            }
+        }
+        self.fired += heard.len();
+        heard
+    }
+}
+
+/// Whether a transition of the net is a FUNCTION's.
+fn of_function(game: &Game, transition: usize) -> bool {
+    let row = usize::from(game.net().transitions[transition].label);
+    matches!(game.plant().rows[row].part, Part::Function(_))
+}
+
 /// Plays one line; whether it was understood and went as it should.
-fn plays(game: &mut Game, line: &str) -> bool {
+fn plays(game: &mut Game, line: &str, said: &mut Said) -> bool {
     let Ok(Some(command)) = parse(game.plant(), line) else {
         return false;
     };
@@ -384,10 +429,13 @@ fn plays(game: &mut Game, line: &str) -> bool {
     };
     assert!(!report.lines.is_empty());
     // Whatever holds a wait has a name.
-    let said = report.lines.join(" ");
-    assert!(!said.contains("passes: nothing") && !said.contains("nothing must end"));
+    let told = report.lines.join(" ");
+    assert!(!told.contains("passes: nothing") && !told.contains("nothing must end"));
     if picked {
         assert!(matches!(game.outcomes()[0], Outcome::Accepted(_)), "{line}");
+    }
+    if report.then != Then::Next {
+        said.hear(game);
     }
     true
 }
@@ -404,7 +452,7 @@ fn enabled_where_covered(game: &Game) {
 
 #[test]
 fn random_games() {
-    let (mut moves, mut of_copies) = (0, 0);
+    let (mut moves, mut of_copies, mut fired) = (0, 0, 0);
     for seed in 0..400 {
         let mut random = Random::new(seed);
         let file = match (seed % 80, seed % 8) {
@@ -422,11 +470,11 @@ fn random_games() {
             let plant = Plant::read(&file).expect("an accepted file");
             Game::new(plant, file.clone(), STATION).expect("an accepted file")
         };
-        let mut game = new();
+        let (mut game, mut said) = (new(), Said::default());
         for _ in 0..80 {
             let line = line(&mut random, &game);
             case.lines.push(line.clone());
-            if !plays(&mut game, &line) {
+            if !plays(&mut game, &line, &mut said) {
                 case.lines.pop();
             }
             agrees_as_the_model_says(&game, &file);
@@ -447,16 +495,80 @@ fn random_games() {
 
         for command in [Command::Resend, Command::Deliver(Which::All)] {
             game.act(&command).expect("no expectation");
+            said.hear(&game);
         }
+        fired += said.fired;
         assert_eq!(game.behind(), 0);
         assert!(game.agree());
         agrees_as_the_model_says(&game, &file);
     }
     assert!(moves > 4_000, "random games that hardly move: {moves}");
     assert!(of_copies > 1_000, "and hardly with copies: {of_copies}");
+    assert!(fired > 1_000, "and functions hardly step: {fired}");
 }
 
-/// Moves of the list alone, on plants with branches that kill: every kill is told, and the ends agree behind it.
+/// The shipped diagrams that are accepted, by name.
+fn shipped() -> BTreeMap<String, Vec<u8>> {
+    let folder = concat!(env!("CARGO_MANIFEST_DIR"), "/../examples");
+    let paths = std::fs::read_dir(folder).expect("shipped");
+    let paths = paths.map(|entry| entry.expect("shipped").path());
+    let diagrams = paths.filter(|path| path.extension().is_some_and(|end| end == "dia"));
+    let files = diagrams.map(|path| {
+        let name = path.file_stem().expect("a name").to_string_lossy();
+        (name.into_owned(), std::fs::read(&path).expect("shipped"))
+    });
+    let accepted = files.filter(|(_, file)| effbd::read_diagram(file).is_ok());
+    accepted.collect()
+}
+
+/// The transitions of FUNCTIONs of a shipped diagram that no moves reach.
+fn unreached(name: &str) -> &'static [usize] {
+    match name {
+        // The loop is left before `stir` may end.
+        "h" => &[4],
+        // No row gives the orders that `heed-stop` and `quick-freeze` take, so the loop is not left for `pump-out`.
+        "pump-down-and-defrost" => &[4, 5, 21, 22, 31, 32],
+        _ => &[],
+    }
+}
+
+/// The transition that a line says a step fires.
+fn said_to_fire(line: &str) -> Option<usize> {
+    let (_, behind) = line.split_once(", fires transition ")?;
+    let number = behind.split(';').next()?;
+    Some(number.parse().expect("a number"))
+}
+
+/// Every start and end of a FUNCTION of the shipped diagrams: list and panel name the transition that the controller fires.
+#[test]
+fn shipped_functions_fire_what_the_panel_says() {
+    for (name, file) in shipped() {
+        let plant = Plant::read(&file).expect("an accepted file");
+        let mut game = Game::new(plant, file, STATION).expect("an accepted file");
+        game.act(&Command::Auto(true)).expect("no expectation");
+        let (mut random, mut said) = (Random::new(1), Said::default());
+        let mut left: BTreeSet<usize> = (0..game.net().transitions.len()).collect();
+        left.retain(|transition| of_function(&game, *transition));
+        for _ in 0..2_000 {
+            let choices = game.choices();
+            if choices.is_empty() || random.chance(1) {
+                game.act(&Command::Restart).expect("no expectation");
+                continue;
+            }
+            let at = random.below(choices.len());
+            let report = game.act(&Command::Pick(1 + at)).expect("no expectation");
+            let fired = said.hear(&game).pop();
+            for line in [&choices[at].words, &report.lines[0]] {
+                assert_eq!(said_to_fire(line), fired, "{name}: {line}");
+            }
+            left.retain(|transition| Some(*transition) != fired);
+        }
+        let left: Vec<usize> = left.into_iter().collect();
+        assert_eq!(left, unreached(&name), "{name}");
+    }
+}
+
+/// Moves of the list alone, on plants with branches that kill: every kill is told, fires what the panel says, and the ends agree behind it.
 #[test]
 fn random_kills() {
     let mut kills = 0;
@@ -467,6 +579,7 @@ fn random_kills() {
         let killers = structure::killers(&plant);
         let mut game = Game::new(plant, file.clone(), STATION).expect("an accepted file");
         game.act(&Command::Auto(true)).expect("no expectation");
+        let mut said = Said::default();
         for _ in 0..60 {
             let done = |game: &Game| {
                 let state = game.diagram_state();
@@ -476,6 +589,7 @@ fn random_kills() {
             let (before, choices) = (done(&game), game.choices().len());
             let pick = Command::Pick(1 + random.below(choices.max(1)));
             let report = game.act(&pick).expect("no expectation");
+            said.hear(&game);
             let told = report.lines[0].contains("; kills the other branches of ");
             assert!(!told || done(&game), "seed {seed}, {:?}", report.lines);
             assert!(
@@ -509,7 +623,7 @@ fn terminal_on_piped_input() {
         "is no command; help lists them",
         "the list has no move 7: they are 1 to 2",
         "the controller takes telegram 1: transition 0 fires, pump-down starts",
-        "not as expected: expected a refusal, but there was a taken telegram 1",
+        "not as expected: expected a refusal, but there was a taken telegram 1 and a firing of",
         "the panel accepts: wait 50 ticks (5.0 s)",
         "the panel accepts: step pump-down (row 0): ends",
     ] {
@@ -606,6 +720,8 @@ fn wrong_scripts() {
         ("auto", 1, 5, "auto on, or auto off?"),
         ("auto maybe", 1, 6, "auto on, or auto off?"),
         ("expect refused x", 1, 16, "`x` is no refusal's number"),
+        ("expect fires", 1, 13, "which transition fires?"),
+        ("expect fires x", 1, 14, "`x` is no transition's number"),
         ("expect behind", 1, 14, "behind by how many telegrams?"),
         ("expect behind x", 1, 15, "`x` is no number of telegrams"),
         (
@@ -646,7 +762,7 @@ fn wrong_scripts() {
             "step 0\n expect refused",
             2,
             2,
-            "expected a refusal, but there was an accepted move",
+            "expected a refusal, but there was an accepted move and a firing of transition 0",
         ),
         (
             "step 2\nexpect refused 23",
@@ -658,7 +774,19 @@ fn wrong_scripts() {
             "step 0\nexpect taken",
             2,
             1,
-            "expected a taken telegram, but there was an accepted move",
+            "expected a taken telegram, but there was an accepted move and a firing of transition 0",
+        ),
+        (
+            "auto on\nstep 0\nexpect fires 1",
+            3,
+            1,
+            "expected a firing of transition 1, but there was an accepted move, a firing of transition 0, a taken telegram 1 and a firing of transition 0",
+        ),
+        (
+            "wait 1\nexpect fires 0",
+            2,
+            1,
+            "expected a firing of transition 0, but there was a refusal 26",
         ),
         (
             "step 0\nexpect agree",
@@ -764,6 +892,7 @@ fn right_scripts() {
         "",
         "\n\n# nothing",
         "step 0\nwait 0.1s\nstep 0\nwait 1 tick\nexpect refused 26",
+        "step 0\nexpect fires 0\nwait 1\nstep 0\nexpect fires 1\ndeliver all\nexpect fires 0\nexpect fires 1",
         "auto on\n1\n1\n1\n1\n1\n1\nstep hot gas\nexpect accepted\nexpect taken 7",
         "expect count One item 1\nexpect count \"one item\" 1\nexpect idle \"hot gas\"",
         "say\nsay  what is said\nquit\nexpect agree 4 or so".trim_end_matches(" 4 or so"),

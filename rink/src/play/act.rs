@@ -103,6 +103,8 @@ impl Game {
         };
         self.panel.count = count;
         self.outcomes.push(Outcome::Accepted(count));
+        let fires = self.fires(made, &before);
+        self.outcomes.extend(fires.map(Outcome::Fires));
         let fate = Fate::UnderWay;
         let sent = Sent {
             made,

@@ -65,7 +65,9 @@ impl Game {
         let before = self.controller.state.clone();
         match self.take(&telegram.bytes) {
             Ok(count) => {
-                let did = self.taken_words(telegram.made, &before);
+                let fired = self.fired(telegram.made, &before);
+                self.outcomes.extend(fired.map(Outcome::Fires));
+                let did = self.taken_words(telegram.made, fired);
                 format!("the controller takes telegram {count}: {did}")
             }
             Err(refused) => {
@@ -96,15 +98,12 @@ impl Game {
         answer
     }
 
-    /// What a move did to the net, which stood at `before`.
-    fn taken_words(&self, made: Move, before: &[u16]) -> String {
-        let fired = match made {
-            Move::Wait(ticks) => return format!("waits {}", ticks_words(u64::from(ticks))),
-            Move::Step(row) => self.fired(row, before),
-        };
-        match fired {
-            None => move_words(&self.plant, made),
-            Some(fired) => {
+    /// What a move did to the net, in which this transition fired.
+    fn taken_words(&self, made: Move, fired: Option<usize>) -> String {
+        match (made, fired) {
+            (Move::Wait(ticks), _) => format!("waits {}", ticks_words(u64::from(ticks))),
+            (_, None) => move_words(&self.plant, made),
+            (_, Some(fired)) => {
                 let words = transition_words(&self.plant, &self.net, fired);
                 format!("transition {fired} fires, {words}")
             }

@@ -49,6 +49,8 @@ pub enum Expectation {
     Taken(Option<u32>),
     /// Any refusal, or that of this number.
     Refused(Option<u32>),
+    /// This transition, by the panel's step or in the controller.
+    Fires(usize),
     Agree,
     Behind(u32),
     Row(usize, Activity),
@@ -84,7 +86,7 @@ looking
   help             this list
 lessons
   say TEXT         prints the text; a line that begins with # prints nothing
-  expect WHAT      accepted, taken, taken 3, refused, refused 33, agree, behind 2,
+  expect WHAT      accepted, taken, taken 3, refused, refused 33, fires 3, agree, behind 2,
                    idle NAME, ready NAME, running NAME, done NAME, count ITEM 4,
                    count TRIGGER@NAME 1: what the trigger has for the row of that name
 the game
@@ -366,8 +368,8 @@ fn on_or_off(reader: &mut Reader) -> Result<bool, Fault> {
 }
 
 fn expectation(plant: &Plant, reader: &mut Reader) -> Result<Expectation, Fault> {
-    let what =
-        "expect what? accepted, taken, refused, agree, behind, idle, ready, running, done or count";
+    let what = "expect what? accepted, taken, refused, fires, agree, behind, \
+                idle, ready, running, done or count";
     let word = reader.needed(what)?;
     Ok(match word.text {
         "accepted" => Expectation::Accepted,
@@ -376,6 +378,10 @@ fn expectation(plant: &Plant, reader: &mut Reader) -> Result<Expectation, Fault>
             None => None,
             Some(word) => Some(number(word, "refusal's number")?),
         }),
+        "fires" => {
+            let word = reader.needed("which transition fires?")?;
+            Expectation::Fires(number(word, "transition's number")?)
+        }
         "agree" => Expectation::Agree,
         "behind" => {
             let word = reader.needed("behind by how many telegrams?")?;

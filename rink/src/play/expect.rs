@@ -25,6 +25,10 @@ impl Game {
                     _ => false,
                 })
             }
+            Expectation::Fires(number) => {
+                let wanted = firing(number);
+                self.came(&wanted, |outcome| outcome == Outcome::Fires(number))
+            }
             Expectation::Agree => (self.behind() == 0 && self.agree(), self.agreement_words()),
             Expectation::Behind(number) => {
                 let behind = number_of(u64::from(self.behind()), "telegram");
@@ -52,6 +56,7 @@ impl Game {
             Outcome::Accepted(_) => "an accepted move".to_string(),
             Outcome::Taken(number) => format!("a taken telegram {number}"),
             Outcome::Refused(number) => format!("a refusal {number}"),
+            Outcome::Fires(number) => firing(*number),
         });
         let came = list_words(came.collect());
         let words = format!("expected {wanted}, but there was {came}");
@@ -71,6 +76,10 @@ impl Game {
             behind => format!("the controller is {} behind", number_of(behind, "telegram")),
         }
     }
+}
+
+fn firing(transition: usize) -> String {
+    format!("a firing of transition {transition}")
 }
 
 fn numbered(what: &str, number: Option<u32>) -> String {

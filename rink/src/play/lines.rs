@@ -72,12 +72,12 @@ pub fn wrapped(text: &str) -> Vec<String> {
     lines.iter().map(|line| shortened(line, COLUMNS)).collect()
 }
 
-/// The words of a text; `(row 4)` and `(refusal 33)` stay together.
+/// The words of a text; `(row 4)`, `(refusal 33)` and `transition 3` stay together.
 fn whole_words(text: &str) -> Vec<String> {
     let mut words: Vec<String> = Vec::new();
     for word in text.split(' ') {
         match words.last_mut() {
-            Some(last) if last == "(row" || last == "(refusal" => {
+            Some(last) if matches!(last.as_str(), "(row" | "(refusal" | "transition") => {
                 last.push(' ');
                 last.push_str(word);
             }

@@ -74,6 +74,8 @@ pub enum Outcome {
     Taken(u32),
     /// An end refused with this number.
     Refused(u32),
+    /// The transition that the move accepted just before fires, or the telegram taken just before fired.
+    Fires(usize),
 }
 
 /// Both ends and the bus between them.

@@ -1,5 +1,5 @@
 //! Single transitions of the controller's net. Whether one is enabled and what it does is asked of the proved step too, on a net that has
-//! this transition alone.
+//! this transition alone. Which one a step of the panel fires is asked of the proved call that knows it from the diagram's state.
 
 use super::Game;
 use effbd::{refusal, Move, Refusal};
@@ -33,8 +33,20 @@ impl Game {
         })
     }
 
-    /// The transition of a label whose firing leads from a state of the net to the marks that it has now.
-    pub fn fired(&self, label: u16, before: &[u16]) -> Option<usize> {
+    /// The transition that a FUNCTION's step at this state of the panel fires; none of other moves, which the proved call leaves out.
+    pub fn fires(&self, made: Move, state: &[u16]) -> Option<usize> {
+        let Move::Step(row) = made else {
+            return None;
+        };
+        let named = effbd::transition(&self.file, state, row).ok();
+        named.map(|number| number as usize)
+    }
+
+    /// The transition of a step's label whose firing leads from a state of the net to the marks that it has now.
+    pub fn fired(&self, made: Move, before: &[u16]) -> Option<usize> {
+        let Move::Step(label) = made else {
+            return None;
+        };
         let now = &self.controller.state[..self.net.marks.len()];
         let mut numbers = 0..self.net.transitions.len();
         numbers.find(|&number| {

@@ -123,14 +123,20 @@ pub fn busy_words(plant: &Plant, state: DiagramState, row: usize) -> String {
     format!("{} {words}", row_words(plant, row))
 }
 
-/// What a step does to the panel's state: to its row, to those that it kills or makes ready or done, to the items. A wait only lets time pass.
+/// What a step does to the panel's state: to its row, to those that it kills or makes ready or done, to the items; of a FUNCTION's also the
+/// transition that it fires. A wait only lets time pass.
 pub fn effect_words(game: &Game, made: Move, before: &[u16], after: &[u16]) -> Option<String> {
     let Move::Step(row) = made else {
         return None;
     };
+    let fires = game.fires(made, before);
     let (plant, before, after) = (&game.plant, game.reading(before), game.reading(after));
     let row = usize::from(row);
-    let mut words = vec![step_words(plant, row, before, after)];
+    let own = step_words(plant, row, before, after);
+    let mut words = vec![match fires {
+        None => own,
+        Some(number) => format!("{own}, fires transition {number}"),
+    }];
     words.extend(kill_words(plant, row, before, after));
     let mut ready = became(before, after, Activity::Ready);
     let end = ready.pop_if(|row| plant.rows[*row].part == Part::End);
