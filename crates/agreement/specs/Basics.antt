@@ -9,10 +9,12 @@ use borrow.Author.Tests.{ltb-true, ltb-false, eqb-true, eq-eqb}
 use Rattle.effbd.specs.Diagrams.{Diagram, Kind, Row, and-close, and-open, branch, end, function, it-close, it-open, kind, kindOf, loop-exit, lp-close, lp-open, numberOf, or-close, or-open, plain, rowCount, sameKind}
 use Rattle.ranges.specs.Tests.{decide, clash}
 
+-- a number that no row has stands for an END
+pub kind-past : (d : Diagram) (r : ℕ) → rowCount d ≤ r → kind d r ≡ end
+kind-past d r l = ap (λ (x : Row). x .kind) (List·getD-eq-default (d .rows) (plain end) l)
+
 pub kind-in : (d : Diagram) (r : ℕ) → kind d r ≢ end → r < rowCount d
-kind-in d r h = decide (ltb r (rowCount d)) (λ q. ltb-true r (rowCount d) q)
-    (λ q. let l : rowCount d ≤ r = ltb-false r (rowCount d) q in
-    absurd (h (ap (λ (x : Row). x .kind) (List·getD-eq-default (d .rows) (plain end) l))))
+kind-in d r h = decide (ltb r (rowCount d)) (λ q. ltb-true r (rowCount d) q) (λ q. absurd (h (kind-past d r (ltb-false r (rowCount d) q))))
 
 of-code : (k : Kind) → kindOf (numberOf k) ≡ k
 unfolding kindOf

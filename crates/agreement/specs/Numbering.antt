@@ -6,12 +6,12 @@ use mathlib.Core.Bool.{Bool, true, false, not, cond, _&&_}
 use mathlib.Core.List.{List, [], _∷_, _++_, map, append-assoc, map-append}
 use native.Mathlib.Omega.{arith}
 use native.Mathlib.Nat.{add-zero, add-suc, suc-add, zero-add}
-use lib.ListN.{length, getD, length-append, List·getD-append, List·getD-eq-default}
+use lib.ListN.{length, getD, length-append, List·getD-append}
 use lib.Seq.{getD-append-add}
 use lib.Dec.{leb, ltb, eqb}
 use borrow.Author.Tests.{ltb-true, ltb-false, eqb-true, eqb-false, lt-ltb, le-ltb, eq-eqb, ne-eqb}
 use Rattle.effbd.specs.Answers.{Outcome, accepted, refused}
-use Rattle.effbd.specs.Diagrams.{Diagram, Row, end, kind, plain, rowCount}
+use Rattle.effbd.specs.Diagrams.{Diagram, rowCount}
 use Rattle.effbd.specs.Counts.{countTotal}
 use Rattle.effbd.specs.Firing.{Effect, NetState, covers, fire, fireLowest, firedState, letsPass, netWait, noEffect, takenAndCleared, tickedState, overflows}
 use Rattle.effbd.specs.Layout.{Count, P, Place, Q, R, placeOf}
@@ -19,6 +19,7 @@ use Rattle.effbd.specs.Patterns.{Name, Pattern, names, noPattern, patterns, pat
 use Rattle.effbd.specs.Ranges.{allBelow, only, tabulate, least}
 use Rattle.ranges.specs.Tests.{and-intro, and-left, and-right, clash, decide, not-not}
 use Rattle.ranges.specs.RangeLaws.{all-elim, all-intro, only-refl, least-ext, all-ext, getD-tab, length-tab, tab-ext}
+use Rattle.agreement.specs.Basics.{kind-past}
 use Rattle.agreement.specs.Named.{NamedState, after, allPlaces, behaviour, enabled, flatNet, lift, namedFire, namedLets, namedStep, namedStepAt, namedTick, namedWait, lowestOver}
 use Rattle.agreement.specs.Matching.{RowPlace}
 use Rattle.agreement.specs.Tokens.{Real, places-elim, places-intro}
@@ -319,14 +320,11 @@ module _ (d : Diagram) where
     step-flat = decide (ltb r (rowCount d))
         (λ e. let l = ltb-true r (rowCount d) e in ap (λ x. go x 0) (sym (append-nil (map (lift d) (names d (rowCount d))))) ∙ rows-upto (rowCount d) l l [] (λ j. refl))
         (λ e. let l : rowCount d ≤ r = ltb-false r (rowCount d) e in
-        ap (λ x. go x 0) (sym (append-nil (map (lift d) (names d (rowCount d))))) ∙ (rows-before (rowCount d) l [] ∙ sym (ap (λ k. ans (namedStepAt d (patternsAs d k r) 0 r n)) (gone l))))
+        ap (λ x. go x 0) (sym (append-nil (map (lift d) (names d (rowCount d))))) ∙ (rows-before (rowCount d) l [] ∙ sym (ap (λ k. ans (namedStepAt d (patternsAs d k r) 0 r n)) (kind-past d r l))))
       where
         append-nil : (l : List Effect) → l ++ [] ≡ l
         append-nil [] = refl
         append-nil (x ∷ xs) = ap (λ y. x ∷ y) (append-nil xs)
-
-        gone : rowCount d ≤ r → kind d r ≡ end
-        gone l = ap (λ (x : Row). x .kind) (List·getD-eq-default (d .rows) (plain end) l)
 
   -- waits
   module _ (n : ℕ) (m : NamedState) where

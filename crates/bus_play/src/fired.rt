@@ -27,6 +27,7 @@ fn by_telegram(net: &[u8], follower: &[u16], bytes: &[u8]) -> Answer
     Answer::Refused(refusals::CODE_OFF, 0)
 }
 
+// Of either call, as its record says.
 pub(crate) fn by_call(
     file: &[u8],
     net: &[u8],

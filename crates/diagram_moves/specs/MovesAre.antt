@@ -5,12 +5,12 @@ use mathlib.Core.Bool.{Bool, true, false, not, cond, _&&_, _||_}
 use mathlib.Core.List.{List}
 use native.Mathlib.Numerals.{add-one}
 use native.Mathlib.Omega.{arith}
-use lib.ListN.{length, set, List·getD-eq-default}
+use lib.ListN.{length, set}
 use lib.Dec.{leb, ltb, eqb}
 use borrow.Author.Tests.{ltb-true, ltb-false, eqb-true, eq-eqb, not-true}
 use Rattle.effbd.specs.Ranges.{allBelow, only, within}
 use Rattle.effbd.specs.Answers.{accepted, refused}
-use Rattle.effbd.specs.Diagrams.{Diagram, Kind, Row, function, and-open, branch, and-close, or-open, or-close, it-open, it-close, lp-open, lp-close, loop-exit, end, plain, numberOf, sameKind, row, rowCount, itemTotal, isTrigger, kind, isKind}
+use Rattle.effbd.specs.Diagrams.{Diagram, Kind, function, and-open, branch, and-close, or-open, or-close, it-open, it-close, lp-open, lp-close, loop-exit, end, numberOf, sameKind, row, rowCount, itemTotal, isTrigger, kind, isKind}
 use Rattle.effbd.specs.Counts.{Tally, copy, countTotal, itemOf, shared, tally}
 use Rattle.effbd.specs.Nesting.{owner, close, branchOf, loop, isClose}
 use Rattle.effbd.specs.Layout.{places}
@@ -20,7 +20,7 @@ use Rattle.diagram_table.specs.Held.{Holds, HoldsCopies, HoldsRanks, HoldsUses}
 use Rattle.diagram_table.proofs.HeldCells.{owner-in}
 use Rattle.ranges.specs.Tests.{decide, clash, and-left, and-right, or-split, or-left, or-right, or-false-right}
 use Rattle.ranges.specs.RangeLaws.{all-intro, all-elim, all-ext, all-fail, all-find}
-use Rattle.agreement.specs.Basics.{kind-in, not-kind, same-eq}
+use Rattle.agreement.specs.Basics.{kind-in, kind-past, not-kind, same-eq}
 use Rattle.agreement.specs.Structure.{opens, Laws}
 use Rattle.agreement.specs.NestingLaws.{laws}
 use Rattle.agreement.specs.TokenSteps.{branch-kind, branch-owner}
@@ -400,7 +400,7 @@ module _ (d : Diagram) (H : Held d) (table : List ℕ) (h : Holds d (rowCount d)
   -- a number that no row has
   beyond : (x : ℕ) → rowCount d ≤ x → refused 22 x ≡ wordsOutcome d (step d x s)
   unfolding wordsOutcome
-  beyond x c = ap (λ (w : Row). wordsOutcome d (stepAs d (w .kind) x s)) (sym (List·getD-eq-default (d .rows) (plain end) c))
+  beyond x c = ap (λ (k : Kind). wordsOutcome d (stepAs d k x s)) (sym (kind-past d x c))
 
   code-is : SmallCounts s → statePasses d s ≡ true → (code x : ℕ)
       → tableMove table (rowCount d) (itemTotal d) file l code x ≡ wordsOutcome d (move d (moveOf code x) s)

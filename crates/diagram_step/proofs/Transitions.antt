@@ -6,18 +6,19 @@ use mathlib.Core.List.{List}
 use mathlib.Core.Logic.{_≢_}
 use native.Mathlib.Omega.{arith}
 use lib.Dec.{ltb, eqb}
-use lib.ListN.{length, getD, List·getD-eq-default}
+use lib.ListN.{length, getD}
 use borrow.Author.Tests.{ne-eqb, lt-ltb, le-ltb, ltb-true, ltb-false}
 use Rattle.ranges.specs.Tests.{decide}
 use Rattle.effbd.specs.Answers.{accepted, refused}
 use Rattle.effbd.specs.Records.{areBytes}
-use Rattle.effbd.specs.Diagrams.{Diagram, Row, end, function, numberOf, isKind, plain, rowCount}
+use Rattle.effbd.specs.Diagrams.{Diagram, rowCount}
 use Rattle.effbd.specs.Nesting.{readDiagram}
 use Rattle.effbd.specs.Ranges.{allBelow}
 use Rattle.effbd.specs.Counts.{countTotal}
 use Rattle.effbd.specs.Layout.{places}
 use Rattle.effbd.specs.States.{activityAt, stateOf, statePasses}
 use Rattle.effbd.specs.Transitions.{checkedNumber, functionNumber, transitionDiagram}
+use Rattle.agreement.specs.Basics.{kind-past}
 use Rattle.agreement.specs.AcceptedFiles.{held}
 use Rattle.agreement.specs.Sources.{counts-are}
 use Rattle.copies.specs.Promised.{CopyTotal}
@@ -54,10 +55,6 @@ module _ (table : List ℕ) (rows : ℕ) (words : List ℕ) (r : ℕ) where
       unfolding functionNumberIn
       numbered n e = rw (lt-ltb r rows l, ← is, f, ← stands, lt-ltb 0 a (omega arith), e)
 
--- a row that the diagram does not have is no FUNCTION
-no-function : (d : Diagram) (r : ℕ) → rowCount d ≤ r → isKind d function r ≡ false
-no-function d r l = ap (λ (w : Row). eqb (numberOf (w .kind)) (numberOf function)) (List·getD-eq-default (d .rows) (plain end) l)
-
 module _ (file : List ℕ) (rows items : ℕ) (table : List ℕ) (h : HoldsFile file rows items table) where
   abbrev d : Diagram
   d = h .diagram
@@ -67,7 +64,7 @@ module _ (file : List ℕ) (rows items : ℕ) (table : List ℕ) (h : HoldsFile 
   number-is words r = decide (ltb r rows)
       (λ y. let l : r < rowCount d = omega (arith, ltb-true r rows y, h .holds .records .rowsAre) in
       rw (y, lt-ltb r (rowCount d) l, kind-cell d rows items table (h .holds) r l, first-is d rows items table (h .holds) r (omega arith) .0))
-      (λ y. let l : rowCount d ≤ r = omega (arith, ltb-false r rows y, h .holds .records .rowsAre) in rw (y, no-function d r l))
+      (λ y. let l : rowCount d ≤ r = omega (arith, ltb-false r rows y, h .holds .records .rowsAre) in rw (y, kind-past d r l))
 
   -- the check of the state, then the number
   module _ (words : List ℕ) (r : ℕ) {b : Bool} (c : Checked file words b) where

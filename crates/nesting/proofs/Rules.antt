@@ -5,12 +5,13 @@ use mathlib.Core.Bool.{Bool, true, false, not, cond, _&&_, _||_, and-true, and-f
 use mathlib.Core.List.{List, [], _∷_}
 use native.Mathlib.Omega.{arith}
 use native.Mathlib.Numerals.{add-one}
-use lib.ListN.{length, List·getD-eq-default}
+use lib.ListN.{length}
 use lib.Dec.{leb, ltb, eqb}
 use borrow.Author.Tests.{ltb-true, ltb-false, eqb-true, eq-eqb, ne-eqb}
-use Rattle.effbd.specs.Diagrams.{Kind, function, and-open, branch, and-close, or-open, or-close, it-open, it-close, lp-open, lp-close, loop-exit, end, numberOf, sameKind, Row, plain, Diagram, rowCount, row, kind, isKind, kills}
+use Rattle.effbd.specs.Diagrams.{Kind, function, and-open, branch, and-close, or-open, or-close, it-open, it-close, lp-open, lp-close, loop-exit, end, numberOf, sameKind, Diagram, rowCount, row, kind, isKind, kills}
 use Rattle.effbd.specs.Nesting.{Frame, push, turnTo, pop, passing, innermostOpen, stack, innermostIs, someOpen, noneOpen, twoBranches, follows, standsAs, nestingBroken, killerEmpty, exitMisplaced, thirteenthOpen, nestingFault}
 use Rattle.ranges.specs.Tests.{decide, clash, and-left, and-right, or-false-left}
+use Rattle.agreement.specs.Basics.{kind-past}
 use Rattle.nesting.specs.declared.Part.{Part}
 use Rattle.nesting.specs.declared.Part.the-variants.{Opens, Turns, Closes, Stays}
 use Rattle.nesting.specs.declared.Open.{Open}
@@ -212,7 +213,7 @@ module _ (d : Diagram) where
     unfolding kindIn
     kind-is q = decide (ltb q rows) (λ e. rw e (k .cell q (ltb-true q rows e)))
         (λ e. let past : rowCount d ≤ q = omega (arith, k .count, ltb-false q rows e) in
-        rw e (sym (ap (λ (r : Row). numberOf (r .kind)) (List·getD-eq-default (d .rows) (plain end) past))))
+        rw e (sym (ap numberOf (kind-past d q past))))
 
     -- THEOREM: behind an AND open or OR open the code's fault is the definition's
     pub open-fault-is : (q : ℕ) → q + 1 < rows → isAndOr (kindIn table rows q) ≡ true → partOf (numberOf (kind d q)) ≡ Opens

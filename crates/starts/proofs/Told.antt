@@ -1,23 +1,23 @@
 -- What the call answers, and what it leaves in the number lent for t: at a file's refusal, at 40 and 41, at 42, and where the log stood.
-use Prim.Native.Nat.{ℕ, zero, suc, _+_, _-_, _*_, _%_, _≤_}
+use Prim.Native.Nat.{ℕ, zero, suc, _+_, _%_, _≤_}
 use mathlib.Core.Path.{_≡_, refl, sym, _∙_, ap, ap₂, subst}
 use mathlib.Core.Logic.{_≢_}
 use mathlib.Core.Bool.{Bool, true, false, not, cond, _&&_}
 use mathlib.Core.List.{List, [], _++_, append-nil}
 use native.Mathlib.Omega.{arith}
-use lib.ListN.{length, take, drop, drop-of-length-le, List·getD-eq-default}
+use lib.ListN.{length, drop, drop-of-length-le}
 use lib.Dec.{leb, ltb, eqb}
 use borrow.Author.Tests.{eqb-true, ne-eqb, leb-true, ltb-true, ltb-false}
 use Rattle.effbd.specs.Answers.{Outcome, accepted, refused, isAccepted, unless, andThen, refusalNumber, refusalValue}
-use Rattle.effbd.specs.Diagrams.{Diagram, Row, function, sameKind, plain, end, row, kind, isKind}
+use Rattle.effbd.specs.Diagrams.{Diagram, function, end, row, kind, isKind}
 use Rattle.effbd.specs.Nesting.{readDiagram}
-use Rattle.effbd.specs.Layout.{places}
 use Rattle.effbd.specs.States.{freshWords}
 use Rattle.effbd.specs.Logs.{Setpoint, setpoints, moveCount, mostMoves, logFault, played}
 use Rattle.effbd.specs.Starts.{Start, startsFrom, starts, timesOf, Busiest, busiest, startsOf, startsToldAs, logStarts}
 use Rattle.ranges.specs.Tests.{decide, clash, and-right}
+use Rattle.agreement.specs.Basics.{kind-past}
 use Rattle.diagram_table.specs.Cells.{kindIn}
-use Rattle.diagram_table.specs.Held.{HoldsPlant, FreshOf}
+use Rattle.diagram_table.specs.Held.{HoldsPlant}
 use Rattle.log_laws.specs.LogMoves.{setpoints-many}
 use Rattle.log_laws.specs.Spans.{Most, most-one, log-busiest}
 use Rattle.logs.specs.Walk.{Walk}
@@ -58,7 +58,7 @@ module _ (file log : List ℕ) (r before : ℕ) where
     unfolding notFunction
     function-is = decide (ltb r rows)
         (λ y. rw (y, h .held .holds .records .kinds r (ltb-true r rows y)))
-        (λ y. rw y (sym (ap (λ (w : Row). cond (sameKind (w .kind) function) 0 41) (List·getD-eq-default (d .rows) (plain end) (let z = ltb-false r rows y in let e = h .held .holds .records .rowsAre in omega arith)))))
+        (λ y. rw (y, kind-past d r (let z = ltb-false r rows y in let e = h .held .holds .records .rowsAre in omega arith)))
 
     rest : Outcome (List Start)
     rest = andThen (played d log) (λ last. accepted (starts d r log))
