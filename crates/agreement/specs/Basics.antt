@@ -6,7 +6,7 @@ use mathlib.Core.Bool.{true, false}
 use lib.ListN.{List·getD-eq-default}
 use lib.Dec.{ltb}
 use borrow.Author.Tests.{ltb-true, ltb-false, eqb-true, eq-eqb}
-use Rattle.effbd.specs.Diagrams.{Diagram, Kind, Row, and-close, and-open, branch, end, function, it-close, it-open, kind, kindOf, loop-exit, lp-close, lp-open, numberOf, or-close, or-open, plain, rowCount, sameKind}
+use Rattle.effbd.specs.Diagrams.{Diagram, Kind, Row, and-close, and-open, box-close, box-exit, box-open, branch, end, function, it-close, it-open, kind, kindOf, loop-exit, lp-close, lp-open, numberOf, or-close, or-open, plain, rowCount, sameKind}
 use Rattle.ranges.specs.Tests.{decide, clash}
 
 -- a number that no row has stands for an END
@@ -30,6 +30,9 @@ of-code lp-open = refl
 of-code lp-close = refl
 of-code loop-exit = refl
 of-code end = refl
+of-code box-open = refl
+of-code box-close = refl
+of-code box-exit = refl
 
 pub same-eq : (k j : Kind) → sameKind k j ≡ true → k ≡ j
 same-eq k j e = sym (of-code k) ∙ (ap kindOf (eqb-true (numberOf k) (numberOf j) e) ∙ of-code j)

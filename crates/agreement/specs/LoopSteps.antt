@@ -1,6 +1,6 @@
--- IT open and LE.
+-- IT open, LE and EXIT.
 use Prim.Native.Nat.{ℕ, suc, _+_, _-_, _≤_, _<_, zero-le}
-use mathlib.Core.Path.{_≡_, refl, sym, _∙_}
+use mathlib.Core.Path.{_≡_, refl, sym, _∙_, ap}
 use mathlib.Core.Logic.{_≢_}
 use mathlib.Core.Bool.{Bool, true, false, cond, _&&_, _||_}
 use mathlib.Core.List.{[], _∷_}
@@ -10,11 +10,11 @@ use lib.Dec.{ltb, eqb}
 use lib.ListN.{getD}
 use borrow.Author.Tests.{ltb-true, ltb-false, eqb-true, eqb-false}
 use Rattle.effbd.specs.Answers.{accepted, refused}
-use Rattle.effbd.specs.Diagrams.{Diagram, and-open, branch, end, isKind, it-open, kind, loop-exit, row, rowCount}
+use Rattle.effbd.specs.Diagrams.{Diagram, and-open, box-exit, branch, end, isKind, it-open, kind, loop-exit, row, rowCount}
 use Rattle.effbd.specs.Image.{imageMark, readyOrDone}
 use Rattle.effbd.specs.Layout.{Count, P, Place, Q, R, byPlace}
 use Rattle.effbd.specs.Moves.{stepAs}
-use Rattle.effbd.specs.Nesting.{close, inLoop, loop}
+use Rattle.effbd.specs.Nesting.{box, close, inLoop, loop, outlet, owner, scenario}
 use Rattle.effbd.specs.Patterns.{Pattern, atOnce, clearsRows, marksP, noPattern, none, oneAt, patternsAs, restoresR}
 use Rattle.effbd.specs.Ranges.{either, nobody, only}
 use Rattle.effbd.specs.States.{State, enter, entered, enteredRow, killed, makeIdle, setTurns}
@@ -25,7 +25,7 @@ use Rattle.agreement.specs.Invariant.{Inv, Sound, inv-idle, inv-with, so
 use Rattle.agreement.specs.Matching.{Agree, Passing, Valid, goes, passing-fires, stays}
 use Rattle.agreement.specs.Named.{namedFire, namedImage, namedStepAt}
 use Rattle.agreement.specs.Structure.{Laws, side}
-use Rattle.agreement.specs.TokenSteps.{agree-leave, live-zero, sound-enter, sound-one, after-close, taken-P, taken-clock}
+use Rattle.agreement.specs.TokenSteps.{agree-leave, branch-kind, branch-owner, live-zero, sound-enter, sound-one, after-close, taken-P, taken-clock}
 use Rattle.agreement.specs.Tokens.{Real, enabled-yes}
 
 module _ (d : Diagram) (L : Laws d) where
@@ -177,3 +177,17 @@ module _ (d : Diagram) (L : Laws d) where
   pub agree-le : (r : ℕ) (s : State) → Inv d s → kind d r ≡ loop-exit → Agree d (Inv d) s r (stepAs d loop-exit r s) (namedStepAt d (patternsAs d loop-exit r) 0 r (namedImage d s))
   agree-le r s i k = agree-leave d L r (suc (close d (loop d r))) (inLoop d r) s i (kind-in d r (not-kind d r k end refl)) (not-kind d r k branch refl) (L .looped r k .1)
       (λ x Y w y z. after-close d L (loop d r) Y (rw (L .looped r k .0)) ∙ sym (L .exit r x Y k w y z))
+
+  -- EXIT: the row after its outlet's BRANCH stands where the box stands
+  pub agree-exit : (r : ℕ) (s : State) → Inv d s → kind d r ≡ box-exit → Agree d (Inv d) s r (stepAs d box-exit r s) (namedStepAt d (patternsAs d box-exit r) 0 r (namedImage d s))
+  agree-exit r s i k = agree-leave d L r (suc b) (scenario d (box d r)) s i (kind-in d r (not-kind d r k end refl)) (not-kind d r k branch refl) (L .boxed r k)
+      (λ x Y w y z. L .seq b Y (not-kind d b kb and-open refl) (not-kind d b kb end refl) ∙ (L .otherIn b Y kb (rw (o, L .led r k .0)) ∙ (ap (side d Y) o ∙ sym (L .escape r x Y k w y z))))
+    where
+      b : ℕ
+      b = outlet d r
+
+      kb : kind d b ≡ branch
+      kb = branch-kind d (box d r) b (L .led r k .1)
+
+      o : owner d b ≡ box d r
+      o = branch-owner d (box d r) b (L .led r k .1)

@@ -5,7 +5,7 @@ use mathlib.Core.Logic.{_≢_}
 use mathlib.Core.Bool.{Bool, true, false, cond, _&&_}
 use native.Mathlib.Omega.{arith}
 use borrow.Author.Tests.{eqb-true}
-use Rattle.effbd.specs.Diagrams.{Diagram, Kind, and-close, and-open, branch, end, function, isKind, it-close, it-open, item, kind, loop-exit, lp-close, lp-open, or-close, or-open, row}
+use Rattle.effbd.specs.Diagrams.{Diagram, Kind, and-close, and-open, box-close, box-exit, box-open, branch, end, function, isKind, it-close, it-open, item, kind, loop-exit, lp-close, lp-open, or-close, or-open, row}
 use Rattle.effbd.specs.Counts.{initialCount}
 use Rattle.effbd.specs.Image.{imageMark}
 use Rattle.effbd.specs.Layout.{Count, P, Place, Q, R}
@@ -19,7 +19,7 @@ use Rattle.agreement.specs.Basics.{kind-in, not-kind, same-eq}
 use Rattle.agreement.specs.Counts.{most-initial}
 use Rattle.agreement.specs.FunctionSteps.{agree-fun}
 use Rattle.agreement.specs.Invariant.{Inv, sound-inv}
-use Rattle.agreement.specs.LoopSteps.{agree-it, agree-le}
+use Rattle.agreement.specs.LoopSteps.{agree-exit, agree-it, agree-le}
 use Rattle.agreement.specs.Matching.{Agree}
 use Rattle.agreement.specs.Named.{namedFresh, namedImage, namedMove, namedStep, namedStepAt}
 use Rattle.agreement.specs.Nested.{wellNested}
@@ -46,7 +46,7 @@ module _ (d : Diagram) (L : Laws d) (r : ℕ) (s : State) (i : Inv d s) where
   by-kind branch e = decide (isKind d or-open (owner d r))
       (λ f. let o = same-eq (kind d (owner d r)) or-open f in
       rw f (agree-on d L r (owner d r) (suc r) s i (kind-in d (owner d r) (not-kind d (owner d r) o end refl)) (not-kind d (owner d r) o branch refl)
-      (λ X. L .seq r X (not-kind d r e and-open refl) (not-kind d r e end refl) ∙ L .orIn r X e o)))
+      (λ X. L .seq r X (not-kind d r e and-open refl) (not-kind d r e end refl) ∙ L .otherIn r X e (rw o))))
       (λ f. rw f (refl, refl))
   by-kind and-close e = agree-close d L r s i e
   by-kind or-open e = (refl, refl)
@@ -57,6 +57,9 @@ module _ (d : Diagram) (L : Laws d) (r : ℕ) (s : State) (i : Inv d s) where
   by-kind lp-close e = again (not-kind d r e end refl) (not-kind d r e branch refl) (rw e)
   by-kind loop-exit e = agree-le d L r s i e
   by-kind end e = (refl, refl)
+  by-kind box-open e = on (not-kind d r e end refl) (not-kind d r e branch refl) (not-kind d r e and-open refl)
+  by-kind box-close e = on (not-kind d r e end refl) (not-kind d r e branch refl) (not-kind d r e and-open refl)
+  by-kind box-exit e = agree-exit d L r s i e
 
   pub steps-agree : Agree d (Inv d) s r (step d r s) (namedStep d r (namedImage d s))
   steps-agree = by-kind (kind d r) refl

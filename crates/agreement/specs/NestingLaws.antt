@@ -2,20 +2,21 @@
 use Prim.Native.Nat.{ℕ, zero, suc, _+_, _-_, _≤_, _<_}
 use mathlib.Core.Path.{_≡_, refl, sym, _∙_, ap, subst}
 use mathlib.Core.Logic.{_≢_, _⊎_, inl, inr}
-use mathlib.Core.Bool.{Bool, true, false, not, _&&_, _||_, and-false}
+use mathlib.Core.Bool.{Bool, true, false, not, _&&_, _||_, and-false, cond}
 use mathlib.Core.List.{List, [], _∷_}
 use native.Mathlib.Omega.{arith}
 use native.Mathlib.Nat.{add-zero, add-suc}
 use lib.Dec.{leb, ltb, eqb}
-use borrow.Author.Tests.{ltb-true, leb-true, leb-false, eqb-true, le-leb, eq-eqb, ne-eqb, lt-ltb}
-use Rattle.effbd.specs.Diagrams.{Diagram, Kind, and-close, and-open, branch, end, function, isKind, it-close, it-open, kind, loop-exit, lp-close, lp-open, or-close, or-open, rowCount, sameKind}
-use Rattle.effbd.specs.Nesting.{Frame, branchOf, close, inAndOr, inLoop, innermost, innermostIs, innermostOpen, isClose, latestBranch, loop, noneOpen, owner, passing, pop, push, someOpen, stack, turnTo, twoBranches}
+use borrow.Author.Tests.{ltb-true, leb-true, leb-false, eqb-true, le-leb, eq-eqb, ne-eqb, lt-ltb, ltb-false, le-ltb}
+use Rattle.effbd.specs.Diagrams.{Diagram, Kind, and-close, and-open, box-close, box-exit, box-open, branch, end, function, isKind, it-close, it-open, kind, loop-exit, lp-close, lp-open, or-close, or-open, rowCount, sameKind}
+use Rattle.effbd.specs.Frames.{Frame, Role, branchCount, closing, innermostOpen, isClosing, isOpening, latestBranch, opening, passing, pop, push, role, staying, turnTo, turning}
+use Rattle.effbd.specs.Nesting.{box, branchOf, close, firstOutlet, inAndOr, inLoop, inScenario, innermost, innermostIs, innermostScenario, isClose, leads, loop, noneOpen, outlet, owner, scenario, someOpen, someScenario, stack}
 use Rattle.effbd.specs.Ranges.{allBelow, between, only}
 use Rattle.effbd.specs.States.{endsKiller, enteredAs, enteredRow}
 use Rattle.ranges.specs.Tests.{and-intro, and-left, and-right, clash, decide, or-false-left, or-false-right, or-left, or-neither, or-right, or-split}
 use Rattle.ranges.specs.RangeLaws.{all-elim, least-found, only-refl}
 use Rattle.agreement.specs.Basics.{eq-same, kind-in, ne-same, not-kind, same-eq}
-use Rattle.agreement.specs.Nested.{mayStand, wellNested}
+use Rattle.agreement.specs.Nested.{leading, mayStand, walk, walked, wellNested}
 use Rattle.agreement.specs.Structure.{Fine, Laws, around, opens, side, sideIn}
 
 module _ (d : Diagram) where
@@ -43,7 +44,7 @@ module _ (d : Diagram) where
         g .1,
       )
 
-  module _ (acc : wellNested d ≡ true) where
+  module _ (acc : walked d ≡ true) where
     rule : (q : ℕ) → q < rowCount d → mayStand d (kind d q) q (stack d q) ≡ true
     rule = all-elim (rowCount d) (λ q. mayStand d (kind d q) q (stack d q))
         (and-left (allBelow (rowCount d) (λ q. mayStand d (kind d q) q (stack d q))) (ltb 0 (rowCount d) && isKind d end (rowCount d - 1)) acc)
@@ -87,7 +88,7 @@ module _ (d : Diagram) where
     popped q [] g = tt
     popped q (f ∷ fs) g = weaken (f .opened) (suc q) fs (omega (arith, g .0 .below)) (g .1)
 
-    passed : (k : Kind) (q : ℕ) (fs : List Frame) → kind d q ≡ k → fs ≡ stack d q → Good q fs → Good (suc q) (passing k q fs)
+    passed : (k : Kind) (q : ℕ) (fs : List Frame) → kind d q ≡ k → fs ≡ stack d q → Good q fs → Good (suc q) (passing (role k) q fs)
     passed function q fs k e g = weaken q (suc q) fs (omega arith) g
     passed and-open q fs k e g = pushed q fs e (rw k) (λ a. same-eq (kind d (suc q)) branch (ruled q and-open k refl)) g
     passed branch q fs k e g = turned q fs e k g
@@ -100,6 +101,9 @@ module _ (d : Diagram) where
     passed lp-close q fs k e g = popped q fs g
     passed loop-exit q fs k e g = weaken q (suc q) fs (omega arith) g
     passed end q fs k e g = weaken q (suc q) fs (omega arith) g
+    passed box-open q fs k e g = pushed q fs e (rw k) (λ a. absurd (not-kind d q k and-open refl (same-eq (kind d q) and-open a))) g
+    passed box-close q fs k e g = popped q fs g
+    passed box-exit q fs k e g = weaken q (suc q) fs (omega arith) g
 
     pub good : (q : ℕ) → Good q (stack d q)
     unfolding stack
@@ -173,59 +177,60 @@ module _ (d : Diagram) where
         go (f ∷ fs) h = (refl, same-eq (kind d (f .opened)) k h)
 
     -- a row that closes
-    close-cases : {C : Type 0} (r : ℕ) → isClose d r ≡ true → (kind d r ≡ and-close → C) → (kind d r ≡ or-close → C) → (kind d r ≡ it-close → C) → (kind d r ≡ lp-close → C) → C
-    close-cases r h a o i l = or-split (isKind d and-close r || isKind d or-close r || isKind d it-close r) (isKind d lp-close r) h
-        (λ h₁. or-split (isKind d and-close r || isKind d or-close r) (isKind d it-close r) h₁
-        (λ h₂. or-split (isKind d and-close r) (isKind d or-close r) h₂ (λ e. a (same-eq (kind d r) and-close e)) (λ n e. o (same-eq (kind d r) or-close e)))
-        (λ n e. i (same-eq (kind d r) it-close e)))
-        (λ n e. l (same-eq (kind d r) lp-close e))
-
-    pub record Shut (r : ℕ) (c o : Kind) : Type 0 where
-      pub kindly : kind d r ≡ c
-      pub own : kind d (owner d r) ≡ o
+    pub record Shut (r : ℕ) : Type 0 where
+      pub top : Top r
       pub opener : opens d (owner d r) ≡ true
       pub earlier : owner d r < r
       pub after : stack d (suc r) ≡ stack d (owner d r)
 
-    shutting : (r : ℕ) (c o : Kind) → kind d r ≡ c → ((fs : List Frame) → passing c r fs ≡ pop fs) → innermostIs d o (stack d r) ≡ true → Shut r c o
+    pub shutting : (r : ℕ) → isClose d r ≡ true → Shut r
     unfolding stack
-    shutting r c o e p h = record {
-      kindly = e;
-      own = topIs-owner r o h .1;
-      opener = rw (owner-top r t) (t .ok .opener);
-      earlier = rw (owner-top r t) (t .ok .below);
-      after = rw (e, owner-top r t) (p (stack d r) ∙ (ap pop (t .here) ∙ t .ok .tail));
-    }
+    shutting r h = by (kind d r) refl h
       where
-        t : Top r
-        t = top r (topIs-owner r o h .0)
+        go : (c o : Kind) → kind d r ≡ c → passing (role c) r (stack d r) ≡ pop (stack d r) → innermostIs d o (stack d r) ≡ true → Shut r
+        go c o e p m = let t = top r (topIs-owner r o m .0) in record {
+          top = t;
+          opener = rw (owner-top r t) (t .ok .opener);
+          earlier = rw (owner-top r t) (t .ok .below);
+          after = rw (e, owner-top r t) (p ∙ (ap pop (t .here) ∙ t .ok .tail));
+        }
 
-    shut-cases : {C : Type 0} (r : ℕ) → isClose d r ≡ true → (Shut r and-close and-open → C) → (Shut r or-close or-open → C) → (Shut r it-close it-open → C) → (Shut r lp-close lp-open → C) → C
-    shut-cases r h a o i l = close-cases r h
-        (λ e. a (shutting r and-close and-open e (λ fs. refl) (and-left (innermostIs d and-open (stack d r)) (twoBranches d (stack d r)) (ruled r and-close e refl))))
-        (λ e. o (shutting r or-close or-open e (λ fs. refl) (and-left (innermostIs d or-open (stack d r)) (twoBranches d (stack d r)) (ruled r or-close e refl))))
-        (λ e. i (shutting r it-close it-open e (λ fs. refl) (ruled r it-close e refl)))
-        (λ e. l (shutting r lp-close lp-open e (λ fs. refl) (ruled r lp-close e refl)))
+        by : (k : Kind) → kind d r ≡ k → isClosing (role k) ≡ true → Shut r
+        by function e z = clash z refl
+        by and-open e z = clash z refl
+        by branch e z = clash z refl
+        by and-close e z = go and-close and-open e refl (ruled r and-close e refl)
+        by or-open e z = clash z refl
+        by or-close e z = go or-close or-open e refl (ruled r or-close e refl)
+        by it-open e z = clash z refl
+        by it-close e z = go it-close it-open e refl (ruled r it-close e refl)
+        by lp-open e z = clash z refl
+        by lp-close e z = go lp-close lp-open e refl (ruled r lp-close e refl)
+        by loop-exit e z = clash z refl
+        by end e z = clash z refl
+        by box-open e z = clash z refl
+        by box-close e z = go box-close box-open e refl (ruled r box-close e refl)
+        by box-exit e z = clash z refl
 
     -- a BRANCH
     forked : (q : ℕ) → kind d q ≡ branch → noneOpen d (stack d q) ≡ false
-    forked q e = go (stack d q) (and-left (inAndOr d (stack d q)) _ (ruled q branch e refl))
+    forked q e = go (stack d q) (and-left (inAndOr d (stack d q) || innermostIs d box-open (stack d q)) _ (ruled q branch e refl))
       where
-        go : (fs : List Frame) → inAndOr d fs ≡ true → noneOpen d fs ≡ false
+        go : (fs : List Frame) → (inAndOr d fs || innermostIs d box-open fs) ≡ true → noneOpen d fs ≡ false
         go [] h = clash h refl
         go (f ∷ fs) h = refl
 
     pub record Branched (b : ℕ) : Type 0 where
       pub opener : opens d (owner d b) ≡ true
       pub earlier : owner d b < b
-      pub after : stack d (suc b) ≡ record { opened = owner d b; latest = b } ∷ stack d (owner d b)
+      pub after : stack d (suc b) ≡ record { opened = owner d b; latest = b; branches = suc (branchCount (stack d b)) } ∷ stack d (owner d b)
 
     pub branched : (b : ℕ) → kind d b ≡ branch → Branched b
     unfolding stack
     branched b e = let t = top b (forked b e) in record {
       opener = rw (owner-top b t) (t .ok .opener);
       earlier = rw (owner-top b t) (t .ok .below);
-      after = rw (e, owner-top b t) (ap (turnTo b) (t .here) ∙ ap (λ fs. record { opened = t .frame .opened; latest = b } ∷ fs) (t .ok .tail));
+      after = rw (e, owner-top b t, t .here) (ap (λ fs. record { opened = t .frame .opened; latest = b; branches = suc (t .frame .branches) } ∷ fs) (t .ok .tail));
     }
 
     -- how membership changes at a row
@@ -244,58 +249,42 @@ module _ (d : Diagram) where
     gained-pop o [] h = refl
     gained-pop o (f ∷ fs) h = or-false-right (only o (f .opened)) (has o fs) h
 
-    lostAs : (k : Kind) (o q : ℕ) (fs : List Frame) → has o fs ≡ true → has o (passing k q fs) ≡ false
-        → ((sameKind k and-close || sameKind k or-close || sameKind k it-close || sameKind k lp-close) ≡ true) × (innermostOpen fs ≡ o)
+    lostAs : (p : Role) (o q : ℕ) (fs : List Frame) → has o fs ≡ true → has o (passing p q fs) ≡ false → (isClosing p ≡ true) × (innermostOpen fs ≡ o)
     unfolding has
-    lostAs function o q fs h n = clash h n
-    lostAs and-open o q fs h n = clash h (or-false-right (only o q) (has o fs) n)
-    lostAs branch o q fs h n = clash h (sym (has-turn o q fs) ∙ n)
-    lostAs and-close o q fs h n = (refl, has-pop o fs h n)
-    lostAs or-open o q fs h n = clash h (or-false-right (only o q) (has o fs) n)
-    lostAs or-close o q fs h n = (refl, has-pop o fs h n)
-    lostAs it-open o q fs h n = clash h (or-false-right (only o q) (has o fs) n)
-    lostAs it-close o q fs h n = (refl, has-pop o fs h n)
-    lostAs lp-open o q fs h n = clash h (or-false-right (only o q) (has o fs) n)
-    lostAs lp-close o q fs h n = (refl, has-pop o fs h n)
-    lostAs loop-exit o q fs h n = clash h n
-    lostAs end o q fs h n = clash h n
+    lostAs opening o q fs h n = clash h (or-false-right (only o q) (has o fs) n)
+    lostAs turning o q fs h n = clash h (sym (has-turn o q fs) ∙ n)
+    lostAs closing o q fs h n = (refl, has-pop o fs h n)
+    lostAs staying o q fs h n = clash h n
 
-    gainedAs : (k : Kind) (o q : ℕ) (fs : List Frame) → has o fs ≡ false → o ≢ q → has o (passing k q fs) ≡ false
+    gainedAs : (p : Role) (o q : ℕ) (fs : List Frame) → has o fs ≡ false → o ≢ q → has o (passing p q fs) ≡ false
     unfolding has
-    gainedAs function o q fs h n = h
-    gainedAs and-open o q fs h n = or-neither (ne-eqb q o (λ e. n (sym e))) h
-    gainedAs branch o q fs h n = has-turn o q fs ∙ h
-    gainedAs and-close o q fs h n = gained-pop o fs h
-    gainedAs or-open o q fs h n = or-neither (ne-eqb q o (λ e. n (sym e))) h
-    gainedAs or-close o q fs h n = gained-pop o fs h
-    gainedAs it-open o q fs h n = or-neither (ne-eqb q o (λ e. n (sym e))) h
-    gainedAs it-close o q fs h n = gained-pop o fs h
-    gainedAs lp-open o q fs h n = or-neither (ne-eqb q o (λ e. n (sym e))) h
-    gainedAs lp-close o q fs h n = gained-pop o fs h
-    gainedAs loop-exit o q fs h n = h
-    gainedAs end o q fs h n = h
+    gainedAs opening o q fs h n = or-neither (ne-eqb q o (λ e. n (sym e))) h
+    gainedAs turning o q fs h n = has-turn o q fs ∙ h
+    gainedAs closing o q fs h n = gained-pop o fs h
+    gainedAs staying o q fs h n = h
 
     lost : (o q n : ℕ) → has o (stack d q) ≡ true → has o (stack d (q + n)) ≡ false → (c : ℕ) × (c < q + n) × (isClose d c ≡ true) × (owner d c ≡ o)
     unfolding stack owner
     lost o q zero h g = clash h (rw add-zero at g)
     lost o q (suc n) h g = decide (has o (stack d (q + n)))
-        (λ e. let w = lostAs (kind d (q + n)) o (q + n) (stack d (q + n)) e (rw add-suc at g) in (q + n, omega arith, w .0, w .1))
+        (λ e. let w = lostAs (role (kind d (q + n))) o (q + n) (stack d (q + n)) e (rw add-suc at g) in (q + n, omega arith, w .0, w .1))
         (λ e. let w = lost o q n h e in let l : w .0 < q + n = w .1 in (w .0, omega arith, w .2, w .3))
 
     pub gone : (o q n : ℕ) → has o (stack d q) ≡ false → o < q → has o (stack d (q + n)) ≡ false
     unfolding stack
     gone o q zero h l = rw add-zero h
-    gone o q (suc n) h l = rw add-suc (gainedAs (kind d (q + n)) o (q + n) (stack d (q + n)) (gone o q n h l) (omega arith))
+    gone o q (suc n) h l = rw add-suc (gainedAs (role (kind d (q + n))) o (q + n) (stack d (q + n)) (gone o q n h l) (omega arith))
 
     -- an open row
-    open-cases : {C : Type 0} (o : ℕ) → opens d o ≡ true → (kind d o ≡ and-open → C) → (kind d o ≡ or-open → C) → (kind d o ≡ it-open → C) → (kind d o ≡ lp-open → C) → C
-    open-cases o h a r i l = or-split (isKind d and-open o) (isKind d or-open o || (isKind d it-open o || isKind d lp-open o)) h (λ e. a (same-eq (kind d o) and-open e))
-        (λ n h₁. or-split (isKind d or-open o) (isKind d it-open o || isKind d lp-open o) h₁ (λ e. r (same-eq (kind d o) or-open e))
-        (λ m h₂. or-split (isKind d it-open o) (isKind d lp-open o) h₂ (λ e. i (same-eq (kind d o) it-open e)) (λ k e. l (same-eq (kind d o) lp-open e))))
+    opened-as : (p : Role) (o : ℕ) (fs : List Frame) → isOpening p ≡ true → passing p o fs ≡ push o fs
+    opened-as opening o fs h = refl
+    opened-as turning o fs h = clash h refl
+    opened-as closing o fs h = clash h refl
+    opened-as staying o fs h = clash h refl
 
     opened-stack : (o : ℕ) → opens d o ≡ true → stack d (suc o) ≡ push o (stack d o)
     unfolding stack
-    opened-stack o h = open-cases o h (λ e. rw e) (λ e. rw e) (λ e. rw e) (λ e. rw e)
+    opened-stack o h = opened-as (role (kind d o)) o (stack d o) h
 
     opened-has : (o : ℕ) → opens d o ≡ true → has o (stack d (suc o)) ≡ true
     unfolding has
@@ -362,36 +351,40 @@ module _ (d : Diagram) where
         s = shut X o
 
         after : stack d (suc c) ≡ stack d (owner d c)
-        after = shut-cases c (s .0) (λ x. x .after) (λ x. x .after) (λ x. x .after) (λ x. x .after)
+        after = shutting c (s .0) .after
 
         earlier : X < c
-        earlier = subst (λ x. x < c) (s .1) (shut-cases c (s .0) (λ x. x .earlier) (λ x. x .earlier) (λ x. x .earlier) (λ x. x .earlier))
+        earlier = subst (λ x. x < c) (s .1) (shutting c (s .0) .earlier)
 
         off : has X (stack d (suc c)) ≡ false
         off = rw (after, s .1) (absent X X (omega arith))
 
     -- a frame that is no AND's does not show
-    drop-frame : (X o b : ℕ) → isKind d and-open o ≡ false → sideIn d X (record { opened = o; latest = b } ∷ stack d o) ≡ sideIn d X (stack d o)
+    drop-frame : (X o b n : ℕ) → isKind d and-open o ≡ false → sideIn d X (record { opened = o; latest = b; branches = n } ∷ stack d o) ≡ sideIn d X (stack d o)
     unfolding sideIn
-    drop-frame X o b n = decide (only X o)
+    drop-frame X o b m n = decide (only X o)
         (λ e. let z : o ≡ X = eqb-true o X e in rw (e, ← z, n) (sym (side-absent o (stack d o) (absent o o (omega arith)))))
         (λ e. rw e)
 
-    top-stack : (q : ℕ) (t : Top q) → stack d q ≡ record { opened = owner d q; latest = t .frame .latest } ∷ stack d (owner d q)
+    top-stack : (q : ℕ) (t : Top q) → stack d q ≡ record { opened = owner d q; latest = t .frame .latest; branches = t .frame .branches } ∷ stack d (owner d q)
     top-stack q t = rw (owner-top q t) (t .here ∙ ap (λ fs. t .frame ∷ fs) (t .ok .tail))
 
-    not-open : (q : ℕ) {k : Kind} → kind d q ≡ k → (sameKind k and-open || (sameKind k or-open || (sameKind k it-open || sameKind k lp-open))) ≡ false → opens d q ≡ false
+    not-open : (q : ℕ) {k : Kind} → kind d q ≡ k → isOpening (role k) ≡ false → opens d q ≡ false
     not-open q e h = rw e h
 
+    not-both : (p : Role) → isClosing p ≡ true → isOpening p ≡ false
+    not-both opening h = clash h refl
+    not-both turning h = refl
+    not-both closing h = refl
+    not-both staying h = refl
+
     closed-side : (r X : ℕ) → isClose d r ≡ true → side d X r ≡ sideIn d X (stack d (owner d r))
-    closed-side r X h = shut-cases r h (go and-close and-open refl) (go or-close or-open refl) (go it-close it-open refl) (go lp-close lp-open refl)
-      where
-        go : (c o : Kind) → (sameKind c and-open || (sameKind c or-open || (sameKind c it-open || sameKind c lp-open))) ≡ false → Shut r c o → side d X r ≡ sideIn d X (stack d (owner d r))
-        go c o n s = side-else r X (not-open r (s .kindly) n) ∙ ap (sideIn d X) (s .after)
+    closed-side r X h = side-else r X (not-both (role (kind d r)) h) ∙ ap (sideIn d X) (shutting r h .after)
 
     -- the row that entering q changes stands where q is read
     in-branch : (q X : ℕ) → (t : Top q) → kind d (owner d q) ≡ and-open → side d X (latestBranch (stack d q)) ≡ sideIn d X (stack d q)
-    in-branch q X t k = rw (t .here) (side-else b X (not-open b (w .0) refl) ∙ ap (sideIn d X) (branched b (w .0) .after ∙ (rw (w .1) (ap (λ fs. t .frame ∷ fs) (sym (t .ok .tail))))))
+    unfolding sideIn
+    in-branch q X t k = rw (t .here) (side-else b X (not-open b (w .0) refl) ∙ (ap (sideIn d X) (branched b (w .0) .after) ∙ rw (w .1) (ap (λ fs. sideIn d X (t .frame ∷ fs)) (sym (t .ok .tail)))))
       where
         b : ℕ
         b = t .frame .latest
@@ -401,13 +394,14 @@ module _ (d : Diagram) where
 
     out-branch : (q X : ℕ) → Top q → isKind d and-open (owner d q) ≡ false → opens d (owner d q) ≡ true → side d X (close d (owner d q)) ≡ sideIn d X (stack d q)
     out-branch q X t n o = let s = shut (owner d q) o in
-        closed-side (close d (owner d q)) X (s .0) ∙ (ap (λ x. sideIn d X (stack d x)) (s .1) ∙ (sym (drop-frame X (owner d q) (t .frame .latest) n) ∙ ap (sideIn d X) (sym (top-stack q t))))
+        closed-side (close d (owner d q)) X (s .0) ∙ (ap (λ x. sideIn d X (stack d x)) (s .1) ∙ (sym (drop-frame X (owner d q) (t .frame .latest) (t .frame .branches) n) ∙ ap (sideIn d X) (sym (top-stack q t))))
 
     still : (q X : ℕ) → opens d q ≡ false → stack d (suc q) ≡ stack d q → side d X q ≡ sideIn d X (stack d q)
     still q X n e = side-else q X n ∙ ap (sideIn d X) e
 
-    at-close : (q X : ℕ) (c o : Kind) → Shut q c o → isClose d q ≡ true → sameKind o and-open ≡ false → noneOpen d (stack d q) ≡ false → side d X q ≡ sideIn d X (stack d q)
-    at-close q X c o s h n e = closed-side q X h ∙ (sym (drop-frame X (owner d q) (top q e .frame .latest) (rw (s .own) n)) ∙ ap (sideIn d X) (sym (top-stack q (top q e))))
+    at-close : (q X : ℕ) (o : Kind) → isClose d q ≡ true → sameKind o and-open ≡ false → innermostIs d o (stack d q) ≡ true → side d X q ≡ sideIn d X (stack d q)
+    at-close q X o h n m = let w = topIs-owner q o m in
+        closed-side q X h ∙ (sym (drop-frame X (owner d q) (top q (w .0) .frame .latest) (top q (w .0) .frame .branches) (rw (w .1) n)) ∙ ap (sideIn d X) (sym (top-stack q (top q (w .0)))))
 
     landedAs : (k : Kind) (q X : ℕ) → kind d q ≡ k → side d X (enteredAs d k (isKind d and-open (owner d q)) q) ≡ sideIn d X (stack d q)
     unfolding stack
@@ -421,16 +415,18 @@ module _ (d : Diagram) where
         go : (x : Bool) → isKind d and-open (owner d q) ≡ x → side d X (enteredAs d branch x q) ≡ sideIn d X (stack d q)
         go true f = in-branch q X t (same-eq (kind d (owner d q)) and-open f)
         go false f = out-branch q X t f (branched q e .opener)
-    landedAs and-close q X e = let w = topIs-owner q and-open (and-left (innermostIs d and-open (stack d q)) (twoBranches d (stack d q)) (ruled q and-close e refl)) in in-branch q X (top q (w .0)) (w .1)
+    landedAs and-close q X e = let w = topIs-owner q and-open (ruled q and-close e refl) in in-branch q X (top q (w .0)) (w .1)
     landedAs or-open q X e = side-open q X (rw e)
-    landedAs or-close q X e = let h = and-left (innermostIs d or-open (stack d q)) (twoBranches d (stack d q)) (ruled q or-close e refl) in
-        at-close q X or-close or-open (shutting q or-close or-open e (λ fs. refl) h) (rw e) refl (topIs-owner q or-open h .0)
+    landedAs or-close q X e = at-close q X or-open (rw e) refl (ruled q or-close e refl)
     landedAs it-open q X e = side-open q X (rw e)
-    landedAs it-close q X e = let h = ruled q it-close e refl in at-close q X it-close it-open (shutting q it-close it-open e (λ fs. refl) h) (rw e) refl (topIs-owner q it-open h .0)
+    landedAs it-close q X e = at-close q X it-open (rw e) refl (ruled q it-close e refl)
     landedAs lp-open q X e = side-open q X (rw e)
-    landedAs lp-close q X e = let h = ruled q lp-close e refl in at-close q X lp-close lp-open (shutting q lp-close lp-open e (λ fs. refl) h) (rw e) refl (topIs-owner q lp-open h .0)
+    landedAs lp-close q X e = at-close q X lp-open (rw e) refl (ruled q lp-close e refl)
     landedAs loop-exit q X e = still q X (not-open q e refl) (rw e)
     landedAs end q X e = still q X (not-open q e refl) (rw e)
+    landedAs box-open q X e = side-open q X (rw e)
+    landedAs box-close q X e = at-close q X box-open (rw e) refl (ruled q box-close e refl)
+    landedAs box-exit q X e = still q X (not-open q e refl) (rw e)
 
     landed : (q X : ℕ) → side d X (enteredRow d q) ≡ sideIn d X (stack d q)
     unfolding enteredRow
@@ -438,7 +434,7 @@ module _ (d : Diagram) where
 
     seq : (r X : ℕ) → kind d r ≢ and-open → kind d r ≢ end → side d X (enteredRow d (suc r)) ≡ side d X r
     seq r X n m = landed (suc r) X ∙ decide (opens d r)
-        (λ e. rw (opened-stack r e) (drop-frame X r (suc r) (ne-same (kind d r) and-open n) ∙ sym (side-open r X e)))
+        (λ e. rw (opened-stack r e) (drop-frame X r (suc r) 0 (ne-same (kind d r) and-open n) ∙ sym (side-open r X e)))
         (λ e. sym (side-else r X e))
 
     -- the row that entering q changes is no AND close, and not in a loop that ends before q
@@ -457,11 +453,11 @@ module _ (d : Diagram) where
         go : (x : Bool) → isKind d and-open (owner d q) ≡ x → Fine d (enteredAs d branch x q)
         go true f = side-fine q (top q (forked q e)) f
         go false f = let s = shut (owner d q) (branched q e .opener) in (
-          (λ h. let m = topIs-owner (close d (owner d q)) and-open (and-left (innermostIs d and-open (stack d (close d (owner d q)))) (twoBranches d (stack d (close d (owner d q)))) (ruled (close d (owner d q)) and-close h refl)) .1 in
+          (λ h. let m = topIs-owner (close d (owner d q)) and-open (ruled (close d (owner d q)) and-close h refl) .1 in
               clash (eq-same (kind d (owner d q)) and-open (rw (s .1) at m)) f),
           (λ h. clash (s .0) (rw h)),
         )
-    landsAs and-close q e = let w = topIs-owner q and-open (and-left (innermostIs d and-open (stack d q)) (twoBranches d (stack d q)) (ruled q and-close e refl)) in
+    landsAs and-close q e = let w = topIs-owner q and-open (ruled q and-close e refl) in
         side-fine q (top q (w .0)) (eq-same (kind d (owner d q)) and-open (w .1))
     landsAs or-open q e = plainly q e refl refl
     landsAs or-close q e = plainly q e refl refl
@@ -471,13 +467,16 @@ module _ (d : Diagram) where
     landsAs lp-close q e = plainly q e refl refl
     landsAs loop-exit q e = plainly q e refl refl
     landsAs end q e = plainly q e refl refl
+    landsAs box-open q e = plainly q e refl refl
+    landsAs box-close q e = plainly q e refl refl
+    landsAs box-exit q e = plainly q e refl refl
 
     lands : (q : ℕ) → Fine d (enteredRow d q)
     unfolding enteredRow
     lands q = landsAs (kind d q) q refl
 
     kin : (r : ℕ) → isClose d r ≡ true → opens d (owner d r) ≡ true
-    kin r h = shut-cases r h (λ s. s .opener) (λ s. s .opener) (λ s. s .opener) (λ s. s .opener)
+    kin r h = shutting r h .opener
 
     back : (r X : ℕ) → isClose d r ≡ true → side d X (owner d r) ≡ side d X r
     back r X h = side-open (owner d r) X (kin r h) ∙ sym (closed-side r X h)
@@ -491,11 +490,11 @@ module _ (d : Diagram) where
     unfolding endsKiller
     quiet o h n = rw (next-owner o h, ne-same (kind d o) and-open n, and-false)
 
-    branch-side : (b X : ℕ) → kind d b ≡ branch → side d X b ≡ sideIn d X (record { opened = owner d b; latest = b } ∷ stack d (owner d b))
+    branch-side : (b X : ℕ) → kind d b ≡ branch → side d X b ≡ sideIn d X (record { opened = owner d b; latest = b; branches = suc (branchCount (stack d b)) } ∷ stack d (owner d b))
     branch-side b X e = side-else b X (not-open b e refl) ∙ ap (sideIn d X) (branched b e .after)
 
-    orIn : (b X : ℕ) → kind d b ≡ branch → kind d (owner d b) ≡ or-open → side d X b ≡ side d X (owner d b)
-    orIn b X e o = branch-side b X e ∙ (drop-frame X (owner d b) b (rw o) ∙ sym (side-open (owner d b) X (rw o)))
+    otherIn : (b X : ℕ) → kind d b ≡ branch → isKind d and-open (owner d b) ≡ false → side d X b ≡ side d X (owner d b)
+    otherIn b X e o = branch-side b X e ∙ (drop-frame X (owner d b) b (suc (branchCount (stack d b))) o ∙ sym (side-open (owner d b) X (branched b e .opener)))
 
     branchOf-split : (o b : ℕ) → branchOf d o b ≡ true → (kind d b ≡ branch) × (owner d b ≡ o)
     unfolding branchOf
@@ -533,7 +532,7 @@ module _ (d : Diagram) where
       or-split (isKind d branch q) (isKind d and-close q) (and-left (isKind d branch q || isKind d and-close q) _ h)
           (λ e. let k = same-eq (kind d q) branch e in rw (k, a) (ended (top q (forked q k))))
           (λ n e. let k = same-eq (kind d q) and-close e in
-          rw k (ended (top q (topIs-owner q and-open (and-left (innermostIs d and-open (stack d q)) (twoBranches d (stack d q)) (ruled q and-close k refl)) .0)))),
+          rw k (ended (top q (topIs-owner q and-open (ruled q and-close k refl) .0)))),
     )
       where
         a : isKind d and-open (owner d q) ≡ true
@@ -544,7 +543,7 @@ module _ (d : Diagram) where
             rw (t .here) (branchOf-join (owner d q) (t .frame .latest) (w .0) (w .1 ∙ sym (owner-top q t)))
 
     mine : (r : ℕ) → kind d r ≡ and-close → kind d (owner d r) ≡ and-open
-    mine r k = topIs-owner r and-open (and-left (innermostIs d and-open (stack d r)) (twoBranches d (stack d r)) (ruled r and-close k refl)) .1
+    mine r k = topIs-owner r and-open (ruled r and-close k refl) .1
 
     -- the frames around a row
     around-bound : (x : ℕ) → (q : ℕ) × (around d x ≡ stack d q) × (x ≤ q) × (q ≤ suc x)
@@ -602,36 +601,62 @@ module _ (d : Diagram) where
         let so = side-open o Y (rw k) in
         side-at x Y ∙ (nestAs o Y q (stack d q) (good q) (side-has o (stack d q) n) (side-has Y (stack d o) (λ z. y (so ∙ z))) ∙ sym so)
 
-    -- loops
-    loopAs : (q : ℕ) (fs : List Frame) → Good q fs → someOpen d lp-open fs ≡ true → (kind d (innermost d lp-open fs) ≡ lp-open) × (has (innermost d lp-open fs) fs ≡ true)
+    -- the innermost LP that is open, and the innermost box whose scenario a row is in
+    loopAs : (fs : List Frame) → someOpen d lp-open fs ≡ true → (kind d (innermost d lp-open fs) ≡ lp-open) × (has (innermost d lp-open fs) fs ≡ true)
     unfolding has
-    loopAs q [] g h = clash h refl
-    loopAs q (f ∷ fs) g h = decide (isKind d lp-open (f .opened))
+    loopAs [] h = clash h refl
+    loopAs (f ∷ fs) h = decide (isKind d lp-open (f .opened))
         (λ e. rw e (same-eq (kind d (f .opened)) lp-open e, or-left (has (f .opened) fs) (only-refl (f .opened))))
-        (λ e. let w = loopAs (f .opened) fs (g .1) (rw e at h) in rw e (w .0, or-right (only (innermost d lp-open fs) (f .opened)) (w .1)))
+        (λ e. let w = loopAs fs (rw e at h) in rw e (w .0, or-right (only (innermost d lp-open fs) (f .opened)) (w .1)))
 
-    le-loop : (r : ℕ) → kind d r ≡ loop-exit → (kind d (loop d r) ≡ lp-open) × (has (loop d r) (stack d r) ≡ true)
-    unfolding loop
-    le-loop r k = loopAs r (stack d r) (good r) (and-left (someOpen d lp-open (stack d r)) (isKind d branch (suc r) || (isKind d and-close (suc r) || isKind d or-close (suc r)))
-        (and-right (inAndOr d (stack d r)) (someOpen d lp-open (stack d r) && (isKind d branch (suc r) || (isKind d and-close (suc r) || isKind d or-close (suc r)))) (ruled r loop-exit k refl)))
+    -- how many BRANCH rows o has so far, where it is open; behind its first BRANCH, never none
+    unfoldable tally : ℕ → List Frame → ℕ
+    tally o [] = 1
+    tally o (f ∷ fs) = cond (only o (f .opened)) (f .branches) (tally o fs)
 
-    looped : (r : ℕ) → kind d r ≡ loop-exit → (kind d (loop d r) ≡ lp-open) × (inLoop d r r ≡ true)
-    looped r k = let w = le-loop r k in
-        let a : loop d r < r = has-below r (loop d r) (stack d r) (good r) (w .1) in
-        let b = until (loop d r) r (rw (w .0)) (w .1) in
-        (w .0, and-intro (le-leb (loop d r) r (omega arith)) (le-leb r (close d (loop d r)) b))
+    tally-gone : (o : ℕ) (fs : List Frame) → has o fs ≡ false → tally o fs ≡ 1
+    unfolding has tally
+    tally-gone o [] h = refl
+    tally-gone o (f ∷ fs) h = rw (or-false-left (only o (f .opened)) (has o fs) h) (tally-gone o fs (or-false-right (only o (f .opened)) (has o fs) h))
 
-    -- an AND around the LE is around its loop, or in it
-    exitAs : (Y q : ℕ) (fs : List Frame) → Good q fs → someOpen d lp-open fs ≡ true
-        → (sideIn d Y fs ≡ sideIn d Y (stack d (innermost d lp-open fs))) ⊎ (has (innermost d lp-open fs) (stack d Y) ≡ true)
+    tallyAs : (p : Role) (o q : ℕ) (fs : List Frame) → Good q fs → o ≢ q → tally o fs ≢ 0 → tally o (passing p q fs) ≢ 0
+    unfolding tally
+    tallyAs opening o q fs g n h = rw (ne-eqb q o (λ e. n (sym e))) h
+    tallyAs turning o q [] g n h = h
+    tallyAs turning o q (f ∷ fs) g n h = decide (only o (f .opened)) (λ e. rw e (λ z. absurd (omega arith))) (λ e. rw e (rw e at h))
+    tallyAs closing o q [] g n h = h
+    tallyAs closing o q (f ∷ fs) g n h = decide (only o (f .opened))
+        (λ e z. let w = tally-gone o fs (decide (has o fs) (λ y. let b = has-below (f .opened) o fs (g .1) y in let c = eqb-true (f .opened) o e in absurd (omega arith)) (λ y. y)) in absurd (omega arith))
+        (λ e. rw e at h)
+    tallyAs staying o q fs g n h = h
+
+    tallied : (o b n : ℕ) → branchOf d o b ≡ true → tally o (stack d (suc b + n)) ≢ 0
+    unfolding stack
+    tallied o b zero h = let w = branchOf-split o b h in rw (add-zero, branched b (w .0) .after) (unfold tally in rw (w .1, only-refl o) (λ z. absurd (omega arith)))
+    tallied o b (suc n) h = let w = branchOf-split o b h in let l = branched b (w .0) .earlier in
+        rw add-suc (tallyAs (role (kind d (suc b + n))) o (suc b + n) (stack d (suc b + n)) (good (suc b + n)) (λ z. let y = w .1 in absurd (omega arith)) (tallied o b n h))
+
+    boxAs : (q : ℕ) (fs : List Frame) → Good q fs → someScenario d fs ≡ true
+        → (kind d (innermostScenario d fs) ≡ box-open) × (tally (innermostScenario d fs) fs ≡ 0) × (has (innermostScenario d fs) fs ≡ true)
+    unfolding has tally
+    boxAs q [] g h = clash h refl
+    boxAs q (f ∷ fs) g h = decide (inScenario d f)
+        (λ e. rw (e, only-refl (f .opened)) (same-eq (kind d (f .opened)) box-open (and-left (isKind d box-open (f .opened)) _ e), eqb-true (f .branches) 0 (and-right (isKind d box-open (f .opened)) _ e), refl))
+        (λ e. let w = boxAs (f .opened) fs (g .1) (rw e at h) in let l = has-below (f .opened) (innermostScenario d fs) fs (g .1) (w .2) in
+        rw (e, ne-eqb (f .opened) (innermostScenario d fs) (λ z. absurd (omega arith))) (w .0, w .1, w .2))
+
+    -- o, no AND, is around a row: an AND around the row is around o, or in it
+    leftAs : (o Y q : ℕ) (fs : List Frame) → Good q fs → isKind d and-open o ≡ false → has o fs ≡ true
+        → (sideIn d Y fs ≡ sideIn d Y (stack d o)) ⊎ (has o (stack d Y) ≡ true)
     unfolding has sideIn
-    exitAs Y q [] g h = clash h refl
-    exitAs Y q (f ∷ fs) g h = decide (isKind d lp-open (f .opened))
-        (λ e. let k = same-eq (kind d (f .opened)) lp-open e in
-        inl (rw e (subst (λ gs. sideIn d Y (f ∷ gs) ≡ sideIn d Y (stack d (f .opened))) (sym (g .0 .tail)) (drop-frame Y (f .opened) (f .latest) (rw k)))))
-        (λ e. decide (only Y (f .opened))
-        (λ y. inr (rw (e, ← eqb-true (f .opened) Y y, ← g .0 .tail) (loopAs (f .opened) fs (g .1) (rw e at h) .1)))
-        (λ y. rw (e, y) (exitAs Y (f .opened) fs (g .1) (rw e at h))))
+    leftAs o Y q [] g n h = clash h refl
+    leftAs o Y q (f ∷ fs) g n h = or-split (only o (f .opened)) (has o fs) h
+        (λ e. let z = eqb-true (f .opened) o e in
+        inl (subst (λ gs. sideIn d Y (f ∷ gs) ≡ sideIn d Y (stack d o)) (sym (g .0 .tail)) (subst (λ x. sideIn d Y (f ∷ stack d x) ≡ sideIn d Y (stack d o)) (sym z)
+        (subst (λ x. sideIn d Y (record { opened = x; latest = f .latest; branches = f .branches } ∷ stack d o) ≡ sideIn d Y (stack d o)) (sym z) (drop-frame Y o (f .latest) (f .branches) n)))))
+        (λ x e. decide (only Y (f .opened))
+        (λ y. inr (rw (← eqb-true (f .opened) Y y, ← g .0 .tail) e))
+        (λ y. rw y (leftAs o Y (f .opened) fs (g .1) n e)))
 
     has-trans : (X Y q : ℕ) (fs : List Frame) → Good q fs → has Y fs ≡ true → has X (stack d Y) ≡ true → has X fs ≡ true
     unfolding has
@@ -640,52 +665,130 @@ module _ (d : Diagram) where
         (λ e. rw (g .0 .tail, eqb-true (f .opened) Y e) x)
         (λ n e. has-trans X Y (f .opened) fs (g .1) e x))
 
-    exit : (r x Y : ℕ) → kind d r ≡ loop-exit → inLoop d r x ≡ false → side d Y r ≢ 0 → side d Y x ≢ 0 → side d Y r ≡ side d Y (loop d r)
-    unfolding loop stack
-    exit r x Y k out h y = still r Y (not-open r k refl) (rw k) ∙ go (exitAs Y r (stack d r) (good r) any)
+    -- a row r in o, before a row e that belongs to o itself, leaves the rows from o to before e: an AND that is around r and around another row is around o
+    leaving : (o e r x Y : ℕ) → isKind d and-open o ≡ false → Top e → owner d e ≡ o → r ≤ e → opens d r ≡ false → stack d (suc r) ≡ stack d r → has o (stack d r) ≡ true
+        → (leb o x && ltb x e) ≡ false → side d Y r ≢ 0 → side d Y x ≢ 0 → side d Y r ≡ side d Y o
+    leaving o e r x Y n t w l p s h out y z = still r Y p s ∙ go (leftAs o Y r (stack d r) (good r) n h)
       where
-        any : someOpen d lp-open (stack d r) ≡ true
-        any = and-left (someOpen d lp-open (stack d r)) (isKind d branch (suc r) || (isKind d and-close (suc r) || isKind d or-close (suc r)))
-            (and-right (inAndOr d (stack d r)) (someOpen d lp-open (stack d r) && (isKind d branch (suc r) || (isKind d and-close (suc r) || isKind d or-close (suc r)))) (ruled r loop-exit k refl))
-
-        X : ℕ
-        X = loop d r
-
-        kx : kind d X ≡ lp-open
-        kx = le-loop r k .0
-
         q : ℕ
         q = around-bound x .0
 
-        go : (sideIn d Y (stack d r) ≡ sideIn d Y (stack d X)) ⊎ (has X (stack d Y) ≡ true) → sideIn d Y (stack d r) ≡ side d Y X
-        go (inl e) = e ∙ sym (side-open X Y (rw kx))
-        go (inr e) =
-            let z = has-trans X Y q (stack d q) (good q) (side-has Y (stack d q) (λ w. y (side-at x Y ∙ w))) e in
-            let a = has-below q X (stack d q) (good q) z in
-            let b = until X q (rw kx) z in
-            let c : x ≤ q = around-bound x .2 in
-            let f : q ≤ suc x = around-bound x .3 in
-            clash (and-intro (le-leb X x (omega arith)) (le-leb x (close d X) (omega arith))) out
+        there : has Y (stack d q) ≡ true
+        there = side-has Y (stack d q) (λ v. z (side-at x Y ∙ v))
 
-    pub laws : Laws d
-    laws = record {
-      seq = seq;
-      lands = lands;
-      kin = kin;
-      orFirst = orFirst;
-      back = back;
-      shut = shut;
-      orIn = orIn;
-      andIn = andIn;
-      andOwn = andOwn;
-      self = self;
-      first = first;
-      mine = mine;
-      sided = sided;
-      nest = nest;
-      within = within;
-      quiet = quiet;
-      killer = killer;
-      looped = looped;
-      exit = exit;
-    }
+        here : has Y (stack d r) ≡ true
+        here = side-has Y (stack d r) (λ v. y (still r Y p s ∙ v))
+
+        -- what is open in o at r is not open at e any more
+        shut-by : has o (stack d Y) ≡ true → has Y (stack d e) ≡ false
+        shut-by v = let a = has-below Y o (stack d Y) (good Y) v in
+            subst (λ fs. has Y fs ≡ false) (sym (top-stack e t)) (unfold has in or-neither (ne-eqb (owner d e) Y (λ c. absurd (omega arith))) (subst (λ f. has Y (stack d f) ≡ false) (sym w) (absent o Y (omega arith))))
+
+        go : (sideIn d Y (stack d r) ≡ sideIn d Y (stack d o)) ⊎ (has o (stack d Y) ≡ true) → sideIn d Y (stack d r) ≡ side d Y o
+        go (inl v) = v ∙ sym (around-own)
+          where
+            around-own : side d Y o ≡ sideIn d Y (stack d o)
+            around-own = side-open o Y (subst (λ f. opens d f ≡ true) (sym (owner-top e t) ∙ w) (t .ok .opener))
+        go (inr v) =
+            let a = has-below Y o (stack d Y) (good Y) v in
+            let b = has-below r Y (stack d r) (good r) here in
+            let c = has-below q Y (stack d q) (good q) there in
+            let i : x ≤ q = around-bound x .2 in
+            let j : q ≤ suc x = around-bound x .3 in
+            decide (ltb x e)
+            (λ f. clash (and-intro (le-leb o x (omega arith)) f) out)
+            (λ f. let k = ltb-false x e f in let m : e + (q - e) ≡ q = omega arith in
+            clash there (rw m at (gone Y e (q - e) (shut-by v) (omega arith))))
+
+    -- loops
+    le-loop : (r : ℕ) → kind d r ≡ loop-exit → (kind d (loop d r) ≡ lp-open) × (has (loop d r) (stack d r) ≡ true)
+    unfolding loop
+    le-loop r k = loopAs (stack d r) (ruled r loop-exit k refl)
+
+    pub looped : (r : ℕ) → kind d r ≡ loop-exit → (kind d (loop d r) ≡ lp-open) × (inLoop d r r ≡ true)
+    looped r k = let w = le-loop r k in
+        let a : loop d r < r = has-below r (loop d r) (stack d r) (good r) (w .1) in
+        let b = until (loop d r) r (rw (w .0)) (w .1) in
+        (w .0, and-intro (le-leb (loop d r) r (omega arith)) (le-leb r (close d (loop d r)) b))
+
+    exit : (r x Y : ℕ) → kind d r ≡ loop-exit → inLoop d r x ≡ false → side d Y r ≢ 0 → side d Y x ≢ 0 → side d Y r ≡ side d Y (loop d r)
+    unfolding stack
+    exit r x Y k out = let w = le-loop r k in let s = shut (loop d r) (rw (w .0)) in
+        leaving (loop d r) (close d (loop d r)) r x Y (rw (w .0)) (shutting (close d (loop d r)) (s .0) .top) (s .1) (until (loop d r) r (rw (w .0)) (w .1)) (not-open r k refl) (rw k) (w .1) (before out)
+      where
+        before : inLoop d r x ≡ false → (leb (loop d r) x && ltb x (close d (loop d r))) ≡ false
+        before h = decide (leb (loop d r) x)
+            (λ e. let l = leb-false x (close d (loop d r)) (rw e at h) in rw (e, le-ltb x (close d (loop d r)) (omega arith)))
+            (λ e. rw e)
+
+    -- boxes
+    exit-box : (r : ℕ) → kind d r ≡ box-exit → (kind d (box d r) ≡ box-open) × (tally (box d r) (stack d r) ≡ 0) × (has (box d r) (stack d r) ≡ true)
+    unfolding box
+    exit-box r k = boxAs r (stack d r) (good r) (ruled r box-exit k refl)
+
+    pub exit-of-box : (r : ℕ) → kind d r ≡ box-exit → kind d (box d r) ≡ box-open
+    exit-of-box r k = exit-box r k .0
+
+    -- where each EXIT has its outlet
+    module _ (outs : (r : ℕ) → kind d r ≡ box-exit → leads d r (outlet d r) ≡ true) where
+      led : (r : ℕ) → kind d r ≡ box-exit → (kind d (box d r) ≡ box-open) × (branchOf d (box d r) (outlet d r) ≡ true)
+      unfolding leads
+      led r k = (exit-box r k .0, and-left (branchOf d (box d r) (outlet d r)) _ (and-right (isKind d box-exit r) _ (outs r k)))
+
+      -- the first outlet's BRANCH: the EXIT stands before it
+      first-outlet : (r : ℕ) → kind d r ≡ box-exit → branchOf d (box d r) (firstOutlet d (box d r)) ≡ true
+      unfolding firstOutlet
+      first-outlet r k = let b = led r k .1 in
+          least-found (rowCount d) (branchOf d (box d r)) (outlet d r) (kind-in d (outlet d r) (not-kind d (outlet d r) (branchOf-split (box d r) (outlet d r) b .0) end refl)) b .0
+
+      boxed : (r : ℕ) → kind d r ≡ box-exit → scenario d (box d r) r ≡ true
+      boxed r k = and-intro (le-leb (box d r) r (let l = has-below r (box d r) (stack d r) (good r) (w .2) in omega arith))
+          (decide (ltb r e) (λ z. z) (λ z. absurd (late (ltb-false r e z))))
+        where
+          e : ℕ
+          e = firstOutlet d (box d r)
+
+          w : (kind d (box d r) ≡ box-open) × (tally (box d r) (stack d r) ≡ 0) × (has (box d r) (stack d r) ≡ true)
+          w = exit-box r k
+
+          late : e ≤ r → ⊥
+          late l =
+              let f = first-outlet r k in
+              let n : e ≢ r = λ z. not-kind d r k branch refl (subst (λ x. kind d x ≡ branch) z (branchOf-split (box d r) e f .0)) in
+              let m : suc e + (r - suc e) ≡ r = omega arith in
+              tallied (box d r) e (r - suc e) f (rw m (w .1))
+
+      escape : (r x Y : ℕ) → kind d r ≡ box-exit → scenario d (box d r) x ≡ false → side d Y r ≢ 0 → side d Y x ≢ 0 → side d Y r ≡ side d Y (box d r)
+      unfolding stack
+      escape r x Y k out = let w = exit-box r k in let b = branchOf-split (box d r) (firstOutlet d (box d r)) (first-outlet r k) in
+          let l = ltb-true r (firstOutlet d (box d r)) (and-right (leb (box d r) r) _ (boxed r k)) in
+          leaving (box d r) (firstOutlet d (box d r)) r x Y (rw (w .0)) (top (firstOutlet d (box d r)) (forked (firstOutlet d (box d r)) (b .0))) (b .1) (omega arith) (not-open r k refl) (rw k) (w .2) out
+
+      lawful : Laws d
+      lawful = record {
+        seq = seq;
+        lands = lands;
+        kin = kin;
+        orFirst = orFirst;
+        back = back;
+        shut = shut;
+        otherIn = otherIn;
+        andIn = andIn;
+        andOwn = andOwn;
+        self = self;
+        first = first;
+        mine = mine;
+        sided = sided;
+        nest = nest;
+        within = within;
+        quiet = quiet;
+        killer = killer;
+        looped = looped;
+        exit = exit;
+        boxed = boxed;
+        led = led;
+        escape = escape;
+      }
+
+  pub laws : wellNested d ≡ true → Laws d
+  laws acc = lawful (walk d acc) (leading d acc)

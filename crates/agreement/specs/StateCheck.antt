@@ -6,7 +6,7 @@ use mathlib.Core.Bool.{Bool, true, false, cond}
 use native.Mathlib.Omega.{arith}
 use lib.Dec.{leb, eqb}
 use borrow.Author.Tests.{eqb-false, le-leb, eq-eqb}
-use Rattle.effbd.specs.Diagrams.{Diagram, Kind, and-close, and-open, branch, end, function, isKind, it-close, it-open, kind, loop-exit, lp-close, lp-open, or-close, or-open, row, rowCount, sameKind}
+use Rattle.effbd.specs.Diagrams.{Diagram, Kind, and-close, and-open, box-close, box-exit, box-open, branch, end, function, isKind, it-close, it-open, kind, loop-exit, lp-close, lp-open, or-close, or-open, row, rowCount, sameKind}
 use Rattle.effbd.specs.Counts.{countTotal, tally}
 use Rattle.effbd.specs.Nesting.{owner}
 use Rattle.effbd.specs.States.{State, activityFine, countPasses, rowPasses, statePasses}
@@ -46,6 +46,9 @@ module _ (d : Diagram) (s : State) (v : Valid d s) (q : ℕ) where
   acts lp-close b e f = idle-or-ready e refl refl
   acts loop-exit b e f = idle-or-ready e refl refl
   acts end b e f = idle-or-ready e refl refl
+  acts box-open b e f = idle-or-ready e refl refl
+  acts box-close b e f = idle-or-ready e refl refl
+  acts box-exit b e f = idle-or-ready e refl refl
 
   turns-ok : cond (isKind d it-open q) (leb (s .turns q) (row d q .first)) (eqb (s .turns q) 0) ≡ true
   turns-ok = decide (isKind d it-open q) (λ e. rw e (le-leb (s .turns q) (row d q .first) (v .turned q)))

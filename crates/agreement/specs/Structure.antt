@@ -2,16 +2,17 @@
 use Prim.Native.Nat.{ℕ, suc}
 use mathlib.Core.Path.{_≡_, refl, sym}
 use mathlib.Core.Logic.{_≢_}
-use mathlib.Core.Bool.{Bool, true, false, cond, _||_}
+use mathlib.Core.Bool.{Bool, true, false, cond}
 use mathlib.Core.List.{List, [], _∷_}
-use Rattle.effbd.specs.Diagrams.{Diagram, and-close, and-open, branch, end, isKind, it-open, kind, loop-exit, lp-open, or-open}
-use Rattle.effbd.specs.Nesting.{Frame, branchOf, close, inLoop, isClose, loop, owner, stack}
+use Rattle.effbd.specs.Diagrams.{Diagram, and-close, and-open, box-exit, box-open, branch, end, isKind, kind, loop-exit, lp-open, or-open}
+use Rattle.effbd.specs.Frames.{Frame}
+use Rattle.effbd.specs.Nesting.{box, branchOf, close, inLoop, isClose, isOpen, loop, outlet, owner, scenario, stack}
 use Rattle.effbd.specs.Ranges.{between, only}
 use Rattle.effbd.specs.States.{endsKiller, enteredRow}
 
 module _ (d : Diagram) where
   abbrev pub opens : ℕ → Bool
-  opens q = isKind d and-open q || (isKind d or-open q || (isKind d it-open q || isKind d lp-open q))
+  opens q = isOpen d q
 
   -- the constructs around row q: a BRANCH stands in its own branch, a close outside its construct
   unfoldable pub around : ℕ → List Frame
@@ -53,7 +54,7 @@ module _ (d : Diagram) where
     pub back : (r X : ℕ) → isClose d r ≡ true → side X (owner d r) ≡ side X r
     pub shut : (o : ℕ) → opens o ≡ true → (isClose d (close d o) ≡ true) × (owner d (close d o) ≡ o)
     -- branches
-    pub orIn : (b X : ℕ) → kind d b ≡ branch → kind d (owner d b) ≡ or-open → side X b ≡ side X (owner d b)
+    pub otherIn : (b X : ℕ) → kind d b ≡ branch → isKind d and-open (owner d b) ≡ false → side X b ≡ side X (owner d b)
     pub andIn : (o b X : ℕ) → kind d o ≡ and-open → branchOf d o b ≡ true → X ≢ o → side X b ≡ side X o
     pub andOwn : (o b : ℕ) → kind d o ≡ and-open → branchOf d o b ≡ true → (side o b ≡ b) × (b ≢ 0)
     pub self : (o : ℕ) → kind d o ≡ and-open → side o o ≡ 0
@@ -70,3 +71,7 @@ module _ (d : Diagram) where
     -- loops
     pub looped : (r : ℕ) → kind d r ≡ loop-exit → (kind d (loop d r) ≡ lp-open) × (inLoop d r r ≡ true)
     pub exit : (r x Y : ℕ) → kind d r ≡ loop-exit → inLoop d r x ≡ false → side Y r ≢ 0 → side Y x ≢ 0 → side Y r ≡ side Y (loop d r)
+    -- boxes
+    pub boxed : (r : ℕ) → kind d r ≡ box-exit → scenario d (box d r) r ≡ true
+    pub led : (r : ℕ) → kind d r ≡ box-exit → (kind d (box d r) ≡ box-open) × (branchOf d (box d r) (outlet d r) ≡ true)
+    pub escape : (r x Y : ℕ) → kind d r ≡ box-exit → scenario d (box d r) x ≡ false → side Y r ≢ 0 → side Y x ≢ 0 → side Y r ≡ side Y (box d r)

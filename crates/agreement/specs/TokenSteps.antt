@@ -8,10 +8,11 @@ use native.Mathlib.Omega.{arith}
 use native.Mathlib.Nat.{sub-zero}
 use lib.Dec.{eqb, leb}
 use borrow.Author.Tests.{eqb-true, eqb-false, ne-eqb}
-use Rattle.effbd.specs.Diagrams.{Diagram, and-close, and-open, branch, end, isKind, kind, rowCount, Kind, sameKind, or-close, it-close, lp-close}
+use Rattle.effbd.specs.Diagrams.{Diagram, and-close, and-open, branch, end, isKind, kind, rowCount, Kind}
 use Rattle.effbd.specs.Image.{imageMark, readyOrDone, running}
 use Rattle.effbd.specs.Layout.{Count, P, Place, Q, R}
 use Rattle.effbd.specs.Moves.{allDone, ifReady, stepAs}
+use Rattle.effbd.specs.Frames.{isClosing, role}
 use Rattle.effbd.specs.Nesting.{branchOf, owner, close, isClose}
 use Rattle.effbd.specs.Patterns.{clearsRows, marksP, passes, passesTo, patternsAs}
 use Rattle.effbd.specs.Ranges.{allBelow, either, nobody, only}
@@ -207,7 +208,7 @@ module _ (d : Diagram) where
         shut : (isClose d c ≡ true) × (owner d c ≡ o)
         shut = L .shut o h
 
-        not-closing : (j : Kind) → (sameKind j and-close || sameKind j or-close || sameKind j it-close || sameKind j lp-close) ≡ false → kind d c ≢ j
+        not-closing : (j : Kind) → isClosing (role j) ≡ false → kind d c ≢ j
         not-closing j f e = clash (shut .0) (rw e f)
 
     -- AND open

@@ -9,7 +9,7 @@ use native.Mathlib.Nat.{add-zero, add-suc, suc-add}
 use lib.ListN.{getD, length}
 use lib.Dec.{leb, ltb, eqb}
 use borrow.Author.Tests.{ltb-true, ltb-false, leb-true, eqb-true, eqb-false, lt-ltb, le-leb, ne-eqb}
-use Rattle.effbd.specs.Diagrams.{Diagram, Kind, and-close, and-open, branch, end, function, isKind, it-close, it-open, kind, loop-exit, lp-close, lp-open, or-close, or-open, row, rowCount, sameKind}
+use Rattle.effbd.specs.Diagrams.{Diagram, Kind, and-close, and-open, box-close, box-exit, box-open, branch, end, function, isKind, it-close, it-open, kind, loop-exit, lp-close, lp-open, or-close, or-open, row, rowCount, sameKind}
 use Rattle.effbd.specs.Counts.{countTotal, takes}
 use Rattle.effbd.specs.Image.{imageMark, readyOrDone}
 use Rattle.effbd.specs.Layout.{Count, P, Place, Q, R, byPlace}
@@ -158,6 +158,9 @@ module _ (d : Diagram) where
     stops lp-close q e h = token-stop lp-close q e refl (hd lp-close q) refl refl (only q) (λ p. refl) (one q (eqb-true (s .activity q) 1 h))
     stops loop-exit q e h = token-stop loop-exit q e refl (hd loop-exit q) refl refl (only q) (λ p. refl) (one q (eqb-true (s .activity q) 1 h))
     stops end q e h = clash h refl
+    stops box-open q e h = token-stop box-open q e refl (hd box-open q) refl refl (only q) (λ p. refl) (one q (eqb-true (s .activity q) 1 h))
+    stops box-close q e h = token-stop box-close q e refl (hd box-close q) refl refl (only q) (λ p. refl) (one q (eqb-true (s .activity q) 1 h))
+    stops box-exit q e h = token-stop box-exit q e refl (hd box-exit q) refl refl (only q) (λ p. refl) (one q (eqb-true (s .activity q) 1 h))
 
     -- the net holds: so does the diagram
     hold : (k : Kind) (q : ℕ) → kind d q ≡ k → sameKind k end ≡ false → holdsAs d k q n s ≡ true → Held
@@ -234,6 +237,9 @@ module _ (d : Diagram) where
     holds lp-close q e h = hold lp-close q e refl (single q (hd lp-close q) refl (not-kind d q e end refl) (not-kind d q e branch refl) h)
     holds loop-exit q e h = hold loop-exit q e refl (single q (hd loop-exit q) refl (not-kind d q e end refl) (not-kind d q e branch refl) h)
     holds end q e h = clash refl h
+    holds box-open q e h = hold box-open q e refl (single q (hd box-open q) refl (not-kind d q e end refl) (not-kind d q e branch refl) h)
+    holds box-close q e h = hold box-close q e refl (single q (hd box-close q) refl (not-kind d q e end refl) (not-kind d q e branch refl) h)
+    holds box-exit q e h = hold box-exit q e refl (single q (hd box-exit q) refl (not-kind d q e end refl) (not-kind d q e branch refl) h)
 
     free : Bool
     free = allBelow (rowCount d) (λ q. not (holdsAs d (kind d q) q n s))
@@ -292,6 +298,12 @@ module _ (d : Diagram) where
     prompt loop-exit q zero h = refl
     prompt loop-exit q (suc x) h = refl
     prompt end q x h = refl
+    prompt box-open q zero h = refl
+    prompt box-open q (suc x) h = refl
+    prompt box-close q zero h = refl
+    prompt box-close q (suc x) h = refl
+    prompt box-exit q zero h = refl
+    prompt box-exit q (suc x) h = refl
 
     tick-clock : open′ ≡ true → (q x : ℕ) → namedImage d (passTicks n s) .clock q x ≡ namedTick d n m .clock q x
     unfolding m open′

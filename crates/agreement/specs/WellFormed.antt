@@ -7,10 +7,10 @@ use native.Mathlib.Omega.{arith}
 use lib.ListN.{length, getD, length-append, length-map}
 use lib.Dec.{leb, ltb, eqb}
 use borrow.Author.Tests.{leb-true, lt-ltb, le-leb}
-use Rattle.effbd.specs.Diagrams.{Diagram, Kind, Use, and-close, and-open, branch, end, function, isKind, isTrigger, it-close, it-open, itemTotal, kind, loop-exit, lp-close, lp-open, or-close, or-open, row, rowCount, rowFine, rowFineAs}
+use Rattle.effbd.specs.Diagrams.{Diagram, Kind, Use, and-close, and-open, box-close, box-exit, box-open, branch, end, function, isKind, isTrigger, it-close, it-open, itemTotal, kind, loop-exit, lp-close, lp-open, or-close, or-open, row, rowCount, rowFine, rowFineAs}
 use Rattle.effbd.specs.Counts.{Tally, copy, giveOf, gives, givesAs, initialCount, shared, takeOf, takes, takesAs, tally}
 use Rattle.effbd.specs.Layout.{Count, P, Place, Q, R, byPlace, placeOf, places}
-use Rattle.effbd.specs.Nesting.{branchOf, close, inLoop, loop, owner}
+use Rattle.effbd.specs.Nesting.{box, branchOf, close, inLoop, loop, outlet, owner, scenario}
 use Rattle.effbd.specs.Nets.{Arc, Transition, mostPlaces, transitionFine}
 use Rattle.effbd.specs.Patterns.{Name, Pattern, arcsOf, names, netOf, noPattern, none, oneAt, passes, patterns, patternsAs, restoresR, transitionOf, patternOf, freshMark, rangesFrom}
 use Rattle.effbd.specs.Ranges.{either, nobody, only, tabulate}
@@ -121,6 +121,9 @@ module _ (d : Diagram) (h : Held d) where
   lights r lp-close e = (light-passes (only r) nobody (only (owner d r)), tt)
   lights r loop-exit e = (light-passes (only r) (either (inLoop d r) (killed d (suc (close d (loop d r))))) (entered d (suc (close d (loop d r)))), tt)
   lights r end e = tt
+  lights r box-open e = (light-passes (only r) (killed d (suc r)) (entered d (suc r)), tt)
+  lights r box-close e = (light-passes (only r) (killed d (suc r)) (entered d (suc r)), tt)
+  lights r box-exit e = (light-passes (only r) (either (scenario d (box d r)) (killed d (suc (outlet d r)))) (entered d (suc (outlet d r))), tt)
 
   never-light : Light noPattern
   never-light = record { takes = λ p. zero-le; gives = λ p. zero-le; order = zero-le; last = zero-le }
@@ -201,6 +204,9 @@ module _ (d : Diagram) (h : Held d) where
   few r lp-close = omega arith
   few r loop-exit = omega arith
   few r end = omega arith
+  few r box-open = omega arith
+  few r box-close = omega arith
+  few r box-exit = omega arith
 
   names-few : (n : ℕ) → length (names d n) ≤ 2 * n
   unfolding names

@@ -82,7 +82,7 @@ module _ (M : ℕ) (few : M ≤ 16) where
   abbrev rowOf : (kind first second : ℕ) → List Use → Row
   rowOf kind first second uses = record {
     kind = kindOf kind;
-    first = cond (eqb kind 16 || eqb kind 22) first (cond (eqb kind 28) 1 0);
+    first = cond (eqb kind 16 || eqb kind 22 || eqb kind 31) first (cond (eqb kind 28) 1 0);
     second = cond (eqb kind 16) second 0;
     uses = cond (eqb kind 16) uses [];
   }
@@ -106,7 +106,7 @@ module _ (M : ℕ) (few : M ≤ 16) where
 
   row-same : (p s : List ℕ) → 104 ≤ length p → rowFault M (p ++ s) ≡ rowFault M p
   unfolding rowFault
-  row-same p s l = fault-same p s _ _ _ _ _ _ 5 l (ap (λ (n : ℕ). leb 16 n && leb n 28) (word-same p s 2 (omega arith))) (right-same p s l)
+  row-same p s l = fault-same p s _ _ _ _ _ _ 5 l (ap (λ (n : ℕ). leb 16 n && leb n 31) (word-same p s 2 (omega arith))) (right-same p s l)
       (row-short p) (λ e. ap (rowFine M) (row-at-same p s l (row-short p e)))
 
 -- what is read of the first bytes, with more bytes behind it
@@ -187,7 +187,7 @@ item-clean p e =
 
 row-clean : (M : ℕ) → M ≤ 16 → (p : List ℕ) → rowFault M p ≡ 0 → lengthAt p ≤ 104
 unfolding rowFault
-row-clean M few p e = row-short M few p (none-clean p (leb 16 (kindAt p) && leb (kindAt p) 28) (rowRight M p) (rowFine M (rowAt p)) 4 e .isRight)
+row-clean M few p e = row-short M few p (none-clean p (leb 16 (kindAt p) && leb (kindAt p) 31) (rowRight M p) (rowFine M (rowAt p)) 4 e .isRight)
 
 -- of a diagram with these items: 43 asks what the uses of a row say that has no other fault
 module _ (items : List Item) (few : length items ≤ 16) where

@@ -33,7 +33,7 @@ module _ (d : Diagram) (rows items n : ℕ) (table wide : List ℕ) (c : Counted
     fewItems = b .fewItems;
     kinds = λ r l. c .below r (omega arith) ∙ b .kinds r l;
     firsts = λ r l. c .below (cellOf 1 r) (omega arith) ∙ b .firsts r l;
-    seconds = λ r l. c .below (cellOf 2 r) (omega arith) ∙ b .seconds r l;
+    seconds = λ r l e. c .below (cellOf 2 r) (omega arith) ∙ b .seconds r l e;
     numbers = λ r l. c .below (cellOf 4 r) (omega arith) ∙ b .numbers r l;
     counts = λ k l. c .below (itemCell 0 k) (omega arith) ∙ b .counts k l;
     triggers = λ k l. c .below (itemCell 1 k) (omega arith) ∙ b .triggers k l;
@@ -48,7 +48,9 @@ module _ (d : Diagram) (rows items n : ℕ) (table wide : List ℕ) (c : Counted
     owners = λ r l. c .below (cellOf 5 r) (omega arith) ∙ h .owners r l;
     branches = λ r l. c .below (cellOf 6 r) (omega arith) ∙ h .branches r l;
     closes = λ r l. c .below (cellOf 7 r) (omega arith) ∙ h .closes r l;
-    loops = λ r l. c .below (cellOf 8 r) (omega arith) ∙ h .loops r l;
+    loops = λ r l e. c .below (cellOf 8 r) (omega arith) ∙ h .loops r l e;
+    outlets = λ r l e. c .below (cellOf 8 r) (omega arith) ∙ h .outlets r l e;
+    scenarioLasts = λ r l e. c .below (cellOf 2 r) (omega arith) ∙ h .scenarioLasts r l e;
     ownerLow = h .ownerLow;
     loopLow = h .loopLow;
     closeLow = h .closeLow;

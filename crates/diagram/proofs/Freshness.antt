@@ -11,7 +11,7 @@ use lib.Dec.{ltb, eqb}
 use borrow.Author.Tests.{ltb-true, ltb-false, lt-ltb, le-ltb, eqb-true, eqb-false, eq-eqb, ne-eqb}
 use Rattle.effbd.specs.Answers.{accepted}
 use Rattle.effbd.specs.Ranges.{tabulate}
-use Rattle.effbd.specs.Diagrams.{Kind, function, and-open, branch, and-close, or-open, or-close, it-open, it-close, lp-open, lp-close, loop-exit, end, numberOf, sameKind, Diagram, rowCount, itemTotal, item, isTrigger, kind, isKind}
+use Rattle.effbd.specs.Diagrams.{Kind, function, and-open, branch, and-close, or-open, or-close, it-open, it-close, lp-open, lp-close, loop-exit, end, box-open, box-close, box-exit, numberOf, sameKind, Diagram, rowCount, itemTotal, item, isTrigger, kind, isKind}
 use Rattle.effbd.specs.Counts.{initialCount}
 use Rattle.effbd.specs.Nesting.{stack, owner, nested}
 use Rattle.effbd.specs.Layout.{byPlace, places, placeOf}
@@ -74,6 +74,9 @@ module _ (d : Diagram) (acc : nested d ≡ accepted d) (some : 0 < rowCount d) w
   first-as lp-close ofAnd h = clash refl h
   first-as loop-exit ofAnd h = (refl, refl, refl)
   first-as end ofAnd h = (refl, refl, refl)
+  first-as box-open ofAnd h = (refl, refl, refl)
+  first-as box-close ofAnd h = (refl, refl, refl)
+  first-as box-exit ofAnd h = (refl, refl, refl)
 
   first : (enteredRow d 0 ≡ 0) × (isKind d branch 0 ≡ false) × (isKind d and-close 0 ≡ false)
   unfolding enteredRow

@@ -47,7 +47,7 @@ fn turns_allowed(table: &[u16], row: u32, turns: u16) -> bool
     turns == 0
 }
 
-// The clock of a running row is at most its β; no other row has a clock.
+// The clock of a running row is at most its β; no other row has a clock. Of an EXIT the cell is no β, but its activity is never 2.
 fn clock_allowed(table: &[u16], row: u32, activity: u16, clock: u16) -> bool
     ensures { λ r. ⌜ r ≡ clockAllowed (now (table .entry)) row activity clock ⌝ }
 {

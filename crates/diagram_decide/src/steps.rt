@@ -76,7 +76,7 @@ fn function(table: &[u16], rows: u32, items: u32, file: &[u8], state: &[u16], ro
     Answer::Refused(refusals::NOT_STANDING, row)
 }
 
-// A BRANCH of an OR steps if its open is ready; a BRANCH of an AND never steps.
+// A BRANCH of an OR steps if its open is ready; a BRANCH of an AND or of a box never steps.
 fn branch(table: &[u16], state: &[u16], row: u32) -> Answer
     ensures { λ r. ⌜ said r ≡ branchVerdict (now (table .entry)) (now (state .entry)) row ⌝ }
 {

@@ -8,10 +8,10 @@ use native.Mathlib.Omega.{arith}
 use lib.ListN.{length, getD, take, drop, length-take, length-drop, List·getD-eq-default}
 use lib.Dec.{eqb}
 use lib.Seq.{getD-take, take-nil}
-use borrow.Author.Tests.{le-leb, eqb-true, eqb-false}
+use borrow.Author.Tests.{le-leb, eqb-true, eqb-false, eq-eqb}
 use Rattle.effbd.specs.Answers.{Outcome, accepted, refused, unless, andThen, refusalNumber, refusalValue}
 use Rattle.effbd.specs.Records.{word, lengthAt, areBytes}
-use Rattle.effbd.specs.Diagrams.{mostRows, function, end, sameKind, Use, Row, plain, Diagram, rowCount, kind, isKind, usesAt}
+use Rattle.effbd.specs.Diagrams.{mostRows, function, box-exit, end, numberOf, sameKind, Use, Row, plain, Diagram, rowCount, kind, isKind, usesAt}
 use Rattle.effbd.specs.Nesting.{nestingFault, unlessRow, nested, readDiagram, fromRow, Part, partIn, usesPartOf, usesPart}
 use Rattle.effbd.specs.Counts.{countTotal}
 use Rattle.effbd.specs.Layout.{places}
@@ -22,22 +22,22 @@ use Rattle.diagram.specs.declared.Diagram.{Diagram as Parse}
 use Rattle.diagram_file.specs.declared.Refusal.{Refusal}
 use Rattle.diagram_records.specs.Reading.{Tabled, Recorded}
 use Rattle.nesting.specs.Runs.{Kinds, NestingRead}
-use Rattle.loop_times.specs.Loops.{LoopsRead}
-use Rattle.diagram_structure.specs.Structure.{putStructure, structured, structureFilled}
-use Rattle.diagram_structure.proofs.Filled.{filled-is}
+use Rattle.diagram_structure.specs.Structure.{structureFilled}
+use Rattle.outlets.specs.Outlets.{hasBox}
+use Rattle.diagram_rules.specs.Rules.{Ready, Structured, RulesRead}
+use Rattle.diagram_rules.proofs.Behind.{plain-structured}
 use Rattle.diagram_file.specs.Tables.{Judged, Filled, Parsed, PartIs}
 use Rattle.diagram_table.specs.declared.Part.{Part as Lies}
 use Rattle.diagram_table.specs.Cells.{cellOf, itemCell, someTriggerCell, cellTotal, someTriggerIn, usesStartIn, usesNumberIn, usesPartIn, usesBytes, usesOf, usesIn}
 use Rattle.diagram_table.specs.Held.{Tabulated, Holds, HoldsUses, HoldsFile}
-use Rattle.ranges.specs.Tests.{decide}
+use Rattle.ranges.specs.Tests.{decide, clash}
 use Rattle.ranges.specs.Outcomes.{unless-refused}
 use Rattle.agreement.specs.AcceptedFiles.{held, nested-clear}
-use Rattle.agreement.specs.RowFaults.{rows-clean}
+use Rattle.agreement.specs.RowFaults.{rows-clean, rows-faultless}
 use Rattle.agreement.specs.Sources.{counts-are, no-copies}
 use Rattle.copies.specs.Promised.{CopyTotal}
 use Rattle.diagram_records.proofs.Files.{two-parts}
 use Rattle.nesting.proofs.Stacks.{owner-low, loop-low, close-low}
-use Rattle.diagram_structure.proofs.Columns.{Sound, sound, close-is}
 
 refused-back : {A : Type 0} (x : Outcome A) (n v : ℕ) → n ≡ refusalNumber x → v ≡ refusalValue x → n ≢ 0 → x ≡ refused n v
 refused-back (accepted a) n v en ev ne = absurd (ne en)
@@ -73,7 +73,7 @@ uses-in t file r h =
 
 -- ---- a file is refused
 refused-is : {file t : List ℕ} (n v : ℕ) → n ≢ 0 → readDiagram file ≡ refused n v → Judged file t (record { number = n; value = v })
-refused-is n v ne e = record { number = ap refusalNumber (sym e); value = ap refusalValue (sym e); tabled = λ z. absurd (ne z); read = λ z. absurd (ne z) }
+refused-is n v ne e = record { number = ap refusalNumber (sym e); value = ap refusalValue (sym e); tabled = λ z. absurd (ne z); read = λ z. absurd (ne z); boxed = λ z. absurd (ne z) }
 
 pub refused-records : {file t : List ℕ} {r : Reached} → Recorded file t r → r .fault ≢ 0 → Judged file t (record { number = r .fault; value = r .at })
 refused-records {file} {t} {r} w ne = refused-is (r .fault) (r .at) ne (two-parts file ∙ ap (λ x. andThen x nested) (w .refusal ne))
@@ -94,9 +94,6 @@ module _ {file t : List ℕ} (w : Tabled file t) where
   read-nested : readDiagram file ≡ nested dia
   read-nested = two-parts file ∙ ap (λ x. andThen x nested) (w .read)
 
-  judged-fine : readDiagram file ≡ accepted dia → Judged file t (record { number = 0; value = 0 })
-  judged-fine r = record { number = ap refusalNumber (sym r); value = ap refusalValue (sym r); tabled = λ _. w; read = λ _. r }
-
   -- the walk
   module _ {j : Judgement} {rows : ℕ} (e : rows ≡ word file 6) (n : NestingRead t rows j) where
     walked : (on : Outcome Diagram) → unlessRow dia (nestingFault dia) on ≡ unless (j .number) (j .row) on
@@ -106,68 +103,116 @@ module _ {file t : List ℕ} (w : Tabled file t) where
     unfolding nested
     refused-nesting ne = refused-is (j .number) (j .row) ne (read-nested ∙ (walked _ ∙ unless-refused (j .number) (j .row) _ ne))
 
-    -- and behind it the loops
-    module _ (z : j .number ≡ 0) {i : Judgement} (m : LoopsRead t rows i) where
-      passed : (on : Outcome Diagram) → unlessRow dia (nestingFault dia) on ≡ on
-      passed on = walked on ∙ ap (λ (x : ℕ). unless x (j .row) on) z
+    pub ready : j .number ≡ 0 → length t ≡ cellTotal → Ready dia (word file 6) t
+    ready z long = record { long = long; some = some-row; few = few-rows; kinds = kinds-in; fine = rows-clean dia (nestingFault dia) (accepted dia) dia (passed z _) .0 }
+      where
+        passed : j .number ≡ 0 → (on : Outcome Diagram) → unlessRow dia (nestingFault dia) on ≡ on
+        passed z on = walked on ∙ ap (λ (x : ℕ). unless x (j .row) on) z
 
-      judged : readDiagram file ≡ unless (i .number) (i .row) (accepted dia)
-      unfolding nested
-      judged = read-nested ∙ (passed _ ∙ subst (λ (x : ℕ). LoopsRead t x i) e m .judged dia kinds-in (rows-clean dia (nestingFault dia) (accepted dia) dia (passed _) .0) (accepted dia))
+  -- the records' columns stay where the structure is filled in
+  module _ {u : List ℕ} (s : Structured dia (word file 6) t u) where
+    record-kept : (c r : ℕ) → c < 5 → c ≢ 2 → r < word file 6 → getD u (cellOf c r) 0 ≡ getD t (cellOf c r) 0
+    record-kept c r l n b = let few = few-rows in s .records (cellOf c r) (omega arith) (λ q m k z. absurd (omega arith))
 
-      pub judged-loops : Judged file t (record { number = i .number; value = i .row })
-      judged-loops = decide (eqb (i .number) 0)
-          (λ e. let y = eqb-true (i .number) 0 e in rw (y, m .none y) (judged-fine (judged ∙ ap (λ (x : ℕ). unless x (i .row) (accepted dia)) y)))
-          (λ e. let ne = eqb-false (i .number) 0 e in refused-is (i .number) (i .row) ne (judged ∙ unless-refused (i .number) (i .row) (accepted dia) ne))
+    second-kept : (r : ℕ) → r < word file 6 → isKind dia box-exit r ≡ false → getD u (cellOf 2 r) 0 ≡ getD t (cellOf 2 r) 0
+    second-kept r b n = let few = few-rows in s .records (cellOf 2 r) (omega arith)
+        (λ q m k z. let y : r ≡ q = omega arith in clash (eq-eqb (numberOf (kind dia r)) 31 (sym (w .tabulated .kinds r b) ∙ (ap (λ (x : ℕ). getD t x 0) y ∙ k))) n)
 
-  -- ---- the structure of an accepted file
-  module _ (got : readDiagram file ≡ accepted dia) (long : length t ≡ cellTotal) where
-    acc : nested dia ≡ accepted dia
-    acc = sym read-nested ∙ got
-
-    fine : (q : ℕ) → q < rowCount dia → nestingFault dia q ≡ 0
-    fine = nested-clear dia dia acc .walk
-
-    abbrev pass : List ℕ
-    pass = structured (word file 6) (word file 6 - 1) (putStructure (word file 6) 0 0 0 0 t)
-
-    found : Sound dia (word file 6) (w .tabulated .rowsAre) fine few-rows t (word file 6 - 1) (word file 6 - 1) pass
-    found = sound dia (word file 6) (w .tabulated .rowsAre) fine few-rows t long (kinds-in .cell) (word file 6 - 1) (let a = some-row in omega arith)
-
-    tabulated : Tabulated dia (word file 6) (word file 8) pass
+    tabulated : Tabulated dia (word file 6) (word file 8) u
     tabulated =
-        let b = w .tabulated in let s = found in let few = few-rows in
+        let b = w .tabulated in let few = few-rows in
         record {
           rowsAre = b .rowsAre;
           itemsAre = b .itemsAre;
           someRow = b .someRow;
           fewRows = b .fewRows;
           fewItems = b .fewItems;
-          kinds = λ r l. s .same .below r (omega arith) ∙ b .kinds r l;
-          firsts = λ r l. s .same .below (cellOf 1 r) (omega arith) ∙ b .firsts r l;
-          seconds = λ r l. s .same .below (cellOf 2 r) (omega arith) ∙ b .seconds r l;
-          numbers = λ r l. s .same .below (cellOf 4 r) (omega arith) ∙ b .numbers r l;
-          counts = λ k l. s .same .above (itemCell 0 k) (omega arith) ∙ b .counts k l;
-          triggers = λ k l. s .same .above (itemCell 1 k) (omega arith) ∙ b .triggers k l;
-          noTrigger = λ e. b .noTrigger (sym (s .same .above someTriggerCell (omega arith)) ∙ e);
+          kinds = λ r l. s .records r (omega arith) (λ q m k z. absurd (omega arith)) ∙ b .kinds r l;
+          firsts = λ r l. record-kept 1 r (omega arith) (λ z. absurd (omega arith)) l ∙ b .firsts r l;
+          seconds = λ r l n. second-kept r l n ∙ b .seconds r l n;
+          numbers = λ r l. record-kept 4 r (omega arith) (λ z. absurd (omega arith)) l ∙ b .numbers r l;
+          counts = λ k l. s .items (itemCell 0 k) (omega arith) ∙ b .counts k l;
+          triggers = λ k l. s .items (itemCell 1 k) (omega arith) ∙ b .triggers k l;
+          noTrigger = λ e. b .noTrigger (sym (s .items someTriggerCell (omega arith)) ∙ e);
         }
 
-    holds : Holds dia (word file 6) (word file 8) pass
-    holds =
-        let b = w .tabulated in let s = found in
-        let few = few-rows in let some = some-row in
-        record {
-          nests = acc;
-          long = let z = s .same .long ∙ long in omega arith;
-          records = tabulated;
-          owners = λ r l. s .owners r (omega arith);
-          branches = λ r l. s .branches r (omega arith);
-          closes = λ r l. close-is dia (word file 6) (b .rowsAre) fine few t long (kinds-in .cell) (word file 6 - 1) (omega arith) pass s r l;
-          loops = λ r l. s .loops r (omega arith);
-          ownerLow = owner-low dia;
-          loopLow = loop-low dia;
-          closeLow = λ r. rw (b .rowsAre) (close-low dia r);
-        }
+    offset : (r : ℕ) → r < rowCount dia → usesStartIn u r ≡ usesStartIn t r
+    offset r l = record-kept 3 r (omega arith) (λ z. absurd (omega arith)) (let e = w .tabulated .rowsAre in omega arith)
+
+    number : (r : ℕ) → r < rowCount dia → usesNumberIn u r ≡ usesNumberIn t r
+    number r l = record-kept 4 r (omega arith) (λ z. absurd (omega arith)) (let e = w .tabulated .rowsAre in omega arith)
+
+    tabled : Tabled file u
+    tabled = let b = w .uses in record {
+      diagram = dia;
+      read = w .read;
+      tabulated = tabulated;
+      uses = record {
+        offsets = λ r l. offset r l ∙ b .offsets r l;
+        sizes = λ r l. ap (λ (x : ℕ). 6 * x) (number r l) ∙ b .sizes r l;
+        inside = λ r l. rw (offset r l, number r l) (b .inside r l);
+        uses = λ r l. rw (offset r l, number r l) (b .uses r l);
+      };
+    }
+
+    own-structured : Structured dia (word file 6) u u
+    own-structured = record {
+      long = refl;
+      records = λ i l f. refl;
+      items = λ i l. refl;
+      owners = s .owners;
+      branches = s .branches;
+      closes = s .closes;
+      loops = s .loops;
+      outlets = s .outlets;
+      scenarioLasts = s .scenarioLasts;
+    }
+
+  -- the rules behind the walk
+  module _ {rows : ℕ} (e : rows ≡ word file 6) (d : Ready dia (word file 6) t) {i : Judgement} {u : List ℕ} (m : RulesRead rows t u i) where
+    rules : RulesRead (word file 6) t u i
+    rules = subst (λ (x : ℕ). RulesRead x t u i) e m
+
+    judged : readDiagram file ≡ unless (i .number) (i .row) (accepted dia)
+    unfolding nested
+    judged = read-nested ∙ (rows-faultless dia (nestingFault dia) (d .fine) _ ∙ rules .judged dia d (accepted dia))
+
+    judged-fine : i .number ≡ 0 → readDiagram file ≡ accepted dia → Judged file u (record { number = 0; value = 0 })
+    unfolding tabled
+    judged-fine y r = decide (hasBox t (word file 6))
+        (λ b. let s = rules .boxed y b dia d in
+        record { number = ap refusalNumber (sym r); value = ap refusalValue (sym r); tabled = λ _. tabled s; read = λ _. r; boxed = λ _ _. own-structured s })
+        (λ b. subst (λ (x : List ℕ). Judged file x (record { number = 0; value = 0 })) (sym (rules .boxless b))
+        (record { number = ap refusalNumber (sym r); value = ap refusalValue (sym r); tabled = λ _. w; read = λ _. r; boxed = λ _ h. clash h b }))
+
+    pub judged-rules : Judged file u (record { number = i .number; value = i .row })
+    judged-rules = decide (eqb (i .number) 0)
+        (λ e. let y = eqb-true (i .number) 0 e in rw (y, m .none y) (judged-fine y (judged ∙ ap (λ (x : ℕ). unless x (i .row) (accepted dia)) y)))
+        (λ e. let ne = eqb-false (i .number) 0 e in refused-is (i .number) (i .row) ne (judged ∙ unless-refused (i .number) (i .row) (accepted dia) ne))
+
+  -- ---- the structure of an accepted file
+  module _ (got : readDiagram file ≡ accepted dia) where
+    acc : nested dia ≡ accepted dia
+    acc = sym read-nested ∙ got
+
+    pub ready-read : length t ≡ cellTotal → Ready dia (word file 6) t
+    ready-read long = record { long = long; some = some-row; few = few-rows; kinds = kinds-in; fine = nested-clear dia dia acc .walk }
+
+    holds : {u : List ℕ} → length t ≡ cellTotal → Structured dia (word file 6) t u → Holds dia (word file 6) (word file 8) u
+    holds long s = record {
+      nests = acc;
+      long = let z = s .long ∙ long in omega arith;
+      records = tabulated s;
+      owners = s .owners;
+      branches = s .branches;
+      closes = s .closes;
+      loops = s .loops;
+      outlets = s .outlets;
+      scenarioLasts = s .scenarioLasts;
+      ownerLow = owner-low dia;
+      loopLow = loop-low dia;
+      closeLow = λ r. rw (w .tabulated .rowsAre) (close-low dia r);
+    }
 
     part-is : (r : ℕ) → r < rowCount dia → usesPart file r ≡ usesPartIn t r
     unfolding usesPart
@@ -178,31 +223,37 @@ module _ {file t : List ℕ} (w : Tabled file t) where
         go true x y p q = ap₂ (λ (a b : ℕ). record { start = a; size = b }) (sym p) (sym q)
         go false x y p q = ap₂ (λ (a b : ℕ). record { start = a; size = b }) (sym p) (sym q)
 
-    holds-uses : HoldsUses file dia pass
-    holds-uses =
-        let b = w .uses in let s = found in
-        let few : rowCount dia ≤ mostRows = rw (← w .tabulated .rowsAre) few-rows in
-        let offset : (r : ℕ) → r < rowCount dia → usesStartIn pass r ≡ usesStartIn t r = λ r l. s .same .below (cellOf 3 r) (omega arith) in
-        let number : (r : ℕ) → r < rowCount dia → usesNumberIn pass r ≡ usesNumberIn t r = λ r l. s .same .below (cellOf 4 r) (omega arith) in
-        let inside : (r : ℕ) → r < rowCount dia → usesStartIn pass r + 6 * usesNumberIn pass r ≤ length file = λ r l. rw (offset r l, number r l) (b .inside r l) in
+    holds-uses : {u : List ℕ} → Structured dia (word file 6) t u → HoldsUses file dia u
+    holds-uses {u} s =
+        let b = w .uses in
+        let inside : (r : ℕ) → r < rowCount dia → usesStartIn u r + 6 * usesNumberIn u r ≤ length file = λ r l. rw (offset s r l, number s r l) (b .inside r l) in
         record {
-          uses = λ r l. uses-in pass file r (inside r l) ∙ rw (offset r l, number r l) (b .uses r l);
-          part = λ r l. rw (offset r l, number r l) (part-is r l);
+          uses = λ r l. uses-in u file r (inside r l) ∙ rw (offset s r l, number s r l) (b .uses r l);
+          part = λ r l. rw (offset s r l, number s r l) (part-is r l);
           inside = inside;
         }
 
-    structured-holds : HoldsFile file (word file 6) (word file 8) pass
-    structured-holds = record { diagram = dia; read = got; holds = holds; uses = holds-uses }
+    structured-holds : {u : List ℕ} → length t ≡ cellTotal → Structured dia (word file 6) t u → HoldsFile file (word file 6) (word file 8) u
+    structured-holds long s = record { diagram = dia; read = got; holds = holds long s; uses = holds-uses s }
 
 module _ {file t : List ℕ} {r : Refusal} (w : Judged file t r) where
   pub filled-refused : r .number ≢ 0 → Filled file t r
   filled-refused ne = record { number = w .number; value = w .value; holds = λ z. absurd (ne z) }
 
-  pub filled-accepted : {n : ℕ} {u : List ℕ} → r .number ≡ 0 → length t ≡ cellTotal → n ≡ word file 6 → u ≡ structureFilled n t → Filled file u r
-  filled-accepted z long en eu = record {
+  -- a row opens a box: the structure is there
+  pub filled-boxed : {n : ℕ} → (z : r .number ≡ 0) → length t ≡ cellTotal → n ≡ word file 6 → hasBox t n ≡ true → Filled file t r
+  filled-boxed z long en h = record {
     number = w .number;
     value = w .value;
-    holds = λ _. subst (HoldsFile file (word file 6) (word file 8)) (sym (eu ∙ (ap (λ (x : ℕ). structureFilled x t) en ∙ filled-is (word file 6) t long (some-row (w .tabled z)) (few-rows (w .tabled z))))) (structured-holds (w .tabled z) (w .read z) long);
+    holds = λ _. structured-holds (w .tabled z) (w .read z) long (w .boxed z (subst (λ (x : ℕ). hasBox t x ≡ true) en h));
+  }
+
+  pub filled-plain : {n : ℕ} {u : List ℕ} → r .number ≡ 0 → length t ≡ cellTotal → n ≡ word file 6 → hasBox t n ≡ false → u ≡ structureFilled n t → Filled file u r
+  filled-plain z long en h eu = record {
+    number = w .number;
+    value = w .value;
+    holds = λ _. subst (HoldsFile file (word file 6) (word file 8)) (sym (eu ∙ ap (λ (x : ℕ). structureFilled x t) en)) (structured-holds (w .tabled z) (w .read z) long
+        (plain-structured (w .tabled z .diagram) (word file 6) t (ready-read (w .tabled z) (w .read z) long) (subst (λ (x : ℕ). hasBox t x ≡ false) en h)));
   }
 
   -- ---- a file's answer

@@ -1,6 +1,7 @@
 -- What this crate promises: a file's refusal, or its diagram as a table. Assumes nothing.
 use Prim.Native.Nat.{ℕ, _+_, _≤_, _<_}
 use mathlib.Core.Path.{_≡_}
+use mathlib.Core.Bool.{true}
 use mathlib.Core.List.{List}
 use lib.ListN.{length}
 use Rattle.effbd.specs.Answers.{accepted, refusalNumber, refusalValue}
@@ -11,13 +12,17 @@ use Rattle.diagram_table.specs.Held.{HoldsFile}
 use Rattle.diagram.specs.declared.Diagram.{Diagram as Parse}
 use Rattle.diagram_file.specs.declared.Refusal.{Refusal}
 use Rattle.diagram_records.specs.Reading.{Tabled}
+use Rattle.outlets.specs.Outlets.{hasBox}
+use Rattle.diagram_rules.specs.Rules.{Structured}
 
--- a file's records and their nesting were judged: where nothing is refused, the table has the records' columns
+-- a file's records, their nesting and the rules behind it were judged: where nothing is refused, the table has the records' columns, and where a row opens a
+-- box the structure of its rows
 pub record Judged (file table : List ℕ) (r : Refusal) : Type 0 where
   pub number : r .number ≡ refusalNumber (readDiagram file)
   pub value : r .value ≡ refusalValue (readDiagram file)
   pub tabled : r .number ≡ 0 → Tabled file table
   pub read : (z : r .number ≡ 0) → readDiagram file ≡ accepted (tabled z .diagram)
+  pub boxed : (z : r .number ≡ 0) → hasBox table (word file 6) ≡ true → Structured (tabled z .diagram) (word file 6) table table
 
 -- the table was filled from a file, or the file is refused (the table's words are then not fixed)
 pub record Filled (file table : List ℕ) (r : Refusal) : Type 0 where

@@ -18,7 +18,8 @@ pub(crate) struct Refusal {
     pub value: u32,
 }
 
-// Judges a file: its records, their nesting, then its loops; a zeroed table is left with the records' columns.
+// Judges a file: its records, their nesting, then the rules behind it; a zeroed table is left with the records' columns, and where a row opens a
+// box with the structure of its rows.
 fn judge(file: &[u8], table: &mut [u16]) -> Refusal
     requires { ⌜ length (now table) ≡ cellTotal ⌝ }
     ensures { λ r. ⌜ Judged (now (file .entry)) (now (table .exit)) r ⌝ }
@@ -31,13 +32,17 @@ fn judge(file: &[u8], table: &mut [u16]) -> Refusal
         };
     }
     let rows = words::word(file, 6);
-    let mut judgement = nesting::read_nesting(table, rows);
-    if judgement.number == 0 {
-        judgement = loop_times::read_loops(table, rows);
+    let walk = nesting::read_nesting(table, rows);
+    if walk.number != 0 {
+        return Refusal {
+            number: walk.number,
+            value: walk.row as u32,
+        };
     }
+    let rules = diagram_rules::read_rules(table, rows);
     Refusal {
-        number: judgement.number,
-        value: judgement.row as u32,
+        number: rules.number,
+        value: rules.row as u32,
     }
 }
 
@@ -50,7 +55,11 @@ fn fill(file: &[u8], table: &mut [u16]) -> Refusal
     if refusal.number != 0 {
         return refusal;
     }
-    diagram_structure::fill_structure(table, words::word(file, 6));
+    let rows = words::word(file, 6);
+    if outlets::has_box(table, rows) {
+        return refusal;
+    }
+    diagram_structure::fill_structure(table, rows);
     refusal
 }
 
@@ -88,7 +97,7 @@ fn read_into(file: &[u8], table: &mut [u16]) -> Answer
     Answer::Accepted(plain + copies as u32)
 }
 
-// Accepts a diagram file with the number of words of its state, or turns it away. The verdict asks for no structure.
+// Accepts a diagram file with the number of words of its state, or turns it away. The verdict asks for no structure but a box's.
 pub fn read(file: &[u8]) -> Answer
     ensures { λ r. ⌜ said r ≡ stateLength (now (file .entry)) ⌝ }
 {

@@ -8,7 +8,7 @@ use Rattle.words.specs.Stores.{copied}
 use Rattle.effbd.specs.Answers.{Outcome, accepted, refused}
 use Rattle.effbd.specs.Diagrams.{Use}
 use Rattle.effbd.specs.States.{activityAt, turnsAt, clockAt}
-use Rattle.diagram_table.specs.Cells.{kindIn, firstIn, ownerIn, branchIn, closeIn, loopIn, countsIn, runFirst, runLength, usesIn, killsIn, enteredIn}
+use Rattle.diagram_table.specs.Cells.{kindIn, firstIn, ownerIn, branchIn, closeIn, loopIn, outletIn, scenarioLastIn, countsIn, runFirst, runLength, usesIn, killsIn, enteredIn}
 use Rattle.words.specs.Sums.{added}
 use Rattle.diagram_moves.specs.Decisions.{countPlace, amountOf, changed, stateAllowed, moveVerdict}
 
@@ -84,8 +84,16 @@ module _ (table : List ℕ) where
       (tokenPassed r (r + 1) (set words (turnsAt r) (getD words (turnsAt r) 0 + 1)))
       (tokenPassed r (closeIn table r + 1) (set words (turnsAt r) 0))
 
-  unfoldable pub exitChange : ℕ → List ℕ → List ℕ
-  exitChange r words = entered (closeIn table (loopIn table r) + 1) (rowsCleared (loopIn table r) (closeIn table (loopIn table r)) words)
+  -- the rows from `first` to `last` are left: they are cleared, row `to` is entered
+  unfoldable pub rowsLeft : (first last to : ℕ) → List ℕ → List ℕ
+  rowsLeft first last to words = entered to (rowsCleared first last words)
+
+  -- an LE leaves its loop for the row after it, an EXIT its box's scenario for the row after its outlet's BRANCH
+  unfoldable pub loopExitChange : ℕ → List ℕ → List ℕ
+  loopExitChange r words = rowsLeft (loopIn table r) (closeIn table (loopIn table r)) (closeIn table (loopIn table r) + 1) words
+
+  unfoldable pub boxExitChange : ℕ → List ℕ → List ℕ
+  boxExitChange r words = rowsLeft (ownerIn table (outletIn table r)) (scenarioLastIn table r) (outletIn table r + 1) words
 
   module _ (rows : ℕ) (file : List ℕ) where
     unfoldable pub functionChange : ℕ → List ℕ → List ℕ
@@ -101,8 +109,9 @@ module _ (table : List ℕ) where
         (cond (eqb (kindIn table r) 22) (itOpenChange r words)
         (cond (eqb (kindIn table r) 23) (tokenPassed r (ownerIn table r) words)
         (cond (eqb (kindIn table r) 25) (tokenPassed r (ownerIn table r) words)
-        (cond (eqb (kindIn table r) 26) (exitChange r words)
-        (tokenPassed r (r + 1) words))))))))
+        (cond (eqb (kindIn table r) 26) (loopExitChange r words)
+        (cond (eqb (kindIn table r) 31) (boxExitChange r words)
+        (tokenPassed r (r + 1) words)))))))))
 
     unfoldable pub moveChange : (code argument : ℕ) → List ℕ → List ℕ
     moveChange code argument words = cond (eqb code 1) (rowChange argument words) (fold rows (tickTurn argument) words)

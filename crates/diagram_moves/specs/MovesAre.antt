@@ -1,25 +1,26 @@
 -- The check of a state, waits, and a whole move over the table and the state's words are the diagram's.
-use Prim.Native.Nat.{ℕ, suc, _+_, _≤_, _<_}
+use Prim.Native.Nat.{ℕ, suc, _+_, _-_, _≤_, _<_}
 use mathlib.Core.Path.{_≡_, refl, sym, _∙_, ap}
 use mathlib.Core.Bool.{Bool, true, false, not, cond, _&&_, _||_}
 use mathlib.Core.List.{List}
 use native.Mathlib.Numerals.{add-one}
 use native.Mathlib.Omega.{arith}
 use lib.ListN.{length, set}
-use lib.Dec.{leb, ltb, eqb}
+use lib.Dec.{leb, ltb, eqb, leb·suc-suc}
 use borrow.Author.Tests.{ltb-true, ltb-false, eqb-true, eq-eqb, not-true}
-use Rattle.effbd.specs.Ranges.{allBelow, only, within}
+use Rattle.effbd.specs.Ranges.{allBelow, only}
 use Rattle.effbd.specs.Answers.{accepted, refused}
-use Rattle.effbd.specs.Diagrams.{Diagram, Kind, function, and-open, branch, and-close, or-open, or-close, it-open, it-close, lp-open, lp-close, loop-exit, end, numberOf, sameKind, row, rowCount, itemTotal, isTrigger, kind, isKind}
+use Rattle.effbd.specs.Diagrams.{Diagram, Kind, function, and-open, branch, and-close, or-open, or-close, it-open, it-close, lp-open, lp-close, loop-exit, end, box-open, box-close, box-exit, numberOf, sameKind, row, rowCount, itemTotal, isTrigger, kind, isKind}
 use Rattle.effbd.specs.Counts.{Tally, copy, countTotal, itemOf, shared, tally}
-use Rattle.effbd.specs.Nesting.{owner, close, branchOf, loop, isClose}
+use Rattle.effbd.specs.Frames.{role, isOpening}
+use Rattle.effbd.specs.Nesting.{owner, close, branchOf, loop, inLoop, isClose, box, scenario, firstOutlet, outlet}
 use Rattle.effbd.specs.Layout.{places}
 use Rattle.effbd.specs.States.{State, turnsAt, stateOf, enteredAs, enteredRow, endsKiller, activate, enter, branchEntries, makeIdle, clearRows, setTurns, activityFine, rowPasses, countPasses, statePasses}
 use Rattle.effbd.specs.Moves.{mostWord, moveOf, passTicks, enough, allDone, ifReady, stepAs, step, holdsAs, wait, move, wordsOutcome, moveWords, checkedMove}
 use Rattle.diagram_table.specs.Held.{Holds, HoldsCopies, HoldsRanks, HoldsUses}
 use Rattle.diagram_table.proofs.HeldCells.{owner-in}
 use Rattle.ranges.specs.Tests.{decide, clash, and-left, and-right, or-split, or-left, or-right, or-false-right}
-use Rattle.ranges.specs.RangeLaws.{all-intro, all-elim, all-ext, all-fail, all-find}
+use Rattle.ranges.specs.RangeLaws.{all-intro, all-elim, all-ext, all-fail, all-find, least-found}
 use Rattle.agreement.specs.Basics.{kind-in, kind-past, not-kind, same-eq}
 use Rattle.agreement.specs.Structure.{opens, Laws}
 use Rattle.agreement.specs.NestingLaws.{laws}
@@ -31,11 +32,11 @@ use Rattle.diagram_table.specs.Cells.{countsIn, kindIn, ownerIn, branchIn, clos
 use Rattle.words.specs.Sums.{added}
 use Rattle.words.proofs.PlainSums.{whole-sum}
 use Rattle.diagram_moves.specs.Decisions.{activityAllowed, turnsAllowed, clockAllowed, rowAllowed, countAllowed, sharedAllowed, stateAllowed, andDone, readyVerdict, branchVerdict, closeVerdict, rowVerdict, functionHolds, rowHolds, rowFree, waitVerdict, moveVerdict}
-use Rattle.diagram_moves.specs.Changes.{fold, rowSet, tickTurn, tokenPassed, branchesSet, branchesEntered, itOpenChange, exitChange, entered, rowChange, moveChange, outcomeOf, tableMove, checkedTableMove}
+use Rattle.diagram_moves.specs.Changes.{fold, rowSet, tickTurn, tokenPassed, branchesSet, branchesEntered, itOpenChange, loopExitChange, boxExitChange, entered, rowChange, moveChange, outcomeOf, tableMove, checkedTableMove}
 use Rattle.diagram_moves.specs.Stores.{Reads, like, reads-words, words-read, set-turns}
 use Rattle.diagram_moves.specs.RowStores.{tick-fold}
 use Rattle.agreement.specs.Reach.{next-in, close-in, opened-by, and-closed}
-use Rattle.diagram_moves.specs.TokenMoves.{number-is, idle-reads, enter-by, enter-reads, pass-reads, ready-is, all-done-is, set-branches, open-branches, clear-reads}
+use Rattle.diagram_moves.specs.TokenMoves.{number-is, idle-reads, enter-by, enter-reads, pass-reads, ready-is, all-done-is, set-branches, open-branches, leave-reads}
 use Rattle.diagram_moves.specs.FunctionMoves.{Small, SmallCounts, small-counts, enough-is, function-is}
 
 or-nil : (e : Bool) → e ≡ e || false
@@ -72,6 +73,9 @@ runs-only d lp-open ofAnd h = clash h refl
 runs-only d lp-close ofAnd h = clash h refl
 runs-only d loop-exit ofAnd h = clash h refl
 runs-only d end ofAnd h = clash h refl
+runs-only d box-open ofAnd h = clash h refl
+runs-only d box-close ofAnd h = clash h refl
+runs-only d box-exit ofAnd h = clash h refl
 
 -- only a BRANCH of an AND is done
 done-only : (d : Diagram) (k : Kind) (ofAnd : Bool) → activityFine d k ofAnd 3 ≡ true → (k ≡ branch) × (ofAnd ≡ true)
@@ -88,10 +92,18 @@ done-only d lp-open ofAnd h = clash h refl
 done-only d lp-close ofAnd h = clash h refl
 done-only d loop-exit ofAnd h = clash h refl
 done-only d end ofAnd h = clash h refl
+done-only d box-open ofAnd h = clash h refl
+done-only d box-close ofAnd h = clash h refl
+done-only d box-exit ofAnd h = clash h refl
 
 -- where all BRANCH rows of o are done, each is
 done-at : (d : Diagram) (o : ℕ) (s : State) (b : ℕ) → branchOf d o b ≡ true → b < rowCount d → allDone d o s ≡ true → eqb (s .activity b) 3 ≡ true
 done-at d o s b y c f = ap (λ (x : Bool). not x || eqb (s .activity b) 3) (sym y) ∙ all-elim (rowCount d) (λ b. not (branchOf d o b) || eqb (s .activity b) 3) f b c
+
+-- no outlet's BRANCH stands before the first one's
+first-low : (d : Diagram) (o b : ℕ) → b < rowCount d → branchOf d o b ≡ true → firstOutlet d o ≤ b
+unfolding firstOutlet
+first-low d o b c y = least-found (rowCount d) (branchOf d o) b c y .1
 
 activity-shape : (d : Diagram) (k : Kind) (ofAnd : Bool) (a : ℕ)
     → cond (eqb (numberOf k) 16) (leb a 2) (cond (eqb (numberOf k) 18) (cond (eqb a 0) true (cond ofAnd (eqb a 3) false)) (cond (eqb (numberOf k) 19) (eqb a 0) (leb a 1))) ≡ activityFine d k ofAnd a
@@ -108,10 +120,21 @@ activity-shape d lp-open ofAnd a = refl
 activity-shape d lp-close ofAnd a = refl
 activity-shape d loop-exit ofAnd a = refl
 activity-shape d end ofAnd a = refl
+activity-shape d box-open ofAnd a = refl
+activity-shape d box-close ofAnd a = refl
+activity-shape d box-exit ofAnd a = refl
 
 module _ (d : Diagram) (table : List ℕ) (h : Holds d (rowCount d) (itemTotal d) table) (l : List ℕ) (s : State) (e : Reads d l s) where
+  -- what a clock may be, where the activity passes: an EXIT, whose second cell is no β, never runs
+  clock-allowed : (q : ℕ) → q < rowCount d → (a n : ℕ) → activityFine d (kind d q) (isKind d and-open (owner d q)) a ≡ true
+      → clockAllowed table q a n ≡ cond (eqb a 2) (leb n (row d q .second)) (eqb n 0)
+  unfolding clockAllowed
+  clock-allowed q b a n f = decide (eqb a 2)
+      (λ y. let z : a ≡ 2 = eqb-true a 2 y in let k = runs-only d (kind d q) (isKind d and-open (owner d q)) (rw z at f) in rw (h .records .seconds q b (rw k)))
+      (λ y. rw y)
+
   row-allowed : (q : ℕ) → q < rowCount d → rowAllowed table l q ≡ rowPasses d s q
-  unfolding rowAllowed activityAllowed turnsAllowed clockAllowed
+  unfolding rowAllowed activityAllowed turnsAllowed
   row-allowed q b = rw (
     e .activity q b,
     e .turns q b,
@@ -120,9 +143,8 @@ module _ (d : Diagram) (table : List ℕ) (h : Holds d (rowCount d) (itemTotal d
     h .records .kinds q b,
     h .records .kinds (owner d q) (owner-in d (rowCount d) (itemTotal d) table h q b),
     h .records .firsts q b,
-    h .records .seconds q b,
     activity-shape d (kind d q) (isKind d and-open (owner d q)) (s .activity q),
-  )
+  ) (decide (activityFine d (kind d q) (isKind d and-open (owner d q)) (s .activity q)) (λ y. rw (y, clock-allowed q b (s .activity q) (s .clock q) y)) (λ y. rw y))
 
   -- a trigger's shared count is 0; any other count passes
   shared-allowed : (k : ℕ) → k < itemTotal d → countAllowed table (rowCount d) l k ≡ countPasses d (shared k) (s .count k)
@@ -169,7 +191,7 @@ module _ (d : Diagram) (H : Held d) (table : List ℕ) (h : Holds d (rowCount d)
 
     row-holds-as : (k : Kind) (q : ℕ) → q < rowCount d → kind d q ≡ k → eqb (s .activity q) 3 ≡ false → holds q ≡ plainly k q
     unfolding holds plainly rowHolds functionHolds
-    row-holds-as function q b k z = rw (number-is d (H .acc) table h q function b k, e .activity q b, e .clock q b, h .records .seconds q b, enough-is d H table h own ranks file u l s e q b k)
+    row-holds-as function q b k z = rw (number-is d (H .acc) table h q function b k, e .activity q b, e .clock q b, h .records .seconds q b (rw k), enough-is d H table h own ranks file u l s e q b k)
         (holds-shape (s .activity q) (enough d q s) (ltb (row d q .second) (s .clock q + n)))
     row-holds-as and-open q b k z = rw (number-is d (H .acc) table h q and-open b k, e .activity q b, z) (yes-no (eqb (s .activity q) 1))
     row-holds-as branch q b k z = rw (number-is d (H .acc) table h q branch b k, e .activity q b, z) (yes-no (eqb (s .activity q) 1))
@@ -182,6 +204,9 @@ module _ (d : Diagram) (H : Held d) (table : List ℕ) (h : Holds d (rowCount d)
     row-holds-as lp-close q b k z = rw (number-is d (H .acc) table h q lp-close b k, e .activity q b, z) (yes-no (eqb (s .activity q) 1))
     row-holds-as loop-exit q b k z = rw (number-is d (H .acc) table h q loop-exit b k, e .activity q b, z) (yes-no (eqb (s .activity q) 1))
     row-holds-as end q b k z = rw (number-is d (H .acc) table h q end b k)
+    row-holds-as box-open q b k z = rw (number-is d (H .acc) table h q box-open b k, e .activity q b, z) (yes-no (eqb (s .activity q) 1))
+    row-holds-as box-close q b k z = rw (number-is d (H .acc) table h q box-close b k, e .activity q b, z) (yes-no (eqb (s .activity q) 1))
+    row-holds-as box-exit q b k z = rw (number-is d (H .acc) table h q box-exit b k, e .activity q b, z) (yes-no (eqb (s .activity q) 1))
 
     -- a BRANCH row of an AND that is done
     row-holds-done : (q : ℕ) → q < rowCount d → kind d q ≡ branch → kind d (owner d q) ≡ and-open → s .activity q ≡ 3
@@ -315,14 +340,14 @@ module _ (d : Diagram) (H : Held d) (table : List ℕ) (h : Holds d (rowCount d)
     next : (k : Kind) → kind d r ≡ k → sameKind k end ≡ false → suc r < rowCount d
     next k f n = next-in d (H .acc) r (not-kind d r f end n)
 
-    -- its open opens a construct, whose close is not the last row
-    opening : (q : ℕ) (k : Kind) → kind d q ≡ k → (sameKind k and-open || (sameKind k or-open || (sameKind k it-open || sameKind k lp-open))) ≡ true → opens d q ≡ true
-    opening q k f o = ap (λ (j : Kind). sameKind j and-open || (sameKind j or-open || (sameKind j it-open || sameKind j lp-open))) f ∙ o
+    -- an open row opens a construct, whose close is not the last row
+    opening : (q : ℕ) (k : Kind) → kind d q ≡ k → isOpening (role k) ≡ true → opens d q ≡ true
+    opening q k f o = ap (λ (j : Kind). isOpening (role j)) f ∙ o
 
     past : (q : ℕ) → opens d q ≡ true → suc (close d q) < rowCount d
     past q o = close-in d (H .acc) q o
 
-    -- LP open, OR close: the token goes on to the next row
+    -- LP open, OR close, open and close of a box: the token goes on to the next row
     on : (k : Kind) → kind d r ≡ k → sameKind k end ≡ false → outcomeOf (readyVerdict l r r) (tokenPassed table r (r + 1) l) ≡ wordsOutcome d (ifReady d r r s (enter d (suc r) (makeIdle (only r) s)))
     on k f n = rw (add-one r) (ready-is d (H .acc) table h l _ s (enter d (suc r) (makeIdle (only r) s)) r r b e
         (pass-reads d (H .acc) table h l s r (suc r) b (next k f n) e))
@@ -372,15 +397,30 @@ module _ (d : Diagram) (H : Held d) (table : List ℕ) (h : Holds d (rowCount d)
         turned n q c = ready-is d (H .acc) table h l _ s (enter d q (setTurns r n (makeIdle (only r) s))) r r b e
             (pass-reads d (H .acc) table h (set l (turnsAt r) n) (setTurns r n s) r q b c (set-turns d n l s r b e))
 
-    exit-is : kind d r ≡ loop-exit → outcomeOf (readyVerdict l r r) (exitChange table r l) ≡ wordsOutcome d (stepAs d loop-exit r s)
-    unfolding exitChange
-    exit-is f =
+    loop-exit-is : kind d r ≡ loop-exit → outcomeOf (readyVerdict l r r) (loopExitChange table r l) ≡ wordsOutcome d (stepAs d loop-exit r s)
+    unfolding loopExitChange
+    loop-exit-is f =
         let k = law .looped r f .0 in let p = past (loop d r) (opening (loop d r) lp-open k refl) in
         let i = kind-in d (loop d r) (not-kind d (loop d r) k end refl) in
-        rw (h .loops r b, h .closes (loop d r) i, add-one (close d (loop d r)))
-        (ready-is d (H .acc) table h l _ s (enter d (suc (close d (loop d r))) (clearRows (within (loop d r) (close d (loop d r))) s)) r r b e
-        (enter-reads d (H .acc) table h _ (clearRows (within (loop d r) (close d (loop d r))) s) (suc (close d (loop d r))) p
-        (clear-reads d (H .acc) table h l s (loop d r) (close d (loop d r)) (omega arith) e)))
+        rw (h .loops r b (rw f), h .closes (loop d r) i, add-one (close d (loop d r)))
+        (ready-is d (H .acc) table h l _ s (enter d (suc (close d (loop d r))) (clearRows (inLoop d r) s)) r r b e
+        (leave-reads d (H .acc) table h l s (loop d r) (close d (loop d r)) (suc (close d (loop d r))) (inLoop d r)
+        (λ x. rw (leb·suc-suc x (close d (loop d r)))) (omega arith) p e))
+
+    box-exit-is : kind d r ≡ box-exit → outcomeOf (readyVerdict l r r) (boxExitChange table r l) ≡ wordsOutcome d (stepAs d box-exit r s)
+    unfolding boxExitChange
+    box-exit-is f =
+        let o = law .led r f .1 in
+        let isBranch = branch-kind d (box d r) (outlet d r) o in
+        let i = kind-in d (outlet d r) (not-kind d (outlet d r) isBranch end refl) in
+        let late : r < firstOutlet d (box d r) = ltb-true r (firstOutlet d (box d r)) (and-right (leb (box d r) r) _ (law .boxed r f)) in
+        let low = first-low d (box d r) (outlet d r) i o in
+        let whole : suc (firstOutlet d (box d r) - 1) ≡ firstOutlet d (box d r) = omega arith in
+        let inside = next-in d (H .acc) (outlet d r) (not-kind d (outlet d r) isBranch end refl) in
+        rw (h .outlets r b (rw f), h .scenarioLasts r b (rw f), h .owners (outlet d r) i, branch-owner d (box d r) (outlet d r) o, ← add-one (outlet d r))
+        (ready-is d (H .acc) table h l _ s (enter d (outlet d r + 1) (clearRows (scenario d (box d r)) s)) r r b e
+        (leave-reads d (H .acc) table h l s (box d r) (firstOutlet d (box d r) - 1) (outlet d r + 1) (scenario d (box d r))
+        (λ x. rw whole) (omega arith) (omega arith) e))
 
     row-as : (k : Kind) → kind d r ≡ k → outcomeOf (rowVerdict table (rowCount d) (itemTotal d) file l r) (rowChange table (rowCount d) file r l) ≡ wordsOutcome d (stepAs d k r s)
     unfolding rowVerdict rowChange wordsOutcome
@@ -394,8 +434,11 @@ module _ (d : Diagram) (H : Held d) (table : List ℕ) (h : Holds d (rowCount d)
     row-as it-close f = rw (number it-close f) (back it-open (opened-by d (H .acc) it-close it-open r f refl refl) refl refl)
     row-as lp-open f = rw (number lp-open f) (on lp-open f refl)
     row-as lp-close f = rw (number lp-close f) (back lp-open (opened-by d (H .acc) lp-close lp-open r f refl refl) refl refl)
-    row-as loop-exit f = rw (number loop-exit f) (exit-is f)
+    row-as loop-exit f = rw (number loop-exit f) (loop-exit-is f)
     row-as end f = rw (number end f)
+    row-as box-open f = rw (number box-open f) (on box-open f refl)
+    row-as box-close f = rw (number box-close f) (on box-close f refl)
+    row-as box-exit f = rw (number box-exit f) (box-exit-is f)
 
   -- a number that no row has
   beyond : (x : ℕ) → rowCount d ≤ x → refused 22 x ≡ wordsOutcome d (step d x s)

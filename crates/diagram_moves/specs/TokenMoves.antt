@@ -1,13 +1,13 @@
--- The table and the stores of a token's moves are the diagram's: entering, killing, passing on, opening and closing branches, clearing a loop.
+-- The table and the stores of a token's moves are the diagram's: entering, killing, passing on, opening and closing branches, leaving a loop or a scenario.
 use Prim.Native.Nat.{ℕ, zero, suc, _+_, _*_, _≤_, _<_}
 use mathlib.Core.Path.{_≡_, refl, sym, _∙_, ap}
 use mathlib.Core.Bool.{Bool, true, false, not, cond, _&&_, _||_, and-comm}
 use mathlib.Core.List.{List}
 use native.Mathlib.Numerals.{add-one}
 use native.Mathlib.Omega.{arith}
-use lib.Dec.{leb, ltb, eqb, leb·suc-suc}
+use lib.Dec.{leb, ltb, eqb}
 use borrow.Author.Tests.{ltb-true, ltb-false, leb-true, leb-false, le-leb, lt-leb, eqb-true, eqb-false, ne-eqb}
-use Rattle.effbd.specs.Ranges.{allBelow, only, within, between}
+use Rattle.effbd.specs.Ranges.{allBelow, only, between}
 use Rattle.effbd.specs.Answers.{accepted}
 use Rattle.effbd.specs.Diagrams.{Diagram, Kind, and-open, branch, end, numberOf, rowCount, itemTotal, kind, isKind}
 use Rattle.effbd.specs.Nesting.{owner, branchEnded, close, isClose, branchOf}
@@ -24,7 +24,7 @@ use Rattle.agreement.specs.NestingLaws.{laws}
 use Rattle.agreement.specs.TokenSteps.{branch-kind}
 use Rattle.diagram_table.specs.Cells.{kindIn, branchIn}
 use Rattle.diagram_moves.specs.Decisions.{doneBack, branchesDone, readyVerdict}
-use Rattle.diagram_moves.specs.Changes.{rowSet, wordsCleared, rowsCleared, branchesBack, branchesSet, rowsKilled, entered, tokenPassed, branchesEntered, outcomeOf}
+use Rattle.diagram_moves.specs.Changes.{rowSet, wordsCleared, rowsCleared, branchesBack, branchesSet, rowsKilled, entered, tokenPassed, branchesEntered, rowsLeft, outcomeOf}
 use Rattle.diagram_moves.specs.Stores.{Reads, like, reads-words, set-row}
 use Rattle.diagram_moves.specs.RowStores.{cleared-reads}
 use Rattle.agreement.specs.Reach.{next-in, close-in, entered-in, ends-killer, behind-branch, last-branch, next-branch, last-own, next-own}
@@ -272,16 +272,17 @@ module _ (d : Diagram) (acc : wellNested d ≡ true) (table : List ℕ) (h : Hol
         every q = unfold hits missed hit branchEntries in ap not (all-cut (suc last) (rowCount d) (λ b. not (hit q b)) low
             (λ b c i. no-hit q b (no-branch o b (λ z. let w = last-branch d acc o b (close d o) z (shut .0) (shut .1) in absurd (omega arith)))))
 
-  -- the rows from `a` to `e` are cleared
-  pub clear-reads : (l : List ℕ) (s : State) (a e : ℕ) → e < rowCount d → Reads d l s → Reads d (rowsCleared a e l) (clearRows (within a e) s)
-  unfolding rowsCleared
-  clear-reads l s a e b f = rw (add-one e) (like d (cleared-reads d l s a (suc e) (omega arith) f)
+  -- LE, EXIT: the rows from `a` to `e`, which are those of W, are cleared and row q is entered
+  pub leave-reads : (l : List ℕ) (s : State) (a e q : ℕ) (W : ℕ → Bool) → ((x : ℕ) → W x ≡ (leb a x && ltb x (suc e))) → e < rowCount d → q < rowCount d
+      → Reads d l s → Reads d (rowsLeft table a e q l) (enter d q (clearRows W s))
+  unfolding rowsLeft rowsCleared
+  leave-reads l s a e q W same b c f = enter-reads _ (clearRows W s) q c (rw (add-one e) (like d (cleared-reads d l s a (suc e) (omega arith) f)
       (record {
-        activity = λ q c. ap (λ (x : Bool). cond x 0 (s .activity q)) (same q);
-        turns = λ q c. ap (λ (x : Bool). cond x 0 (s .turns q)) (same q);
-        clock = λ q c. ap (λ (x : Bool). cond x 0 (s .clock q)) (same q);
-        count = λ k c. refl;
-      }))
+        activity = λ x i. ap (λ (y : Bool). cond y 0 (s .activity x)) (cleared x);
+        turns = λ x i. ap (λ (y : Bool). cond y 0 (s .turns x)) (cleared x);
+        clock = λ x i. ap (λ (y : Bool). cond y 0 (s .clock x)) (cleared x);
+        count = λ k i. refl;
+      })))
     where
-      same : (q : ℕ) → (ltb q (suc e) && leb a q) ≡ within a e q
-      same q = rw (leb·suc-suc q e) (and-comm (leb q e) (leb a q))
+      cleared : (x : ℕ) → (ltb x (suc e) && leb a x) ≡ W x
+      cleared x = and-comm (ltb x (suc e)) (leb a x) ∙ sym (same x)

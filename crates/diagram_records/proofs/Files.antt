@@ -132,7 +132,7 @@ head-bad file t k e ne = refused-is file t k 0 ne (omega arith)
 abbrev storedKind : ℕ → ℕ
 storedKind k = cond (eqb k 28) 18 k
 
-numbers : allBelow 13 (λ j. eqb (storedKind (16 + j)) (numberOf (kindOf (16 + j)))) ≡ true
+numbers : allBelow 16 (λ j. eqb (storedKind (16 + j)) (numberOf (kindOf (16 + j)))) ≡ true
 unfolding kindOf
 numbers = refl
 
@@ -143,9 +143,9 @@ uses-length (suc u) l = ap suc (uses-length u (drop 6 l))
 
 -- the fields of each kind of row: one computed test
 abbrev fieldsDue : ℕ → ℕ
-fieldsDue k = cond (eqb k 16) 2 (cond (eqb k 22) 1 0)
+fieldsDue k = cond (eqb k 16) 2 (cond (eqb k 22) 1 (cond (eqb k 31) 1 0))
 
-fields-right : allBelow 13 (λ j. eqb (fieldsOf (16 + j)) (fieldsDue (16 + j))) ≡ true
+fields-right : allBelow 16 (λ j. eqb (fieldsOf (16 + j)) (fieldsDue (16 + j))) ≡ true
 unfolding fieldsOf entryIn kindTable
 fields-right = refl
 
@@ -167,21 +167,23 @@ module _ (items at : ℕ) (file l : List ℕ) (clean : rowFault items l ≡ 0) w
 
   row-first : column at 1 l ≡ rowAt l .first
   unfolding column fieldOf rowAt
-  row-first = rw row-fields (decide (eqb (kindAt l) 28) (λ e. rw (eqb-true (kindAt l) 28 e)) (λ e. rw e (go (eqb (kindAt l) 16) (eqb (kindAt l) 22))))
+  row-first = rw row-fields (decide (eqb (kindAt l) 28) (λ e. rw (eqb-true (kindAt l) 28 e)) (λ e. rw e (go (eqb (kindAt l) 16) (eqb (kindAt l) 22) (eqb (kindAt l) 31))))
     where
-      go : (a b : Bool) → cond (leb 1 (cond a 2 (cond b 1 0))) (word l 4) 0 ≡ cond (a || b) (word l 4) 0
-      go true b = refl
-      go false true = refl
-      go false false = refl
+      go : (a b c : Bool) → cond (leb 1 (cond a 2 (cond b 1 (cond c 1 0)))) (word l 4) 0 ≡ cond (a || b || c) (word l 4) 0
+      go true b c = refl
+      go false true c = refl
+      go false false true = refl
+      go false false false = refl
 
   row-second : column at 2 l ≡ rowAt l .second
   unfolding column fieldOf rowAt
-  row-second = rw row-fields (go (eqb (kindAt l) 16) (eqb (kindAt l) 22))
+  row-second = rw row-fields (go (eqb (kindAt l) 16) (eqb (kindAt l) 22) (eqb (kindAt l) 31))
     where
-      go : (a b : Bool) → cond (leb 2 (cond a 2 (cond b 1 0))) (word l 6) 0 ≡ cond a (word l 6) 0
-      go true b = refl
-      go false true = refl
-      go false false = refl
+      go : (a b c : Bool) → cond (leb 2 (cond a 2 (cond b 1 (cond c 1 0)))) (word l 6) 0 ≡ cond a (word l 6) 0
+      go true b c = refl
+      go false true c = refl
+      go false false true = refl
+      go false false false = refl
 
   row-number : column at 4 l ≡ length (rowAt l .uses)
   unfolding column rowAt
@@ -410,7 +412,7 @@ module _ (file t : List ℕ) (r : Reached) (k : headFault file ≡ 0) (i : Items
             kinds = λ p g. ap (λ j. getD t j 0) (let x : p ≡ cellOf 0 p = omega arith in x)
                 ∙ (cell 0 p (omega arith) (in-rows p g) ∙ (row-kind (word file 8) (at p) file (from p) (fine p (in-rows p g)) ∙ ap (λ (x : Row). numberOf (x .kind)) (sym (each p (in-rows p g)))));
             firsts = λ p g. cell 1 p (omega arith) (in-rows p g) ∙ (row-first (word file 8) (at p) file (from p) (fine p (in-rows p g)) ∙ ap (λ (x : Row). x .first) (sym (each p (in-rows p g))));
-            seconds = λ p g. cell 2 p (omega arith) (in-rows p g) ∙ (row-second (word file 8) (at p) file (from p) (fine p (in-rows p g)) ∙ ap (λ (x : Row). x .second) (sym (each p (in-rows p g))));
+            seconds = λ p g x. cell 2 p (omega arith) (in-rows p g) ∙ (row-second (word file 8) (at p) file (from p) (fine p (in-rows p g)) ∙ ap (λ (x : Row). x .second) (sym (each p (in-rows p g))));
             numbers = λ p g. cell 4 p (omega arith) (in-rows p g) ∙ (row-number (word file 8) (at p) file (from p) (fine p (in-rows p g)) ∙ ap (λ (x : Row). length (x .uses)) (sym (each p (in-rows p g))));
             counts = λ p g. q .kept .cell (itemCell 0 p) (omega arith) ∙ (i .filled z .count p g ∙ ap (λ (x : Item). x .initial) (sym (its .held .each p g noItem)));
             triggers = λ p g. q .kept .cell (itemCell 1 p) (omega arith) ∙ (i .filled z .trigger p g ∙ ap (λ (x : Item). cond (x .trigger) 1 0) (sym (its .held .each p g noItem)));

@@ -11,7 +11,8 @@ use lib.Seq.{getD-set-same, getD-set-other}
 use lib.Dec.{eqb}
 use borrow.Author.Tests.{eqb-true, eqb-false, eq-eqb, ne-eqb}
 use Rattle.effbd.specs.Diagrams.{mostRows, lp-open, numberOf, Diagram, rowCount, kind}
-use Rattle.effbd.specs.Nesting.{Frame, turnTo, innermostOpen, latestBranch, stack, owner, branchEnded, innermost, loop, close, isClose, nestingFault}
+use Rattle.effbd.specs.Frames.{Frame, turnTo, innermostOpen, latestBranch}
+use Rattle.effbd.specs.Nesting.{stack, owner, branchEnded, innermost, loop, close, isClose, nestingFault}
 use Rattle.ranges.specs.Tests.{decide, clash}
 use Rattle.ranges.specs.RangeLaws.{least-is, least-none}
 use Rattle.diagram_structure.specs.declared.Around.{Around}

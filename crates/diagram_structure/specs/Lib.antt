@@ -1,1 +1,2 @@
 pub mod Structure
+pub mod Walked

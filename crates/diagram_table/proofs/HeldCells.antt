@@ -5,7 +5,7 @@ use mathlib.Core.Bool.{Bool, true, false, cond, _&&_}
 use mathlib.Core.List.{List}
 use native.Mathlib.Omega.{arith}
 use lib.Dec.{eqb}
-use Rattle.effbd.specs.Diagrams.{Kind, function, and-open, branch, and-close, or-open, or-close, it-open, it-close, lp-open, lp-close, loop-exit, end, Diagram, numberOf, rowCount, kind, isKind, row, kills}
+use Rattle.effbd.specs.Diagrams.{Kind, function, and-open, branch, and-close, or-open, or-close, it-open, it-close, lp-open, lp-close, loop-exit, end, box-open, box-close, box-exit, Diagram, numberOf, rowCount, kind, isKind, row, kills}
 use Rattle.effbd.specs.Nesting.{owner, branchEnded, close, branchOf}
 use Rattle.effbd.specs.States.{enteredAs, enteredRow}
 use Rattle.diagram_table.specs.Cells.{kindIn, ownerIn, closeIn, firstIn, isBranch, killsIn, enteredIn}
@@ -45,6 +45,9 @@ module _ (d : Diagram) (rows items : ℕ) (table : List ℕ) (h : Holds d rows i
   entered-shape lp-close ofAnd q = refl
   entered-shape loop-exit ofAnd q = refl
   entered-shape end ofAnd q = refl
+  entered-shape box-open ofAnd q = refl
+  entered-shape box-close ofAnd q = refl
+  entered-shape box-exit ofAnd q = refl
 
   pub entered-cell : (q : ℕ) → q < rowCount d → enteredIn table q ≡ enteredRow d q
   unfolding enteredIn enteredRow

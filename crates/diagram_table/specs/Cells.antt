@@ -9,8 +9,8 @@ use lib.Dec.{leb, eqb}
 use Rattle.effbd.specs.Diagrams.{mostRows, mostItems, Use, usesAt}
 use Rattle.effbd.specs.Nesting.{Part, partIn}
 
--- the cell of a row in a column: 0 kind, 1 first field (α or count; 1 of a BRANCH that kills), 2 second field (β), 3 byte offset of its uses, 4 number of its uses,
--- 5 owner, 6 latest BRANCH, 7 close, 8 innermost LP
+-- the cell of a row in a column: 0 kind, 1 first field (α, count or outlet; 1 of a BRANCH that kills), 2 second field (β), 3 byte offset of its uses, 4 number of its uses,
+-- 5 owner, 6 latest BRANCH, 7 close, 8 innermost LP; of an EXIT 2 is the last row of the scenario that it leaves, 8 its outlet's BRANCH
 abbrev pub cellOf : (column row : ℕ) → ℕ
 cellOf column row = mostRows * column + row
 
@@ -60,7 +60,7 @@ module _ (table : List ℕ) where
   abbrev pub kindIn : ℕ → ℕ
   kindIn r = getD table r 0
 
-  -- α of a FUNCTION, the count of an IT open, 1 of a BRANCH that kills; β of a FUNCTION
+  -- α of a FUNCTION, the count of an IT open, the outlet that an EXIT names, 1 of a BRANCH that kills; β of a FUNCTION
   abbrev pub firstIn : ℕ → ℕ
   firstIn r = getD table (cellOf 1 r) 0
 
@@ -86,6 +86,13 @@ module _ (table : List ℕ) where
 
   abbrev pub loopIn : ℕ → ℕ
   loopIn r = getD table (cellOf 8 r) 0
+
+  -- of an EXIT: its outlet's BRANCH, the last row of the scenario that it leaves
+  abbrev pub outletIn : ℕ → ℕ
+  outletIn r = getD table (cellOf 8 r) 0
+
+  abbrev pub scenarioLastIn : ℕ → ℕ
+  scenarioLastIn r = getD table (cellOf 2 r) 0
 
   -- of an item: its initial count, 1 where it is a trigger, how many rows receive it, the number of its first copy
   abbrev pub countIn : ℕ → ℕ

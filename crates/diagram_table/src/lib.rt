@@ -27,6 +27,11 @@ pub const CLOSE: u32 = 7 * COLUMN;
 
 pub const LOOP: u32 = 8 * COLUMN;
 
+// Two of these columns say something else of an EXIT: its outlet's BRANCH, and the last row of the scenario that it leaves.
+pub const OUTLET: u32 = LOOP;
+
+pub const SCENARIO_LAST: u32 = SECOND;
+
 // Behind the columns the items' initial counts; 1 for each item that is a trigger; whether some item is one.
 pub const COUNT: u32 = 9 * COLUMN;
 

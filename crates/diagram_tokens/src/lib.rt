@@ -1,10 +1,10 @@
-// What a move changes in the tokens on a diagram's rows: entering, killing, passing on, the branches of an AND, the rows of a loop. Crate
-// table_move says which of it a move does; a row's activity is set by crate diagram_activities. Every function is total: past the end a cell
-// or word is 0, a store changes nothing.
+// What a move changes in the tokens on a diagram's rows: entering, killing, passing on, the branches of an AND, leaving the rows of a loop or of
+// a box's scenario. Crate table_move says which of it a move does; a row's activity is set by crate diagram_activities. Every function is total:
+// past the end a cell or word is 0, a store changes nothing.
 ghost use mathlib.Core.Path.{_≡_};
 ghost use Prim.Native.Nat.{_≤_};
 ghost use lib.ListN.{length};
-ghost use Rattle.diagram_moves.specs.Changes.{wordsCleared, rowsKilled, entered, tokenPassed, branchesEntered, rowsCleared};
+ghost use Rattle.diagram_moves.specs.Changes.{wordsCleared, rowsKilled, entered, tokenPassed, branchesEntered, rowsLeft};
 use diagram_table::BRANCH_ENDED;
 use diagram_table::CLOSE;
 use diagram_table::OWNER;
@@ -77,9 +77,10 @@ pub fn enter_branches(table: &[u16], state: &mut [u16], last: u16)
     }
 }
 
-// The rows from `first` to `last` get activity, turns and clock 0.
-pub fn clear_rows(state: &mut [u16], first: u16, last: u16)
-    ensures { λ _. ⌜ now (state .exit) ≡ rowsCleared first last (now (state .entry)) ⌝ }
+// The rows from `first` to `last` are left for row `to`: they get activity, turns and clock 0, it is entered.
+pub fn leave_rows(table: &[u16], state: &mut [u16], first: u16, last: u16, to: u32)
+    ensures { λ _. ⌜ now (state .exit) ≡ rowsLeft (now (table .entry)) first last to (now (state .entry)) ⌝ }
 {
     clear_words(state, 3 * first as usize, 3 * (last as usize + 1));
+    enter(table, state, to);
 }

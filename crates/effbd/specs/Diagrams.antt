@@ -9,7 +9,7 @@ use Rattle.effbd.specs.Answers.{orElse}
 
 -- the kinds of rows, and their numbers
 pub data Kind : Type 0 where
-  function and-open branch and-close or-open or-close it-open it-close lp-open lp-close loop-exit end : Kind
+  function and-open branch and-close or-open or-close it-open it-close lp-open lp-close loop-exit end box-open box-close box-exit : Kind
 
 abbrev pub numberOf : Kind → ℕ
 numberOf function = 16
@@ -24,15 +24,18 @@ numberOf lp-open = 24
 numberOf lp-close = 25
 numberOf loop-exit = 26
 numberOf end = 27
+numberOf box-open = 29
+numberOf box-close = 30
+numberOf box-exit = 31
 
 abbrev pub sameKind : Kind → Kind → Bool
 sameKind k j = eqb (numberOf k) (numberOf j)
 
--- the kind of a number from 16 to 28; 02, CR 3: "Row 28 is a BRANCH of an AND that kills"
+-- the kind of a number from 16 to 31; 02, CR 3: "Row 28 is a BRANCH of an AND that kills"; CR 7: "Row 29 opens" a box, "row 30 closes it", "Row 31 is EXIT"
 unfoldable pub kindOf : ℕ → Kind
 kindOf n = cond (eqb n 16) function (cond (eqb n 17) and-open (cond (eqb n 18) branch (cond (eqb n 19) and-close (cond (eqb n 20) or-open (cond (eqb n 21) or-close
     (cond (eqb n 22) it-open (cond (eqb n 23) it-close (cond (eqb n 24) lp-open (cond (eqb n 25) lp-close (cond (eqb n 26) loop-exit
-    (cond (eqb n 28) branch end)))))))))))
+    (cond (eqb n 28) branch (cond (eqb n 29) box-open (cond (eqb n 30) box-close (cond (eqb n 31) box-exit end))))))))))))))
 
 -- "uses (item, take, give)"
 pub record Use : Type 0 where
@@ -40,7 +43,7 @@ pub record Use : Type 0 where
   pub take : ℕ
   pub give : ℕ
 
--- a row: `first` is α of a FUNCTION, the count of an IT open or 1 at a BRANCH that kills, `second` is β; 0 where the kind has no such field
+-- a row: `first` is α of a FUNCTION, the count of an IT open, 1 at a BRANCH that kills or the outlet that an EXIT names, `second` is β; 0 where the kind has no such field
 pub record Row : Type 0 where
   pub kind : Kind
   pub first : ℕ
@@ -102,6 +105,10 @@ module _ (d : Diagram) where
   abbrev pub kills : ℕ → Bool
   kills b = eqb (row b .first) 1
 
+  -- of an EXIT: "its field names an outlet"
+  abbrev pub outletNamed : ℕ → ℕ
+  outletNamed r = row r .first
+
 -- "1 head, length 10: edition 1, rows N (1 to 64), items M (0 to 16)"; "The edition 1, the 64 rows and 16 items are constants of the diagram"
 abbrev pub edition : ℕ
 edition = 1
@@ -133,11 +140,12 @@ unfoldable pub usesFine : ℕ → ℕ → List Use → Bool
 usesFine M from [] = true
 usesFine M from (u ∷ us) = leb from (u .item) && (ltb (u .item) M && (not (eqb (u .take + u .give) 0) && usesFine M (suc (u .item)) us))
 
--- "16 FUNCTION, length 8 + 6u: α, β, then u uses"; "22 IT open, length 6: count"; the others have no field (a 28 is a BRANCH that kills)
+-- "16 FUNCTION, length 8 + 6u: α, β, then u uses"; "22 IT open, length 6: count"; "Row 31, length 6, is EXIT; its field names an outlet";
+-- the others have no field (a 28 is a BRANCH that kills)
 unfoldable pub rowAt : List ℕ → Row
 rowAt bytes = record {
   kind = kindOf (kindAt bytes);
-  first = cond (eqb (kindAt bytes) 16 || eqb (kindAt bytes) 22) (word bytes 4) (cond (eqb (kindAt bytes) 28) 1 0);
+  first = cond (eqb (kindAt bytes) 16 || eqb (kindAt bytes) 22 || eqb (kindAt bytes) 31) (word bytes 4) (cond (eqb (kindAt bytes) 28) 1 0);
   second = cond (eqb (kindAt bytes) 16) (word bytes 6) 0;
   uses = cond (eqb (kindAt bytes) 16) (usesAt ((lengthAt bytes - 8) / 6) (drop 8 bytes)) [];
 }
@@ -162,13 +170,16 @@ rowFineAs lp-open M r = true
 rowFineAs lp-close M r = true
 rowFineAs loop-exit M r = true
 rowFineAs end M r = true
+rowFineAs box-open M r = true
+rowFineAs box-close M r = true
+rowFineAs box-exit M r = true
 
 unfoldable pub rowFine : ℕ → Row → Bool
 rowFine M r = rowFineAs (r .kind) M r
 
--- "Then N rows", of the kinds 16 to 28
+-- "Then N rows", of the kinds 16 to 31
 unfoldable pub rowFault : ℕ → List ℕ → ℕ
-rowFault M bytes = faultAt bytes (leb 16 (kindAt bytes) && leb (kindAt bytes) 28) (rowRight M bytes) (rowFine M (rowAt bytes)) 5
+rowFault M bytes = faultAt bytes (leb 16 (kindAt bytes) && leb (kindAt bytes) 31) (rowRight M bytes) (rowFine M (rowAt bytes)) 5
 
 -- 43: "a trigger's take or give above 1"
 unfoldable pub triggersFine : List Item → List Use → Bool

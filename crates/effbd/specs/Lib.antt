@@ -3,6 +3,7 @@ pub mod Answers
 pub mod Records
 pub mod Diagrams
 pub mod Counts
+pub mod Frames
 pub mod Nesting
 pub mod Layout
 pub mod States

@@ -1,4 +1,4 @@
--- Document 01, "Diagram state and moves": steps and waits of a diagram (refusals 20 to 26), over the counts of document 02's CR 2. Assumes nothing.
+-- Document 01, "Diagram state and moves", and 02, CR 2 and CR 7: steps and waits of a diagram (refusals 20 to 26). Assumes nothing.
 use Prim.Native.Nat.{ℕ, suc, _+_, _-_}
 use mathlib.Core.Bool.{Bool, false, not, cond, _&&_, _||_}
 use mathlib.Core.List.{List}
@@ -6,9 +6,9 @@ use lib.ListN.{length}
 use lib.Dec.{leb, ltb, eqb}
 use Rattle.effbd.specs.Ranges.{allBelow, least, only}
 use Rattle.effbd.specs.Answers.{Outcome, accepted, refused, andThen}
-use Rattle.effbd.specs.Diagrams.{Kind, function, and-open, branch, and-close, or-open, or-close, it-open, it-close, lp-open, lp-close, loop-exit, end, Diagram, rowCount, kind, itemTotal, isKind, alpha, beta, turnLimit}
+use Rattle.effbd.specs.Diagrams.{Kind, function, and-open, branch, and-close, or-open, or-close, it-open, it-close, lp-open, lp-close, loop-exit, end, box-open, box-close, box-exit, Diagram, rowCount, kind, itemTotal, isKind, alpha, beta, turnLimit}
 use Rattle.effbd.specs.Counts.{itemOf, countTotal, tally, takes, gives}
-use Rattle.effbd.specs.Nesting.{owner, close, branchOf, loop, inLoop, readDiagram}
+use Rattle.effbd.specs.Nesting.{owner, close, branchOf, loop, inLoop, box, scenario, outlet, readDiagram}
 use Rattle.effbd.specs.Layout.{places}
 use Rattle.effbd.specs.States.{State, stateWords, stateOf, activate, enter, branchEntries, makeIdle, clearRows, setTurns, setCounts, setRunning, freshWords, statePasses}
 
@@ -89,6 +89,11 @@ module _ (d : Diagram) where
   stepAs loop-exit r s = ifReady r r s (enter d (suc (close d (loop d r))) (clearRows (inLoop d r) s))
   stepAs or-open r s = refused 22 r
   stepAs end r s = refused 22 r
+  -- 02, CR 7: "Stepping 29 enters the scenario. EXIT clears the rows from 29 to before the first outlet's BRANCH and enters the row
+  -- after its outlet's BRANCH"; "stepping 30 enters the next row"
+  stepAs box-open r s = ifReady r r s (enter d (suc r) (makeIdle (only r) s))
+  stepAs box-exit r s = ifReady r r s (enter d (suc (outlet d r)) (clearRows (scenario d (box d r)) s))
+  stepAs box-close r s = ifReady r r s (enter d (suc r) (makeIdle (only r) s))
 
   abbrev pub step : ℕ → State → Outcome State
   step r s = stepAs (kind d r) r s
@@ -108,6 +113,9 @@ module _ (d : Diagram) where
   holdsAs lp-close q n s = eqb (s .activity q) 1
   holdsAs loop-exit q n s = eqb (s .activity q) 1
   holdsAs end q n s = false
+  holdsAs box-open q n s = eqb (s .activity q) 1
+  holdsAs box-close q n s = eqb (s .activity q) 1
+  holdsAs box-exit q n s = eqb (s .activity q) 1
 
   -- 21 "wait 0", 26 "wait held"
   abbrev pub wait : ℕ → State → Outcome State

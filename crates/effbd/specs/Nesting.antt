@@ -1,59 +1,21 @@
--- Document 01, "Nesting", and 02, CR 3 and CR 4: which constructs are open at each row, what may stand there (refusals 7, 44, 8, 9), loops that spend no time (45),
--- a whole diagram file. Assumes nothing.
+-- Document 01, "Nesting", and 02, CR 3, CR 4 and CR 7: which constructs are open at each row, what may stand there (refusals 7, 44, 8, 48, 9), outlets and
+-- their EXITs (49), scenarios that fall through (50), loops that spend no time (45), a whole diagram file. Assumes nothing.
 use Prim.Native.Nat.{ℕ, zero, suc, _+_, _-_, _*_}
 use mathlib.Core.Bool.{Bool, true, false, not, cond, _&&_, _||_}
 use mathlib.Core.List.{List, [], _∷_}
 use lib.ListN.{length, take, drop}
 use lib.Dec.{leb, ltb, eqb}
-use Rattle.effbd.specs.Ranges.{allBelow, least, only, within, between}
+use Rattle.effbd.specs.Ranges.{allBelow, least, howMany, only, within, between}
 use Rattle.effbd.specs.Answers.{Outcome, accepted, refused, unless, andThen}
 use Rattle.effbd.specs.Records.{word, lengthAt, Got, readMany}
-use Rattle.effbd.specs.Diagrams.{Kind, function, and-open, branch, and-close, or-open, or-close, it-open, it-close, lp-open, lp-close, loop-exit, end, Row, Item, Diagram, rowCount, kind, isKind, alpha, kills, headFault, itemFault, itemAt, rowAt, rowFaultIn}
-
--- a construct that is open: its open row, and its latest BRANCH (at first the row after the open, which must be one)
-pub record Frame : Type 0 where
-  pub opened : ℕ
-  pub latest : ℕ
-
-abbrev pub push : ℕ → List Frame → List Frame
-push q fs = record { opened = q; latest = suc q } ∷ fs
-
-abbrev pub turnTo : ℕ → List Frame → List Frame
-turnTo q [] = []
-turnTo q (f ∷ fs) = record { opened = f .opened; latest = q } ∷ fs
-
-abbrev pub pop : List Frame → List Frame
-pop [] = []
-pop (f ∷ fs) = fs
-
--- what is open behind row q, where `fs` is open before it: an open adds its construct, a BRANCH turns the innermost one, a close takes it off
-abbrev pub passing : Kind → ℕ → List Frame → List Frame
-passing function q fs = fs
-passing and-open q fs = push q fs
-passing branch q fs = turnTo q fs
-passing and-close q fs = pop fs
-passing or-open q fs = push q fs
-passing or-close q fs = pop fs
-passing it-open q fs = push q fs
-passing it-close q fs = pop fs
-passing lp-open q fs = push q fs
-passing lp-close q fs = pop fs
-passing loop-exit q fs = fs
-passing end q fs = fs
-
-abbrev pub innermostOpen : List Frame → ℕ
-innermostOpen [] = 0
-innermostOpen (f ∷ fs) = f .opened
-
-abbrev pub latestBranch : List Frame → ℕ
-latestBranch [] = 0
-latestBranch (f ∷ fs) = f .latest
+use Rattle.effbd.specs.Diagrams.{Kind, function, and-open, branch, and-close, or-open, or-close, it-open, it-close, lp-open, lp-close, loop-exit, end, box-open, box-close, box-exit, Row, Item, Diagram, rowCount, kind, isKind, alpha, kills, outletNamed, headFault, itemFault, itemAt, rowAt, rowFaultIn}
+use Rattle.effbd.specs.Frames.{Frame, role, isOpening, isClosing, passing, innermostOpen, latestBranch, branchCount}
 
 module _ (d : Diagram) where
   -- the constructs that are open when row q is read, innermost first
   unfoldable pub stack : ℕ → List Frame
   stack zero = []
-  stack (suc q) = passing (kind d q) q (stack q)
+  stack (suc q) = passing (role (kind d q)) q (stack q)
 
   -- the open row of the construct that row q stands in; of a BRANCH or close, its own construct's
   unfoldable pub owner : ℕ → ℕ
@@ -63,8 +25,11 @@ module _ (d : Diagram) where
   abbrev pub branchEnded : ℕ → ℕ
   branchEnded q = latestBranch (stack q)
 
+  abbrev pub isOpen : ℕ → Bool
+  isOpen q = isOpening (role (kind d q))
+
   abbrev pub isClose : ℕ → Bool
-  isClose q = isKind d and-close q || isKind d or-close q || isKind d it-close q || isKind d lp-close q
+  isClose q = isClosing (role (kind d q))
 
   -- the close of the construct that row o opens
   unfoldable pub close : ℕ → ℕ
@@ -85,6 +50,41 @@ module _ (d : Diagram) where
   abbrev pub inLoop : ℕ → ℕ → Bool
   inLoop r = within (loop r) (close (loop r))
 
+  -- 02, CR 7: "Row 29 opens one; its scenario's rows follow; then BRANCH rows, its outlets": a frame whose scenario is being read
+  abbrev pub inScenario : Frame → Bool
+  inScenario f = isKind d box-open (f .opened) && eqb (f .branches) 0
+
+  abbrev pub someScenario : List Frame → Bool
+  someScenario [] = false
+  someScenario (f ∷ fs) = inScenario f || someScenario fs
+
+  -- "EXIT belongs to the innermost box whose scenario it is in"
+  abbrev pub innermostScenario : List Frame → ℕ
+  innermostScenario [] = 0
+  innermostScenario (f ∷ fs) = cond (inScenario f) (f .opened) (innermostScenario fs)
+
+  unfoldable pub box : ℕ → ℕ
+  box r = innermostScenario (stack r)
+
+  -- the constructs that are open in a row's own scenario; all of them where it is in none
+  abbrev pub ownScenario : List Frame → List Frame
+  ownScenario [] = []
+  ownScenario (f ∷ fs) = cond (inScenario f) [] (f ∷ ownScenario fs)
+
+  -- the rows "from 29 to before the first outlet's BRANCH", of the box that row o opens
+  unfoldable pub firstOutlet : ℕ → ℕ
+  firstOutlet o = least (rowCount d) (branchOf o)
+
+  abbrev pub scenario : ℕ → ℕ → Bool
+  scenario o q = leb o q && ltb q (firstOutlet o)
+
+  -- outlets are "numbered upward, the first 0": EXIT r leads to the outlet b; the outlet of EXIT r
+  unfoldable pub leads : ℕ → ℕ → Bool
+  leads r b = isKind d box-exit r && (branchOf (box r) b && eqb (howMany b (branchOf (box r))) (outletNamed d r))
+
+  unfoldable pub outlet : ℕ → ℕ
+  outlet r = least (rowCount d) (leads r)
+
   -- what may stand
   abbrev pub innermostIs : Kind → List Frame → Bool
   innermostIs k [] = false
@@ -101,9 +101,9 @@ module _ (d : Diagram) where
   abbrev pub inAndOr : List Frame → Bool
   inAndOr fs = innermostIs and-open fs || innermostIs or-open fs
 
-  -- two BRANCH rows or more: the latest is not the first
+  -- "two BRANCH rows or more"
   abbrev pub twoBranches : List Frame → Bool
-  twoBranches fs = ltb (suc (innermostOpen fs)) (latestBranch fs)
+  twoBranches fs = leb 2 (branchCount fs)
 
   -- "AND open and OR open are followed by BRANCH at once"
   abbrev pub follows : ℕ → Bool
@@ -111,11 +111,12 @@ module _ (d : Diagram) where
   follows (suc p) = not (isKind d and-open p || isKind d or-open p) || isKind d branch (suc p)
 
   -- "each has two BRANCH rows or more"; "A BRANCH needs an innermost open AND or OR; a close needs its own kind innermost"; of one that kills "in an OR it is 7";
+  -- of a box's BRANCH rows "28 there is 7", "two or more";
   -- "END is the last row only, with nothing open"
   abbrev pub standsAs : Kind → ℕ → List Frame → Bool
   standsAs function q fs = true
   standsAs and-open q fs = true
-  standsAs branch q fs = inAndOr fs && (not (kills d q) || innermostIs and-open fs)
+  standsAs branch q fs = (inAndOr fs || innermostIs box-open fs) && (not (kills d q) || innermostIs and-open fs)
   standsAs and-close q fs = innermostIs and-open fs && twoBranches fs
   standsAs or-open q fs = true
   standsAs or-close q fs = innermostIs or-open fs && twoBranches fs
@@ -125,6 +126,9 @@ module _ (d : Diagram) where
   standsAs lp-close q fs = innermostIs lp-open fs
   standsAs loop-exit q fs = true
   standsAs end q fs = noneOpen fs && eqb (suc q) (rowCount d)
+  standsAs box-open q fs = true
+  standsAs box-close q fs = innermostIs box-open fs && twoBranches fs
+  standsAs box-exit q fs = true
 
   -- 7: "Refusal 7 stands at the first row that may not follow the rows before it, or at a last row other than END"
   unfoldable pub nestingBroken : ℕ → Bool
@@ -134,18 +138,76 @@ module _ (d : Diagram) where
   unfoldable pub killerEmpty : ℕ → Bool
   killerEmpty q = isKind d branch q && (kills d q && (isKind d branch (suc q) || isKind d and-close (suc q)))
 
-  -- 8: "An LE needs an innermost open AND or OR, some open LP, and a BRANCH or that construct's close as next row"
+  -- "a BRANCH or that construct's close as next row", of the innermost open construct
+  abbrev pub endsRun : ℕ → List Frame → Bool
+  endsRun q fs = isKind d branch (suc q) || ((innermostIs and-open fs && isKind d and-close (suc q))
+      || ((innermostIs or-open fs && isKind d or-close (suc q)) || (innermostIs box-open fs && isKind d box-close (suc q))))
+
+  -- 8: "An LE needs an innermost open AND or OR, some open LP, and a BRANCH or that construct's close as next row"; 02, CR 7:
+  -- "an LE's loop must lie in the LE's own scenario (else 8)"
   unfoldable pub exitMisplaced : ℕ → Bool
-  exitMisplaced q = isKind d loop-exit q && not (inAndOr (stack q) && (someOpen lp-open (stack q)
-      && (isKind d branch (suc q) || ((innermostIs and-open (stack q) && isKind d and-close (suc q)) || (innermostIs or-open (stack q) && isKind d or-close (suc q))))))
+  exitMisplaced q = isKind d loop-exit q && not (inAndOr (stack q) && (someOpen lp-open (ownScenario (stack q)) && endsRun q (stack q)))
 
-  -- 9: "at most 12 open together"
+  -- 48: "EXIT outside a scenario, or innermost open construct IT or LP, or next row not BRANCH or that construct's close, at its row after 8"
+  unfoldable pub boxExitMisplaced : ℕ → Bool
+  boxExitMisplaced q = isKind d box-exit q
+      && not (someScenario (stack q) && (not (innermostIs it-open (stack q) || innermostIs lp-open (stack q)) && endsRun q (stack q)))
+
+  -- 9: "at most 12 open together"; row 29 "counts as an open"
   unfoldable pub thirteenthOpen : ℕ → Bool
-  thirteenthOpen q = (isKind d and-open q || isKind d or-open q || isKind d it-open q || isKind d lp-open q) && leb 12 (length (stack q))
+  thirteenthOpen q = isOpen q && leb 12 (length (stack q))
 
-  -- "Then rows upward, at a row 7, 8, 9", and 44 "between 7 and 8"
+  -- "Then rows upward, at a row 7, 8, 9"; 44 "between 7 and 8"; 48 "after 8"
   unfoldable pub nestingFault : ℕ → ℕ
-  nestingFault q = cond (nestingBroken q) 7 (cond (killerEmpty q) 44 (cond (exitMisplaced q) 8 (cond (thirteenthOpen q) 9 0)))
+  nestingFault q = cond (nestingBroken q) 7 (cond (killerEmpty q) 44 (cond (exitMisplaced q) 8 (cond (boxExitMisplaced q) 48 (cond (thirteenthOpen q) 9 0))))
+
+  -- 49: "outlets and EXIT rows not one to one", of the box that row o opens
+  unfoldable pub notOneToOne : ℕ → Bool
+  notOneToOne o = isKind d box-open o && not (allBelow (rowCount d) (λ b. not (branchOf o b) || eqb (howMany (rowCount d) (λ r. leads r b)) 1)
+      && allBelow (rowCount d) (λ r. not (isKind d box-exit r && only o (box r)) || eqb (howMany (rowCount d) (leads r)) 1))
+
+  abbrev pub outletFault : ℕ → ℕ
+  outletFault q = cond (notOneToOne q) 49 0
+
+  -- some LE leaves the loop that row o opens; row e ends a branch of the AND or OR that row o opens
+  unfoldable pub loopLeft : ℕ → Bool
+  loopLeft o = not (allBelow (rowCount d) (λ r. not (isKind d loop-exit r && only o (loop r))))
+
+  unfoldable pub endsBranch : ℕ → ℕ → Bool
+  endsBranch o e = (isKind d branch e || isClose e) && (only o (owner e) && ltb (suc o) e)
+
+  -- "A run falls through unless its last construct is EXIT, LE, LP (one that no LE leaves), an OR none of whose branches fall through,
+  -- or an AND with one that doesn't and no killing branch that does": the run whose last row is p; `falls e`: the branch that row e ends does
+  abbrev pub fallsAs : Kind → (ℕ → Bool) → ℕ → Bool
+  fallsAs function falls p = true
+  fallsAs and-open falls p = true
+  fallsAs branch falls p = true
+  fallsAs and-close falls p = allBelow (rowCount d) (λ e. elim (endsBranch (owner p) e) [ true ↦ falls e | false ↦ true ])
+      || not (allBelow (rowCount d) (λ e. elim (endsBranch (owner p) e && kills d (branchEnded e)) [ true ↦ not (falls e) | false ↦ true ]))
+  fallsAs or-open falls p = true
+  fallsAs or-close falls p = not (allBelow (rowCount d) (λ e. elim (endsBranch (owner p) e) [ true ↦ not (falls e) | false ↦ true ]))
+  fallsAs it-open falls p = true
+  fallsAs it-close falls p = true
+  fallsAs lp-open falls p = true
+  fallsAs lp-close falls p = loopLeft (owner p)
+  fallsAs loop-exit falls p = false
+  fallsAs end falls p = true
+  fallsAs box-open falls p = true
+  fallsAs box-close falls p = true
+  fallsAs box-exit falls p = false
+
+  -- the run before row q falls through; the first number, of rows, falls with each construct and, begun at q, never runs out
+  unfoldable pub fallsInto : ℕ → ℕ → Bool
+  fallsInto zero q = true
+  fallsInto (suc n) zero = true
+  fallsInto (suc n) (suc p) = fallsAs (kind d p) (fallsInto n) p
+
+  -- 50: "a scenario falls through", of the box that row o opens
+  unfoldable pub scenarioFalls : ℕ → Bool
+  scenarioFalls o = isKind d box-open o && fallsInto (firstOutlet o) (firstOutlet o)
+
+  abbrev pub scenarioFault : ℕ → ℕ
+  scenarioFault q = cond (scenarioFalls q) 50 0
 
   -- "FUNCTION of α at least 1"
   abbrev pub spendsTime : ℕ → Bool
@@ -165,9 +227,9 @@ module _ (d : Diagram) where
   unfoldable pub unlessRow : (fault : ℕ → ℕ) → Outcome Diagram → Outcome Diagram
   unlessRow fault on = cond (ltb (firstFaulty fault) (rowCount d)) (refused (fault (firstFaulty fault)) (firstFaulty fault)) on
 
-  -- "Then rows upward"; 45 "lowest such LP row, after the whole walk up to 9"
+  -- "Then rows upward"; 49 and 50 "each at its lowest box, 49 first, after the walk and before 45"; 45 "lowest such LP row"
   unfoldable pub nested : Outcome Diagram
-  nested = unlessRow nestingFault (unlessRow loopFault (accepted d))
+  nested = unlessRow nestingFault (unlessRow outletFault (unlessRow scenarioFault (unlessRow loopFault (accepted d))))
 
 -- a diagram file: the head, M items, N rows; "after the last, 6"; then the nesting
 unfoldable pub afterRows : List ℕ → List Item → Got (List Row) → Outcome Diagram

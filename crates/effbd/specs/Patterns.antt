@@ -1,4 +1,4 @@
--- Document 01, "Net", and 02, CR 3: the net of a diagram, transition by transition, and its translation into a lent area (refusal 10). Assumes nothing.
+-- Document 01, "Net", and 02, CR 3 and CR 7: the net of a diagram, transition by transition, and its translation into a lent area (refusal 10). Assumes nothing.
 use Prim.Native.Nat.{ℕ, zero, suc}
 use mathlib.Core.Bool.{Bool, true, false, cond, _&&_}
 use mathlib.Core.List.{List, [], _∷_, _++_, map}
@@ -6,9 +6,9 @@ use lib.ListN.{length, getD, drop}
 use lib.Dec.{ltb, eqb}
 use Rattle.effbd.specs.Ranges.{only, nobody, either, tabulate}
 use Rattle.effbd.specs.Answers.{Outcome, accepted, refused}
-use Rattle.effbd.specs.Diagrams.{Kind, function, and-open, branch, and-close, or-open, or-close, it-open, it-close, lp-open, lp-close, loop-exit, end, Diagram, rowCount, kind, isKind, alpha, beta, turnLimit}
+use Rattle.effbd.specs.Diagrams.{Kind, function, and-open, branch, and-close, or-open, or-close, it-open, it-close, lp-open, lp-close, loop-exit, end, box-open, box-close, box-exit, Diagram, rowCount, kind, isKind, alpha, beta, turnLimit}
 use Rattle.effbd.specs.Counts.{takes, gives, initialCount}
-use Rattle.effbd.specs.Nesting.{owner, close, branchOf, loop, inLoop, readDiagram}
+use Rattle.effbd.specs.Nesting.{owner, close, branchOf, loop, inLoop, box, scenario, outlet, readDiagram}
 use Rattle.effbd.specs.Layout.{Place, byPlace, places, placeOf}
 use Rattle.effbd.specs.States.{killed, entered, branchEntries}
 use Rattle.effbd.specs.Nets.{Arc, takeArc, clearArc, giveArc, Transition, Net, netBytes}
@@ -98,6 +98,10 @@ module _ (d : Diagram) where
   patternsAs loop-exit r = passesTo (only r) (inLoop d r) (suc (close d (loop d r))) ∷ []
   patternsAs or-open r = []
   patternsAs end r = []
+  -- 02, CR 7: "29 and 30 in the net as OR close"; EXIT "clears the rows .., restores R in the net and enters the row after its outlet's BRANCH"
+  patternsAs box-open r = passesTo (only r) nobody (suc r) ∷ []
+  patternsAs box-exit r = passesTo (only r) (scenario d (box d r)) (suc (outlet d r)) ∷ []
+  patternsAs box-close r = passesTo (only r) nobody (suc r) ∷ []
 
   abbrev pub patterns : ℕ → List Pattern
   patterns r = patternsAs (kind d r) r

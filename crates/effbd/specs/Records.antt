@@ -40,7 +40,7 @@ unfoldable pub kindTable : List Entry
 kindTable =
     entry 1 10 3 ∷ entry 2 6 1 ∷ entry 3 6 1
     ∷ entry 16 8 2 ∷ entry 17 4 0 ∷ entry 18 4 0 ∷ entry 19 4 0 ∷ entry 20 4 0 ∷ entry 21 4 0
-    ∷ entry 22 6 1 ∷ entry 23 4 0 ∷ entry 24 4 0 ∷ entry 25 4 0 ∷ entry 26 4 0 ∷ entry 27 4 0 ∷ entry 28 4 0
+    ∷ entry 22 6 1 ∷ entry 23 4 0 ∷ entry 24 4 0 ∷ entry 25 4 0 ∷ entry 26 4 0 ∷ entry 27 4 0 ∷ entry 28 4 0 ∷ entry 29 4 0 ∷ entry 30 4 0 ∷ entry 31 6 1
     ∷ entry 32 8 2 ∷ entry 33 6 1 ∷ entry 34 10 3 ∷ entry 35 8 2 ∷ entry 36 8 2 ∷ entry 37 8 2 ∷ []
 
 unfoldable pub entryIn : List Entry → ℕ → Entry

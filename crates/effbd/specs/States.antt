@@ -1,4 +1,4 @@
--- Document 01, "Diagram state and moves", and 02, CR 2 and CR 3: the state, entering a row, the fresh state, the check of a state (refusal 20). Assumes nothing.
+-- Document 01, "Diagram state and moves", and 02, CR 2, CR 3 and CR 7: the state, entering a row, the fresh state, the check of a state (refusal 20). Assumes nothing.
 use Prim.Native.Nat.{ℕ, suc, _+_, _*_}
 use mathlib.Core.Bool.{Bool, true, false, not, cond, _&&_, _||_}
 use mathlib.Core.List.{List}
@@ -6,7 +6,7 @@ use lib.ListN.{getD}
 use lib.Dec.{leb, ltb, eqb}
 use Rattle.effbd.specs.Ranges.{allBelow, only, between, tabulate}
 use Rattle.effbd.specs.Answers.{Outcome, accepted, andThen}
-use Rattle.effbd.specs.Diagrams.{Kind, function, and-open, branch, and-close, or-open, or-close, it-open, it-close, lp-open, lp-close, loop-exit, end, Diagram, rowCount, kind, isTrigger, isKind, beta, turnLimit, kills}
+use Rattle.effbd.specs.Diagrams.{Kind, function, and-open, branch, and-close, or-open, or-close, it-open, it-close, lp-open, lp-close, loop-exit, end, box-open, box-close, box-exit, Diagram, rowCount, kind, isTrigger, isKind, beta, turnLimit, kills}
 use Rattle.effbd.specs.Counts.{Tally, shared, copy, countTotal, tally, initialCount}
 use Rattle.effbd.specs.Nesting.{owner, branchEnded, close, branchOf, readDiagram}
 use Rattle.effbd.specs.Layout.{byPlace, places, placeOf}
@@ -78,7 +78,8 @@ module _ (d : Diagram) where
   }
 
   -- the row that entering q changes where no branch kills: "a BRANCH or close of an AND makes the BRANCH row of the branch just ended done;
-  -- a BRANCH or close of an OR makes the OR close ready; any other row becomes ready" (`ofAnd`: q's construct is an AND)
+  -- a BRANCH or close of an OR makes the OR close ready; any other row becomes ready"; 02, CR 7: "Entering a box's BRANCH or row 30
+  -- makes row 30 ready" (`ofAnd`: q's construct is an AND)
   abbrev pub enteredAs : Kind → Bool → ℕ → ℕ
   enteredAs function ofAnd q = q
   enteredAs and-open ofAnd q = q
@@ -93,6 +94,9 @@ module _ (d : Diagram) where
   enteredAs lp-close ofAnd q = q
   enteredAs loop-exit ofAnd q = q
   enteredAs end ofAnd q = q
+  enteredAs box-open ofAnd q = q
+  enteredAs box-close ofAnd q = q
+  enteredAs box-exit ofAnd q = q
 
   unfoldable pub enteredRow : ℕ → ℕ
   enteredRow q = enteredAs (kind d q) (isKind d and-open (owner d q)) q
@@ -149,6 +153,9 @@ module _ (d : Diagram) where
   activityFine lp-close ofAnd a = leb a 1
   activityFine loop-exit ofAnd a = leb a 1
   activityFine end ofAnd a = leb a 1
+  activityFine box-open ofAnd a = leb a 1
+  activityFine box-close ofAnd a = leb a 1
+  activityFine box-exit ofAnd a = leb a 1
 
   -- 20: "activity that this kind never has, turns above count or off an IT open, clock above β or off a running row"
   abbrev pub rowPasses : State → ℕ → Bool

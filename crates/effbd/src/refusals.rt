@@ -58,3 +58,9 @@ pub const LOOP_SPENDS_NO_TIME: u16 = 45;
 pub const NUMBER_NOT_NEXT: u16 = 46;
 
 pub const STATION_DIFFERS: u16 = 47;
+
+pub const BOX_EXIT_MISPLACED: u16 = 48;
+
+pub const OUTLETS_UNMATCHED: u16 = 49;
+
+pub const SCENARIO_FALLS_THROUGH: u16 = 50;

@@ -37,6 +37,12 @@ pub const END: u16 = 27;
 
 pub const KILLING_BRANCH: u16 = 28;
 
+pub const BOX_OPEN: u16 = 29;
+
+pub const BOX_CLOSE: u16 = 30;
+
+pub const BOX_EXIT: u16 = 31;
+
 pub const NET_HEAD: u16 = 32;
 
 pub const PLACE: u16 = 33;
@@ -110,12 +116,12 @@ const TABLE: [u8; 76] = [
     0, // fields of END
     4, // length of KILLING_BRANCH
     0, // fields of KILLING_BRANCH
-    0,
-    0,
-    0,
-    0,
-    0,
-    0,
+    4, // length of BOX_OPEN
+    0, // fields of BOX_OPEN
+    4, // length of BOX_CLOSE
+    0, // fields of BOX_CLOSE
+    6, // length of BOX_EXIT
+    1, // fields of BOX_EXIT
     8, // length of NET_HEAD
     2, // fields of NET_HEAD
     6, // length of PLACE

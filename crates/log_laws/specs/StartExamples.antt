@@ -9,7 +9,7 @@ use Rattle.effbd.specs.Answers.{Outcome, accepted, refused}
 use Rattle.effbd.specs.Records.{wordBytes, kindTable, entryIn, lengthOf, faultAt, readMany}
 use Rattle.effbd.specs.Diagrams.{kindOf, headFault, itemFault, usesAt, usesFine, rowAt, rowRight, rowFine, rowFault, triggersFine, rowFaultIn}
 use Rattle.effbd.specs.Counts.{copiesOf, copies, tallies, countTotal, tally, takes, gives, initialCount}
-use Rattle.effbd.specs.Nesting.{stack, owner, close, branchOf, loop, nestingBroken, killerEmpty, exitMisplaced, thirteenthOpen, nestingFault, firstFaulty, spendsNoTime, unlessRow, nested, afterRows, afterItems, readDiagram}
+use Rattle.effbd.specs.Nesting.{stack, owner, close, branchOf, loop, box, firstOutlet, leads, outlet, nestingBroken, killerEmpty, exitMisplaced, boxExitMisplaced, thirteenthOpen, nestingFault, firstFaulty, notOneToOne, loopLeft, endsBranch, fallsInto, scenarioFalls, spendsNoTime, unlessRow, nested, afterRows, afterItems, readDiagram}
 use Rattle.effbd.specs.Layout.{placeOf}
 use Rattle.effbd.specs.States.{stateWords, stateOf, enteredRow, endsKiller, killed, entered, branchEntries, freshWords}
 use Rattle.effbd.specs.Moves.{moveOf, lowestItem, wordsOutcome, moveWords}
@@ -62,7 +62,7 @@ pub start-examples :
     × (call (3 ∷ 1 ∷ []) 2 ≡ told (refused 41 0) 7)
     × (logStarts (take 30 loopFile) (0 ∷ 0 ∷ 0 ∷ []) 2 7 ≡ told (refused 1 30) 7)
 unfolding kindTable entryIn lengthOf faultAt readMany kindOf headFault itemFault usesAt usesFine rowAt rowRight rowFine rowFault triggersFine rowFaultIn copiesOf copies tallies countTotal tally takes gives initialCount
-    stack owner close branchOf loop nestingBroken killerEmpty exitMisplaced thirteenthOpen nestingFault firstFaulty spendsNoTime unlessRow nested afterRows afterItems readDiagram
+    stack owner close branchOf loop box firstOutlet leads outlet nestingBroken killerEmpty exitMisplaced boxExitMisplaced thirteenthOpen nestingFault firstFaulty notOneToOne loopLeft endsBranch fallsInto scenarioFalls spendsNoTime unlessRow nested afterRows afterItems readDiagram
     placeOf stateWords stateOf enteredRow endsKiller killed entered branchEntries freshWords moveOf lowestItem wordsOutcome moveWords
     setpointsAt setpoints logFault made stateFrom playedFrom isStart startsFrom fallIn busiestFrom startsOf logStarts fromWords loopFile
 start-examples = (refl, refl, refl, refl, refl, refl, refl, refl, refl, refl, refl, refl, refl, refl)

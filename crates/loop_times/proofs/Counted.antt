@@ -10,7 +10,7 @@ use lib.ListN.{length, getD, List·getD-eq-default}
 use lib.Dec.{eqb}
 use borrow.Author.Tests.{eqb-true, eqb-false, ne-eqb}
 use Rattle.effbd.specs.Ranges.{howMany}
-use Rattle.effbd.specs.Diagrams.{Diagram, Kind, function, and-open, branch, and-close, or-open, or-close, it-open, it-close, lp-open, lp-close, loop-exit, end, numberOf, kind}
+use Rattle.effbd.specs.Diagrams.{Diagram, Kind, function, and-open, branch, and-close, or-open, or-close, it-open, it-close, lp-open, lp-close, loop-exit, end, box-open, box-close, box-exit, numberOf, kind}
 use Rattle.effbd.specs.Nesting.{spendsNoTime, loopFault}
 use Rattle.ranges.specs.Tests.{decide}
 use Rattle.agreement.specs.RowFaults.{rows-faultless}
@@ -55,6 +55,9 @@ number-some lp-open e = absurd (omega arith)
 number-some lp-close e = absurd (omega arith)
 number-some loop-exit e = absurd (omega arith)
 number-some end e = absurd (omega arith)
+number-some box-open e = absurd (omega arith)
+number-some box-close e = absurd (omega arith)
+number-some box-exit e = absurd (omega arith)
 
 pub short-table : (table : List ℕ) (rows : ℕ) → length table < rows → LoopsRead table rows (record { number = 0; row = 0 })
 short-table table rows l = record {

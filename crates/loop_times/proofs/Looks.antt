@@ -9,21 +9,19 @@ use native.Mathlib.Numerals.{add-one}
 use lib.ListN.{getD}
 use lib.Dec.{eqb}
 use borrow.Author.Tests.{eqb-true, eqb-false, eq-eqb, ne-eqb, le-leb}
-use Rattle.effbd.specs.Diagrams.{Diagram, Kind, function, and-open, branch, and-close, or-open, or-close, it-open, it-close, lp-open, lp-close, loop-exit, end, numberOf, rowCount, kind, alpha}
-use Rattle.effbd.specs.Nesting.{Frame, stack, nestingFault, spendsNoTime, loopFault}
+use Rattle.effbd.specs.Diagrams.{Diagram, Kind, function, and-open, branch, and-close, or-open, or-close, it-open, it-close, lp-open, lp-close, loop-exit, end, box-open, box-close, box-exit, numberOf, rowCount, kind, alpha}
+use Rattle.effbd.specs.Frames.{Frame}
+use Rattle.effbd.specs.Nesting.{stack, spendsNoTime, loopFault}
 use Rattle.ranges.specs.Tests.{decide, or-left}
 use Rattle.agreement.specs.AcceptedFiles.{well-nested}
-use Rattle.agreement.specs.Nested.{wellNested}
+use Rattle.agreement.specs.Nested.{walk, wellNested}
 use Rattle.agreement.specs.NestingLaws.{Good, good, has, until}
 use Rattle.agreement.specs.Reach.{close-in}
 use Rattle.agreement.specs.RowFaults.{rows-faultless, rows-faulty}
 use Rattle.nesting.specs.Runs.{Kinds, firstIn}
 use Rattle.loop_times.specs.declared.Seen.{Seen}
-use Rattle.loop_times.specs.Loops.{looked, BehindClose, LoopsRead}
+use Rattle.loop_times.specs.Loops.{looked, BehindClose, Faultless, LoopsRead}
 use Rattle.loop_times.proofs.Timeless.{timelessIn, counted, count-is, lp-opened}
-
-abbrev pub Faultless : Diagram → Type 0
-Faultless d = (q : ℕ) → q < rowCount d → nestingFault d q ≡ 0
 
 -- the LPs around row q that have spent no time so far, and the lowest from row q on that spends none
 pub record Found (d : Diagram) (rows q : ℕ) (s : Seen) : Type 0 where
@@ -43,13 +41,13 @@ module _ (d : Diagram) (acc : wellNested d ≡ true) where
   bare-of [] e g = refl
   bare-of (f ∷ fs) e g =
       let o = f .opened in
-      let u = until d acc o (rowCount d) (g .0 .opener) (rw e (or-left (has d acc o fs) (eq-eqb o o refl))) in
+      let u = until d (walk d acc) o (rowCount d) (g .0 .opener) (rw e (or-left (has d (walk d acc) o fs) (eq-eqb o o refl))) in
       let c = close-in d acc o (g .0 .opener) in absurd (omega arith)
 
 bare : (d : Diagram) → Faultless d → timelessIn d (rowCount d) (stack d (rowCount d)) ≡ 0
 bare d f = decide (eqb (rowCount d) 0)
     (λ e. rw (eqb-true (rowCount d) 0 e) (unfold timelessIn stack in refl))
-    (λ e. let n = eqb-false (rowCount d) 0 e in let acc = well-nested d f (omega arith) in bare-of d acc (stack d (rowCount d)) refl (good d acc (rowCount d)))
+    (λ e. let n = eqb-false (rowCount d) 0 e in let acc = well-nested d (f .walk) (f .outlets) (omega arith) in bare-of d acc (stack d (rowCount d)) refl (good d (walk d acc) (rowCount d)))
 
 pub seen-none : (table : List ℕ) (rows : ℕ) → SeenFrom table rows rows (record { timeless = 0; lowest = rows })
 seen-none table rows = record {
@@ -85,6 +83,9 @@ module _ (d : Diagram) (acc : wellNested d ≡ true) where
   looked-is lp-close q s e u = rw (e, add-one (s .timeless))
   looked-is loop-exit q s e u = rw e
   looked-is end q s e u = rw e
+  looked-is box-open q s e u = rw e
+  looked-is box-close q s e u = rw e
+  looked-is box-exit q s e u = rw e
 
   found-next : (k : Kind) (rows q : ℕ) (s : Seen) → q < rowCount d → kind d q ≡ k → Found d rows (q + 1) s → Found d rows q (looked (numberOf k) (alpha d q) q s)
   found-next k rows q s l e f =
@@ -112,7 +113,7 @@ seen-next table rows q s r l e f = subst (SeenFrom table rows q) (sym e) (record
   few = let h = f .few in looked-all (λ (x : Seen). x .timeless + q ≤ rows) (getD table q 0) (firstIn table q) q s (omega arith) (omega arith) (omega arith) (omega arith);
   low = let h = f .low in looked-all (λ (x : Seen). x .lowest ≤ rows) (getD table q 0) (firstIn table q) q s h h h (omega arith);
   found = λ d k g. rw (k .cell q l, k .first q l)
-      (found-next d (well-nested d g (omega (arith, k .count))) (kind d q) rows q s (omega (arith, k .count)) refl (f .found d k g));
+      (found-next d (well-nested d (g .walk) (g .outlets) (omega (arith, k .count))) (kind d q) rows q s (omega (arith, k .count)) refl (f .found d k g));
 })
 
 -- a row that closes no LP changes nothing where no LP is left to look at

@@ -8,15 +8,16 @@ use native.Mathlib.Omega.{arith}
 use lib.Dec.{leb, ltb, eqb}
 use borrow.Author.Tests.{eqb-true, eqb-false, eq-eqb, leb-true, ltb-true, ltb-false, le-leb, lt-leb, lt-ltb, le-ltb, ne-eqb}
 use Rattle.effbd.specs.Ranges.{allBelow, only}
-use Rattle.effbd.specs.Diagrams.{Diagram, Kind, function, and-open, branch, and-close, or-open, or-close, it-open, it-close, lp-open, lp-close, loop-exit, end, rowCount, kind, isKind, sameKind, alpha}
-use Rattle.effbd.specs.Nesting.{Frame, push, turnTo, pop, innermostIs, stack, owner, close, isClose, spendsTime}
+use Rattle.effbd.specs.Diagrams.{Diagram, Kind, function, and-open, branch, and-close, or-open, or-close, it-open, it-close, lp-open, lp-close, loop-exit, end, box-open, box-close, box-exit, rowCount, kind, isKind, sameKind, alpha}
+use Rattle.effbd.specs.Frames.{Frame, push, turnTo}
+use Rattle.effbd.specs.Nesting.{innermostIs, stack, owner, close, isClose, spendsTime}
 use Rattle.ranges.specs.Tests.{and-intro, and-left, and-right, decide, clash, not-false, or-split, or-left, or-right}
 use Rattle.ranges.specs.RangeLaws.{all-intro, all-ext, all-fail, all-find, least-found}
-use Rattle.agreement.specs.Nested.{wellNested}
+use Rattle.agreement.specs.Nested.{walk, wellNested}
 use Rattle.agreement.specs.Basics.{same-eq}
 use Rattle.agreement.specs.Structure.{opens}
-use Rattle.agreement.specs.NestingLaws.{Good, good, has, laws, until, owner-top}
-use Rattle.agreement.specs.Reach.{stands, in-close, behind}
+use Rattle.agreement.specs.NestingLaws.{Good, good, has, laws, until, owner-top, shutting}
+use Rattle.agreement.specs.Reach.{stands, behind}
 
 module _ (d : Diagram) where
   -- no FUNCTION that spends time stands from row q to the close of o
@@ -59,7 +60,7 @@ module _ (d : Diagram) where
 
   module _ (acc : wellNested d ≡ true) where
     -- a FUNCTION that spends time before the close of each of them
-    all-spent : (q p : ℕ) (fs : List Frame) → q ≤ p → p < rowCount d → spendsTime d p ≡ true → ((X : ℕ) → has d acc X fs ≡ true → p < close d X) → timelessIn q fs ≡ 0
+    all-spent : (q p : ℕ) (fs : List Frame) → q ≤ p → p < rowCount d → spendsTime d p ≡ true → ((X : ℕ) → has d (walk d acc) X fs ≡ true → p < close d X) → timelessIn q fs ≡ 0
     unfolding timelessIn has
     all-spent q p [] l m s c = refl
     all-spent q p (f ∷ fs) l m s c =
@@ -67,22 +68,22 @@ module _ (d : Diagram) where
       where
         spent : unspent q (f .opened) ≡ false
         spent = all-fail (rowCount d) (λ p. not ((leb q p && ltb p (close d (f .opened))) && spendsTime d p)) p m
-            (rw (le-leb q p l, lt-ltb p (close d (f .opened)) (c (f .opened) (or-left (has d acc (f .opened) fs) (eq-eqb (f .opened) (f .opened) refl))), s))
+            (rw (le-leb q p l, lt-ltb p (close d (f .opened)) (c (f .opened) (or-left (has d (walk d acc) (f .opened) fs) (eq-eqb (f .opened) (f .opened) refl))), s))
 
-    member-opens : (q X : ℕ) (fs : List Frame) → Good d q fs → has d acc X fs ≡ true → opens d X ≡ true
+    member-opens : (q X : ℕ) (fs : List Frame) → Good d q fs → has d (walk d acc) X fs ≡ true → opens d X ≡ true
     unfolding has
     member-opens q X [] g h = clash h refl
-    member-opens q X (f ∷ fs) g h = or-split (only X (f .opened)) (has d acc X fs) h
+    member-opens q X (f ∷ fs) g h = or-split (only X (f .opened)) (has d (walk d acc) X fs) h
         (λ e. rw (← eqb-true (f .opened) X e) (g .0 .opener))
         (λ n e. member-opens (f .opened) X fs (g .1) e)
 
-    is-open : (q X : ℕ) → has d acc X (stack d q) ≡ true → opens d X ≡ true
-    is-open q X h = member-opens q X (stack d q) (good d acc q) h
+    is-open : (q X : ℕ) → has d (walk d acc) X (stack d q) ≡ true → opens d X ≡ true
+    is-open q X h = member-opens q X (stack d q) (good d (walk d acc) q) h
 
     -- at a FUNCTION that spends time no LP around is left
     spent-here : (q : ℕ) → q < rowCount d → kind d q ≡ function → spendsTime d q ≡ true → timelessIn q (stack d q) ≡ 0
     spent-here q l e s = all-spent q q (stack d q) (omega arith) l s
-        (λ X h. let o = is-open q X h in let u = until d acc X q o h in
+        (λ X h. let o = is-open q X h in let u = until d (walk d acc) X q o h in
         let n : q ≢ close d X = λ z. clash (laws d acc .shut X o .0) (rw (← z, e)) in omega arith)
 
     -- an LP open: its own LP is the innermost behind it, and where that spends time those around it do
@@ -95,7 +96,7 @@ module _ (d : Diagram) where
         let low = leb-true (suc q) p (and-left (leb (suc q) p) (ltb p (close d q)) r) in
         let high = ltb-true p (close d q) (and-right (leb (suc q) p) (ltb p (close d q)) r) in
         all-spent q p (stack d q) (omega arith) (w .1) (and-right (leb (suc q) p && ltb p (close d q)) (spendsTime d p) b)
-        (λ X m. let u = until d acc X (suc (close d q)) (is-open q X m) (rw (behind d acc q (rw e)) m) in omega arith)
+        (λ X m. let u = until d (walk d acc) X (suc (close d q)) (is-open q X m) (rw (behind d acc q (rw e)) m) in omega arith)
 
     lp-pushed : (q : ℕ) → kind d q ≡ lp-open → timelessIn (suc q) (stack d (suc q)) ≡ cond (unspent (suc q) q) (suc (timelessIn q (stack d q))) (timelessIn q (stack d q))
     unfolding timelessIn stack
@@ -119,14 +120,14 @@ module _ (d : Diagram) where
       pub owned : owner d q ≡ frame .opened
 
     shut : (q : ℕ) (k : Kind) → isClose d q ≡ true → innermostIs d k (stack d q) ≡ true → Shut q k
-    shut q k h i = let w = in-close d acc q h in let t = w .0 in record {
+    shut q k h i = let w = shutting d (walk d acc) q h in let t = w .top in record {
       frame = t .frame;
       rest = t .rest;
       here = t .here;
-      next = w .1 ∙ ap pop (t .here);
+      next = w .after ∙ (ap (stack d) (owner-top d (walk d acc) q t) ∙ sym (t .ok .tail));
       own = rw (t .here) at i;
       opener = t .ok .opener;
-      owned = owner-top d acc q t;
+      owned = owner-top d (walk d acc) q t;
     }
 
     -- of another kind than LP
@@ -137,13 +138,13 @@ module _ (d : Diagram) where
     -- the close of what it closes is the row itself
     close-is : (q : ℕ) → q < rowCount d → isClose d q ≡ true → (s : Shut q lp-open) → close d (s .frame .opened) ≡ q
     unfolding has close
-    close-is q l h s = let a = first in let b = until d acc o q (s .opener) there in omega arith
+    close-is q l h s = let a = first in let b = until d (walk d acc) o q (s .opener) there in omega arith
       where
         o : ℕ
         o = s .frame .opened
 
-        there : has d acc o (stack d q) ≡ true
-        there = rw (s .here) (or-left (has d acc o (s .rest)) (eq-eqb o o refl))
+        there : has d (walk d acc) o (stack d q) ≡ true
+        there = rw (s .here) (or-left (has d (walk d acc) o (s .rest)) (eq-eqb o o refl))
 
         first : close d o ≤ q
         first = least-found (rowCount d) (λ c. isClose d c && only o (owner d c)) q l (and-intro h (eq-eqb (owner d q) o (s .owned))) .1
@@ -170,6 +171,9 @@ module _ (d : Diagram) where
     counted lp-close q u = suc u
     counted loop-exit q u = u
     counted end q u = u
+    counted box-open q u = u
+    counted box-close q u = u
+    counted box-exit q u = u
 
     timed-not : (q : ℕ) {k : Kind} → kind d q ≡ k → sameKind k function ≡ false → spendsTime d q ≡ false
     timed-not q e h = rw (e, h)
@@ -181,12 +185,15 @@ module _ (d : Diagram) where
         (λ z. rw (z, e) (timeless-next q (stack d q) (rw (e, z))))
     count-is and-open q l e = rw e (timeless-next q (stack d q) (timed-not q e refl) ∙ sym (timeless-pushed and-open q (stack d q) e refl))
     count-is branch q l e = rw e (timeless-next q (stack d q) (timed-not q e refl) ∙ sym (timeless-turned (suc q) q (stack d q)))
-    count-is and-close q l e = other-shut q and-open (shut q and-open (rw e) (and-left (innermostIs d and-open (stack d q)) _ (stands d acc and-close q e refl))) refl (timed-not q e refl)
+    count-is and-close q l e = other-shut q and-open (shut q and-open (rw e) (stands d acc and-close q e refl)) refl (timed-not q e refl)
     count-is or-open q l e = rw e (timeless-next q (stack d q) (timed-not q e refl) ∙ sym (timeless-pushed or-open q (stack d q) e refl))
-    count-is or-close q l e = other-shut q or-open (shut q or-open (rw e) (and-left (innermostIs d or-open (stack d q)) _ (stands d acc or-close q e refl))) refl (timed-not q e refl)
+    count-is or-close q l e = other-shut q or-open (shut q or-open (rw e) (stands d acc or-close q e refl)) refl (timed-not q e refl)
     count-is it-open q l e = rw e (timeless-next q (stack d q) (timed-not q e refl) ∙ sym (timeless-pushed it-open q (stack d q) e refl))
     count-is it-close q l e = other-shut q it-open (shut q it-open (rw e) (stands d acc it-close q e refl)) refl (timed-not q e refl)
     count-is lp-open q l e = lp-opened q e .0
     count-is lp-close q l e = lp-shut q l (rw e) (shut q lp-open (rw e) (stands d acc lp-close q e refl)) (timed-not q e refl)
     count-is loop-exit q l e = rw e (timeless-next q (stack d q) (timed-not q e refl))
     count-is end q l e = rw e (timeless-next q (stack d q) (timed-not q e refl))
+    count-is box-open q l e = rw e (timeless-next q (stack d q) (timed-not q e refl) ∙ sym (timeless-pushed box-open q (stack d q) e refl))
+    count-is box-close q l e = other-shut q box-open (shut q box-open (rw e) (stands d acc box-close q e refl)) refl (timed-not q e refl)
+    count-is box-exit q l e = rw e (timeless-next q (stack d q) (timed-not q e refl))

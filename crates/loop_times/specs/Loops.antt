@@ -8,7 +8,7 @@ use lib.ListN.{getD}
 use lib.Dec.{eqb}
 use Rattle.effbd.specs.Answers.{Outcome, unless}
 use Rattle.effbd.specs.Diagrams.{Diagram, rowCount}
-use Rattle.effbd.specs.Nesting.{nestingFault, loopFault, unlessRow}
+use Rattle.effbd.specs.Nesting.{nestingFault, outletFault, loopFault, unlessRow}
 use Rattle.nesting.specs.declared.Judgement.{Judgement}
 use Rattle.nesting.specs.Runs.{Kinds}
 use Rattle.loop_times.specs.declared.Seen.{Seen}
@@ -30,10 +30,15 @@ pub record BehindClose (table : List ℕ) (row behind : ℕ) : Type 0 where
   pub low : behind ≤ row
   pub none : (q : ℕ) → behind ≤ q → q < row → getD table q 0 ≢ 25
 
--- the loops of the table's rows were judged: every diagram that has their kinds and first fields, and no row at fault in the walk, is turned away at that row with
+-- no row is at fault before the loops are judged: neither in the walk nor as a box whose outlets and EXITs do not match
+pub record Faultless (d : Diagram) : Type 0 where
+  pub walk : (q : ℕ) → q < rowCount d → nestingFault d q ≡ 0
+  pub outlets : (q : ℕ) → q < rowCount d → outletFault d q ≡ 0
+
+-- the loops of the table's rows were judged: every diagram that has their kinds and first fields, and no such fault, is turned away at that row with
 -- that number, or goes on
 pub record LoopsRead (table : List ℕ) (rows : ℕ) (r : Judgement) : Type 0 where
   pub within : r .row ≤ rows
   -- "0 and 0 for none"
   pub none : r .number ≡ 0 → r .row ≡ 0
-  pub judged : (d : Diagram) → Kinds d rows table → ((q : ℕ) → q < rowCount d → nestingFault d q ≡ 0) → (on : Outcome Diagram) → unlessRow d (loopFault d) on ≡ unless (r .number) (r .row) on
+  pub judged : (d : Diagram) → Kinds d rows table → Faultless d → (on : Outcome Diagram) → unlessRow d (loopFault d) on ≡ unless (r .number) (r .row) on

@@ -8,25 +8,26 @@ use native.Mathlib.Numerals.{add-one}
 use lib.ListN.{length}
 use lib.Dec.{leb, ltb, eqb}
 use borrow.Author.Tests.{ltb-true, ltb-false, eqb-true, eq-eqb, ne-eqb}
-use Rattle.effbd.specs.Diagrams.{Kind, function, and-open, branch, and-close, or-open, or-close, it-open, it-close, lp-open, lp-close, loop-exit, end, numberOf, sameKind, Diagram, rowCount, row, kind, isKind, kills}
-use Rattle.effbd.specs.Nesting.{Frame, push, turnTo, pop, passing, innermostOpen, stack, innermostIs, someOpen, noneOpen, twoBranches, follows, standsAs, nestingBroken, killerEmpty, exitMisplaced, thirteenthOpen, nestingFault}
-use Rattle.ranges.specs.Tests.{decide, clash, and-left, and-right, or-false-left}
+use Rattle.effbd.specs.Diagrams.{Kind, function, and-open, branch, and-close, or-open, or-close, it-open, it-close, lp-open, lp-close, loop-exit, end, box-open, box-close, box-exit, numberOf, sameKind, Diagram, rowCount, row, kind, isKind, kills}
+use Rattle.effbd.specs.Frames.{Frame, push, turnTo, pop, role, isOpening, isClosing, passing}
+use Rattle.effbd.specs.Nesting.{stack, innermostIs, ownScenario, someOpen, someScenario, noneOpen, twoBranches, follows, standsAs, nestingBroken, killerEmpty, exitMisplaced, boxExitMisplaced, thirteenthOpen, nestingFault}
+use Rattle.ranges.specs.Tests.{decide, clash, and-left, and-right}
 use Rattle.agreement.specs.Basics.{kind-past}
 use Rattle.nesting.specs.declared.Part.{Part}
 use Rattle.nesting.specs.declared.Part.the-variants.{Opens, Turns, Closes, Stays}
 use Rattle.nesting.specs.declared.Open.{Open}
-use Rattle.nesting.specs.Runs.{partOf, kindIn, firstIn, topIn, isAndOr, exitFits, closesIn, stayFault, lastFault, killerFault, branchFault, openFault, Kinds, Shows}
+use Rattle.nesting.specs.Runs.{partOf, kindIn, firstIn, topIn, isAndOr, isBranching, runEnds, exitFits, boxExitFits, closesIn, stayFault, lastFault, killerFault, branchFault, openFault, Kinds, Shows}
 
 -- the fault of a row that is not the last and stands behind no AND open or OR open, by its part
-abbrev pub faultBy : Part → (kind first next top : ℕ) (two looped : Bool) (depth : ℕ) → ℕ
-faultBy Opens k first next top two looped depth = cond (leb 12 depth) 9 0
-faultBy Turns k first next top two looped depth = branchFault first next top
-faultBy Closes k first next top two looped depth = cond (closesIn k top two) 0 7
-faultBy Stays k first next top two looped depth = stayFault k next top looped
+abbrev pub faultBy : Part → (kind first next top : ℕ) (two looped boxed : Bool) (depth : ℕ) → ℕ
+faultBy Opens k first next top two looped boxed depth = cond (leb 12 depth) 9 0
+faultBy Turns k first next top two looped boxed depth = branchFault first next top
+faultBy Closes k first next top two looped boxed depth = cond (closesIn k top two) 0 7
+faultBy Stays k first next top two looped boxed depth = stayFault k next top looped boxed
 
 -- the same of row q of the table, where `o` is open
 abbrev pub faultIn : List ℕ → ℕ → ℕ → Open → Part → ℕ
-faultIn table rows q o part = faultBy part (kindIn table rows q) (firstIn table q) (kindIn table rows (q + 1)) (topIn table rows o) (ltb (o .opened + 1) (o .latest)) (o .looped) (o .depth)
+faultIn table rows q o part = faultBy part (kindIn table rows q) (firstIn table q) (kindIn table rows (q + 1)) (topIn table rows o) (leb 2 (o .branches)) (o .looped) (o .boxed) (o .depth)
 
 -- what a row does, by its part
 abbrev pub passingBy : Part → ℕ → List Frame → List Frame
@@ -56,27 +57,31 @@ ending Stays = false
 
 -- a kind, by its number
 pub record Shape (k : Kind) : Type 0 where
-  pub passes : (q : ℕ) (fs : List Frame) → passing k q fs ≡ passingBy (partOf (numberOf k)) q fs
-  pub opens : (sameKind k and-open || sameKind k or-open || sameKind k it-open || sameKind k lp-open) ≡ opening (partOf (numberOf k))
-  pub closes : (sameKind k and-close || sameKind k or-close || sameKind k it-close || sameKind k lp-close) ≡ closing (partOf (numberOf k))
+  pub passes : (q : ℕ) (fs : List Frame) → passing (role k) q fs ≡ passingBy (partOf (numberOf k)) q fs
+  pub opens : isOpening (role k) ≡ opening (partOf (numberOf k))
+  pub closes : isClosing (role k) ≡ closing (partOf (numberOf k))
+  pub forks : isAndOr (numberOf k) ≡ true → isOpening (role k) ≡ true
   pub nonzero : (eqb (numberOf k) 0 ≡ false) × (eqb 0 (numberOf k) ≡ false)
   pub bare : (d : Diagram) (q : ℕ) → (ending (partOf (numberOf k)) && standsAs d k q []) ≡ false
   pub last : (d : Diagram) (q : ℕ) (fs : List Frame) → (sameKind k end && standsAs d k q fs) ≡ (sameKind k end && (noneOpen d fs && eqb (suc q) (rowCount d)))
 
 pub shape : (k : Kind) → Shape k
-unfolding partOf
-shape function = record { passes = λ q fs. refl; opens = refl; closes = refl; nonzero = (refl, refl); bare = λ d q. refl; last = λ d q fs. refl }
-shape and-open = record { passes = λ q fs. refl; opens = refl; closes = refl; nonzero = (refl, refl); bare = λ d q. refl; last = λ d q fs. refl }
-shape branch = record { passes = λ q fs. refl; opens = refl; closes = refl; nonzero = (refl, refl); bare = λ d q. refl; last = λ d q fs. refl }
-shape and-close = record { passes = λ q fs. refl; opens = refl; closes = refl; nonzero = (refl, refl); bare = λ d q. refl; last = λ d q fs. refl }
-shape or-open = record { passes = λ q fs. refl; opens = refl; closes = refl; nonzero = (refl, refl); bare = λ d q. refl; last = λ d q fs. refl }
-shape or-close = record { passes = λ q fs. refl; opens = refl; closes = refl; nonzero = (refl, refl); bare = λ d q. refl; last = λ d q fs. refl }
-shape it-open = record { passes = λ q fs. refl; opens = refl; closes = refl; nonzero = (refl, refl); bare = λ d q. refl; last = λ d q fs. refl }
-shape it-close = record { passes = λ q fs. refl; opens = refl; closes = refl; nonzero = (refl, refl); bare = λ d q. refl; last = λ d q fs. refl }
-shape lp-open = record { passes = λ q fs. refl; opens = refl; closes = refl; nonzero = (refl, refl); bare = λ d q. refl; last = λ d q fs. refl }
-shape lp-close = record { passes = λ q fs. refl; opens = refl; closes = refl; nonzero = (refl, refl); bare = λ d q. refl; last = λ d q fs. refl }
-shape loop-exit = record { passes = λ q fs. refl; opens = refl; closes = refl; nonzero = (refl, refl); bare = λ d q. refl; last = λ d q fs. refl }
-shape end = record { passes = λ q fs. refl; opens = refl; closes = refl; nonzero = (refl, refl); bare = λ d q. refl; last = λ d q fs. refl }
+unfolding partOf isAndOr
+shape function = record { passes = λ q fs. refl; opens = refl; closes = refl; forks = λ h. clash h refl; nonzero = (refl, refl); bare = λ d q. refl; last = λ d q fs. refl }
+shape and-open = record { passes = λ q fs. refl; opens = refl; closes = refl; forks = λ h. refl; nonzero = (refl, refl); bare = λ d q. refl; last = λ d q fs. refl }
+shape branch = record { passes = λ q fs. refl; opens = refl; closes = refl; forks = λ h. clash h refl; nonzero = (refl, refl); bare = λ d q. refl; last = λ d q fs. refl }
+shape and-close = record { passes = λ q fs. refl; opens = refl; closes = refl; forks = λ h. clash h refl; nonzero = (refl, refl); bare = λ d q. refl; last = λ d q fs. refl }
+shape or-open = record { passes = λ q fs. refl; opens = refl; closes = refl; forks = λ h. refl; nonzero = (refl, refl); bare = λ d q. refl; last = λ d q fs. refl }
+shape or-close = record { passes = λ q fs. refl; opens = refl; closes = refl; forks = λ h. clash h refl; nonzero = (refl, refl); bare = λ d q. refl; last = λ d q fs. refl }
+shape it-open = record { passes = λ q fs. refl; opens = refl; closes = refl; forks = λ h. refl; nonzero = (refl, refl); bare = λ d q. refl; last = λ d q fs. refl }
+shape it-close = record { passes = λ q fs. refl; opens = refl; closes = refl; forks = λ h. clash h refl; nonzero = (refl, refl); bare = λ d q. refl; last = λ d q fs. refl }
+shape lp-open = record { passes = λ q fs. refl; opens = refl; closes = refl; forks = λ h. refl; nonzero = (refl, refl); bare = λ d q. refl; last = λ d q fs. refl }
+shape lp-close = record { passes = λ q fs. refl; opens = refl; closes = refl; forks = λ h. clash h refl; nonzero = (refl, refl); bare = λ d q. refl; last = λ d q fs. refl }
+shape loop-exit = record { passes = λ q fs. refl; opens = refl; closes = refl; forks = λ h. clash h refl; nonzero = (refl, refl); bare = λ d q. refl; last = λ d q fs. refl }
+shape end = record { passes = λ q fs. refl; opens = refl; closes = refl; forks = λ h. clash h refl; nonzero = (refl, refl); bare = λ d q. refl; last = λ d q fs. refl }
+shape box-open = record { passes = λ q fs. refl; opens = refl; closes = refl; forks = λ h. refl; nonzero = (refl, refl); bare = λ d q. refl; last = λ d q fs. refl }
+shape box-close = record { passes = λ q fs. refl; opens = refl; closes = refl; forks = λ h. clash h refl; nonzero = (refl, refl); bare = λ d q. refl; last = λ d q fs. refl }
+shape box-exit = record { passes = λ q fs. refl; opens = refl; closes = refl; forks = λ h. clash h refl; nonzero = (refl, refl); bare = λ d q. refl; last = λ d q fs. refl }
 
 module _ (d : Diagram) where
   pub stack-next : (q : ℕ) (part : Part) → partOf (numberOf (kind d q)) ≡ part → stack d (q + 1) ≡ passingBy part q (stack d q)
@@ -104,51 +109,43 @@ module _ (d : Diagram) where
   free-behind q h = ap (follows d) (add-one q) ∙ rw h
 
   pub free-next : (q : ℕ) (part : Part) → partOf (numberOf (kind d q)) ≡ part → opening part ≡ false → follows d (q + 1) ≡ true
-  unfolding isAndOr
-  free-next q part e h =
-      let none = shape (kind d q) .opens ∙ (ap opening e ∙ h) in
-      free-behind q (or-false-left (isKind d and-open q || isKind d or-open q) (isKind d it-open q) (or-false-left (isKind d and-open q || isKind d or-open q || isKind d it-open q) (isKind d lp-open q) none))
+  free-next q part e h = free-behind q (decide (isAndOr (numberOf (kind d q))) (λ z. clash (shape (kind d q) .forks z) (shape (kind d q) .opens ∙ (ap opening e ∙ h))) (λ z. z))
 
-  exit-same : (a b l x y z : Bool) → (a ≡ true → b ≡ false) → ((a || b) && (l && (x || ((a && y) || (b && z))))) ≡ (l && ((a || b) && (x || cond a y z)))
-  exit-same true true l x y z h = clash refl (h refl)
-  exit-same true false true true y z h = refl
-  exit-same true false true false true z h = refl
-  exit-same true false true false false z h = refl
-  exit-same true false false x y z h = refl
-  exit-same false true true x y z h = refl
-  exit-same false true false x y z h = refl
-  exit-same false false true x y z h = refl
-  exit-same false false false x y z h = refl
+  exit-is : (q : ℕ) → exitMisplaced d q ≡ (isKind d loop-exit q && not (exitFits (numberOf (kind d (q + 1))) (topNumber (stack d q)) (someOpen d lp-open (ownScenario d (stack d q)))))
+  unfolding exitMisplaced exitFits isAndOr runEnds
+  exit-is q = rw (add-one q, top-is and-open (stack d q), top-is or-open (stack d q), top-is box-open (stack d q))
 
-  exit-is : (q : ℕ) → exitMisplaced d q ≡ (isKind d loop-exit q && not (exitFits (numberOf (kind d (q + 1))) (topNumber (stack d q)) (someOpen d lp-open (stack d q))))
-  unfolding exitMisplaced exitFits isAndOr
-  exit-is q =
-      let top : ℕ = topNumber (stack d q) in
-      rw (add-one q, top-is and-open (stack d q), top-is or-open (stack d q))
-      (ap (λ (b : Bool). isKind d loop-exit q && not b)
-      (exit-same (eqb top 17) (eqb top 20) (someOpen d lp-open (stack d q)) (isKind d branch (suc q)) (isKind d and-close (suc q)) (isKind d or-close (suc q))
-      (λ e. ne-eqb top 20 (λ z. let y = eqb-true top 17 e in absurd (omega arith)))))
+  box-exit-is : (q : ℕ) → boxExitMisplaced d q ≡ (isKind d box-exit q && not (boxExitFits (numberOf (kind d (q + 1))) (topNumber (stack d q)) (someScenario d (stack d q))))
+  unfolding boxExitMisplaced boxExitFits runEnds
+  box-exit-is q = rw (add-one q, top-is and-open (stack d q), top-is or-open (stack d q), top-is box-open (stack d q), top-is it-open (stack d q), top-is lp-open (stack d q))
 
   swap : (b : Bool) (n : ℕ) → cond (not b) n 0 ≡ cond b 0 n
   swap true n = refl
   swap false n = refl
 
-  -- 7 before 44; an AND is innermost, or an OR; the BRANCH kills; its branch is empty
-  branch-same : (inAnd inOr kill empty : Bool) → _≡_ {A = ℕ} (cond (not ((inAnd || inOr) && (not kill || inAnd))) 7 (cond (kill && empty) 44 0)) (cond kill (cond inAnd (cond empty 44 0) 7) (cond (inAnd || inOr) 0 7))
-  branch-same true inOr true empty = refl
-  branch-same true inOr false empty = refl
-  branch-same false true true empty = refl
-  branch-same false true false empty = refl
-  branch-same false false true empty = refl
-  branch-same false false false empty = refl
+  -- 7 before 44; an AND is innermost, or an OR, or a box; the BRANCH kills; its branch is empty
+  branch-same : (inAnd inOr inBox kill empty : Bool)
+      → _≡_ {A = ℕ} (cond (not ((inAnd || inOr || inBox) && (not kill || inAnd))) 7 (cond (kill && empty) 44 0)) (cond kill (cond inAnd (cond empty 44 0) 7) (cond (inAnd || inOr || inBox) 0 7))
+  branch-same true inOr inBox true empty = refl
+  branch-same true inOr inBox false empty = refl
+  branch-same false true inBox true empty = refl
+  branch-same false true inBox false empty = refl
+  branch-same false false true true empty = refl
+  branch-same false false true false empty = refl
+  branch-same false false false true empty = refl
+  branch-same false false false false empty = refl
 
   inside-as : (k : Kind) (next q : ℕ) (fs : List Frame) → eqb (suc q) (rowCount d) ≡ false
-      → cond (not (standsAs d k q fs)) 7 (cond (sameKind k branch && (kills d q && (eqb next 18 || eqb next 19))) 44 (cond (sameKind k loop-exit && not (exitFits next (topNumber fs) (someOpen d lp-open fs))) 8 (cond (opening (partOf (numberOf k)) && leb 12 (length fs)) 9 0)))
-      ≡ faultBy (partOf (numberOf k)) (numberOf k) (row d q .first) next (topNumber fs) (twoBranches d fs) (someOpen d lp-open fs) (length fs)
-  unfolding partOf isAndOr closesIn stayFault killerFault branchFault
+      → cond (not (standsAs d k q fs)) 7 (cond (sameKind k branch && (kills d q && (eqb next 18 || eqb next 19))) 44
+      (cond (sameKind k loop-exit && not (exitFits next (topNumber fs) (someOpen d lp-open (ownScenario d fs)))) 8
+      (cond (sameKind k box-exit && not (boxExitFits next (topNumber fs) (someScenario d fs))) 48
+      (cond (opening (partOf (numberOf k)) && leb 12 (length fs)) 9 0))))
+      ≡ faultBy (partOf (numberOf k)) (numberOf k) (row d q .first) next (topNumber fs) (twoBranches d fs) (someOpen d lp-open (ownScenario d fs)) (someScenario d fs) (length fs)
+  unfolding partOf isAndOr isBranching closesIn stayFault killerFault branchFault
   inside-as function next q fs l = refl
   inside-as and-open next q fs l = refl
-  inside-as branch next q fs l = rw (top-is and-open fs, top-is or-open fs) (branch-same (eqb (topNumber fs) 17) (eqb (topNumber fs) 20) (kills d q) (eqb next 18 || eqb next 19))
+  inside-as branch next q fs l = rw (top-is and-open fs, top-is or-open fs, top-is box-open fs)
+      (branch-same (eqb (topNumber fs) 17) (eqb (topNumber fs) 20) (eqb (topNumber fs) 29) (kills d q) (eqb next 18 || eqb next 19))
   inside-as and-close next q fs l = rw (top-is and-open fs) (swap (eqb (topNumber fs) 17 && twoBranches d fs) 7)
   inside-as or-open next q fs l = refl
   inside-as or-close next q fs l = rw (top-is or-open fs) (swap (eqb (topNumber fs) 20 && twoBranches d fs) 7)
@@ -156,12 +153,15 @@ module _ (d : Diagram) where
   inside-as it-close next q fs l = rw (top-is it-open fs) (swap (eqb (topNumber fs) 22) 7)
   inside-as lp-open next q fs l = refl
   inside-as lp-close next q fs l = rw (top-is lp-open fs) (swap (eqb (topNumber fs) 24) 7)
-  inside-as loop-exit next q fs l = swap (exitFits next (topNumber fs) (someOpen d lp-open fs)) 8
+  inside-as loop-exit next q fs l = swap (exitFits next (topNumber fs) (someOpen d lp-open (ownScenario d fs))) 8
   inside-as end next q fs l = rw (l, and-false (noneOpen d fs))
+  inside-as box-open next q fs l = refl
+  inside-as box-close next q fs l = rw (top-is box-open fs) (swap (eqb (topNumber fs) 29 && twoBranches d fs) 7)
+  inside-as box-exit next q fs l = swap (boxExitFits next (topNumber fs) (someScenario d fs)) 48
 
-  last-as : (n : ℕ) (b e x y : Bool) → _≡_ {A = ℕ} (cond (not (eqb n 27 && b)) 7 (cond (eqb n 18 && e) 44 (cond (eqb n 26 && x) 8 (cond (opening (partOf n) && y) 9 0)))) (cond (eqb n 27 && b) 0 7)
+  last-as : (n : ℕ) (b e x z y : Bool) → _≡_ {A = ℕ} (cond (not (eqb n 27 && b)) 7 (cond (eqb n 18 && e) 44 (cond (eqb n 26 && x) 8 (cond (eqb n 31 && z) 48 (cond (opening (partOf n) && y) 9 0))))) (cond (eqb n 27 && b) 0 7)
   unfolding partOf
-  last-as n b e x y = decide (eqb n 27) (λ z. rw (eqb-true n 27 z) (swap b 7)) (λ z. rw z)
+  last-as n b e x z y = decide (eqb n 27) (λ w. rw (eqb-true n 27 w) (swap b 7)) (λ w. rw w)
 
   empty-is : (q : ℕ) → killerEmpty d q ≡ (isKind d branch q && (kills d q && (eqb (numberOf (kind d (q + 1))) 18 || eqb (numberOf (kind d (q + 1))) 19)))
   unfolding killerEmpty
@@ -174,9 +174,9 @@ module _ (d : Diagram) where
 
     -- the fault of a row that is not the last, by its part
     inside-is : eqb (suc q) (rowCount d) ≡ false → nestingFault d q
-        ≡ faultBy (partOf (numberOf (kind d q))) (numberOf (kind d q)) (row d q .first) (numberOf (kind d (q + 1))) (topNumber (stack d q)) (twoBranches d (stack d q)) (someOpen d lp-open (stack d q)) (length (stack d q))
+        ≡ faultBy (partOf (numberOf (kind d q))) (numberOf (kind d q)) (row d q .first) (numberOf (kind d (q + 1))) (topNumber (stack d q)) (twoBranches d (stack d q)) (someOpen d lp-open (ownScenario d (stack d q))) (someScenario d (stack d q)) (length (stack d q))
     unfolding nestingFault nestingBroken
-    inside-is l = rw (f, l, and-true (standsAs d (kind d q) q (stack d q)), empty-is q, exit-is q, deep-is) (inside-as (kind d q) (numberOf (kind d (q + 1))) q (stack d q) l)
+    inside-is l = rw (f, l, and-true (standsAs d (kind d q) q (stack d q)), empty-is q, exit-is q, box-exit-is q, deep-is) (inside-as (kind d q) (numberOf (kind d (q + 1))) q (stack d q) l)
 
     -- the fault of the last row
     last-is : eqb (suc q) (rowCount d) ≡ true → nestingFault d q ≡ lastFault (numberOf (kind d q)) (topNumber (stack d q))
@@ -184,8 +184,8 @@ module _ (d : Diagram) where
     last-is l =
         let s : (standsAs d (kind d q) q (stack d q) && isKind d end q) ≡ (isKind d end q && eqb (topNumber (stack d q)) 0) =
         and-comm (standsAs d (kind d q) q (stack d q)) (isKind d end q) ∙ (shape (kind d q) .last d q (stack d q) ∙ rw (l, and-true (noneOpen d (stack d q)), none-is (stack d q))) in
-        rw (f, l, s, empty-is q, exit-is q, deep-is)
-        (last-as (numberOf (kind d q)) (eqb (topNumber (stack d q)) 0) (kills d q && (eqb (numberOf (kind d (q + 1))) 18 || eqb (numberOf (kind d (q + 1))) 19)) (not (exitFits (numberOf (kind d (q + 1))) (topNumber (stack d q)) (someOpen d lp-open (stack d q)))) (leb 12 (length (stack d q))))
+        rw (f, l, s, empty-is q, exit-is q, box-exit-is q, deep-is)
+        (last-as (numberOf (kind d q)) (eqb (topNumber (stack d q)) 0) (kills d q && (eqb (numberOf (kind d (q + 1))) 18 || eqb (numberOf (kind d (q + 1))) 19)) (not (exitFits (numberOf (kind d (q + 1))) (topNumber (stack d q)) (someOpen d lp-open (ownScenario d (stack d q))))) (not (boxExitFits (numberOf (kind d (q + 1))) (topNumber (stack d q)) (someScenario d (stack d q)))) (leb 12 (length (stack d q))))
 
   -- behind an AND open or OR open: a BRANCH that is not the last row stands there, all else does not
   module _ (q : ℕ) (h : isAndOr (numberOf (kind d q)) ≡ true) where
@@ -236,8 +236,7 @@ module _ (d : Diagram) where
       pub fault-is : (part : Part) → q + 1 < rows → partOf (kindIn table rows q) ≡ part → nestingFault d q ≡ faultIn table rows q o part
       fault-is part l e =
           let inner : eqb (suc q) (rowCount d) ≡ false = ne-eqb (suc q) (rowCount d) (λ z. absurd (omega (arith, k .count))) in
-          let two : twoBranches d (stack d q) ≡ ltb (o .opened + 1) (o .latest) = rw (s .opened, s .latest, add-one (innermostOpen (stack d q))) in
-          rw (← e, kind-is q, kind-is (q + 1), top-shown (stack d q) o s, k .first q (omega arith), ← two, s .looped, s .depth) (inside-is q f inner)
+          rw (← e, kind-is q, kind-is (q + 1), top-shown (stack d q) o s, k .first q (omega arith), s .branches, s .looped, s .boxed, s .depth) (inside-is q f inner)
 
       pub last-fault-is : q + 1 ≡ rows → nestingFault d q ≡ lastFault (kindIn table rows q) (topIn table rows o)
       last-fault-is l = rw (kind-is q, top-shown (stack d q) o s) (last-is q f (eq-eqb (suc q) (rowCount d) (omega (arith, k .count))))

@@ -10,7 +10,8 @@ use lib.Dec.{eqb}
 use borrow.Author.Tests.{eqb-true, eq-eqb, ne-eqb, not-false}
 use Rattle.effbd.specs.Ranges.{only}
 use Rattle.effbd.specs.Diagrams.{lp-open, end, numberOf, Diagram, rowCount, kind, isKind}
-use Rattle.effbd.specs.Nesting.{Frame, pop, innermostOpen, stack, owner, isClose, close, innermost, loop, follows, standsAs, nestingBroken, killerEmpty, exitMisplaced, thirteenthOpen, nestingFault}
+use Rattle.effbd.specs.Frames.{Frame, pop, innermostOpen}
+use Rattle.effbd.specs.Nesting.{stack, owner, isClose, close, innermost, loop, follows, standsAs, nestingBroken, killerEmpty, exitMisplaced, boxExitMisplaced, thirteenthOpen, nestingFault}
 use Rattle.ranges.specs.Tests.{decide, clash, or-false-right}
 use Rattle.ranges.specs.RangeLaws.{least-low}
 use Rattle.nesting.specs.declared.Part.{Part}
@@ -150,7 +151,7 @@ module _ (d : Diagram) where
         last true false z = clash refl z
         last false b z = clash refl z
 
-        go : (b : Bool) → nestingBroken d q ≡ b → _≡_ {A = ℕ} (cond b 7 (cond (killerEmpty d q) 44 (cond (exitMisplaced d q) 8 (cond (thirteenthOpen d q) 9 0)))) 0 → isKind d end q ≡ true
+        go : (b : Bool) → nestingBroken d q ≡ b → _≡_ {A = ℕ} (cond b 7 (cond (killerEmpty d q) 44 (cond (exitMisplaced d q) 8 (cond (boxExitMisplaced d q) 48 (cond (thirteenthOpen d q) 9 0))))) 0 → isKind d end q ≡ true
         go true h z = absurd (omega arith)
         go false h z = last (follows d q) (standsAs d (kind d q) q (stack d q)) (unfold nestingBroken in h)
 

@@ -2,16 +2,17 @@
 use Prim.Native.Nat.{ℕ, _+_, _≤_, _<_}
 use mathlib.Core.Path.{_≡_, refl, sym, _∙_, ap, subst}
 use mathlib.Core.Logic.{_≢_}
-use mathlib.Core.Bool.{Bool, true, false, _&&_}
-use mathlib.Core.List.{List, _∷_}
+use mathlib.Core.Bool.{Bool, true, false, cond, _&&_, _||_}
+use mathlib.Core.List.{List, [], _∷_}
 use native.Mathlib.Omega.{arith}
 use native.Mathlib.Numerals.{add-one}
 use lib.ListN.{length}
-use lib.Dec.{ltb, eqb}
+use lib.Dec.{leb, ltb, eqb}
 use borrow.Author.Tests.{eqb-true, eqb-false, ltb-true, ltb-false, lt-leb, le-leb}
 use Rattle.effbd.specs.Answers.{Outcome, refused, unless}
-use Rattle.effbd.specs.Diagrams.{Diagram, numberOf, rowCount, kind}
-use Rattle.effbd.specs.Nesting.{Frame, stack, nestingFault, unlessRow}
+use Rattle.effbd.specs.Diagrams.{Diagram, numberOf, rowCount, kind, isKind, lp-open}
+use Rattle.effbd.specs.Frames.{Frame}
+use Rattle.effbd.specs.Nesting.{stack, inScenario, ownScenario, someOpen, nestingFault, unlessRow}
 use Rattle.ranges.specs.Tests.{decide, and-left, and-right}
 use Rattle.nesting.specs.declared.Part.{Part}
 use Rattle.nesting.specs.declared.Part.the-variants.{Opens, Turns, Closes, Stays}
@@ -20,7 +21,7 @@ use Rattle.nesting.specs.declared.Run.{Run}
 use Rattle.nesting.specs.declared.Run.the-variants.{Judged, Turned, Closed}
 use Rattle.nesting.specs.declared.Construct.{Construct}
 use Rattle.nesting.specs.declared.Construct.the-variants.{Judged as WasJudged, Closed as WasClosed}
-use Rattle.nesting.specs.Runs.{partOf, kindIn, topIn, isAndOr, loopsIn, closesIn, lastFault, openFault, Kinds, Shows, At, Clean, AllJudged, Reached, Ends, RunEnded, RunWithin, RunRead, ConstructEnded, ConstructWithin, ConstructRead, NestingRead}
+use Rattle.nesting.specs.Runs.{partOf, kindIn, topIn, isAndOr, insideIn, scenarioIn, loopsIn, closesIn, lastFault, openFault, Kinds, Shows, At, Clean, AllJudged, Reached, Ends, RunEnded, RunWithin, RunRead, ConstructEnded, ConstructWithin, ConstructRead, NestingRead}
 use Rattle.ranges.specs.Outcomes.{unless-refused}
 use Rattle.agreement.specs.RowFaults.{rows-faultless, rows-faulty}
 use Rattle.nesting.proofs.Rules.{faultIn, passingBy, opening, ending, stack-next, free-behind, free-next, kind-is, open-fault-is, fault-is, last-fault-is, bare-faulty}
@@ -44,16 +45,25 @@ judged-from d a b number row l c j = record {
 }
 
 -- a construct's frame above what is open around it
-pub shows-inside : (d : Diagram) (rows : ℕ) (table : List ℕ) → Kinds d rows table → (fs : List Frame) (o : Open) (opened latest depth : ℕ) (looped : Bool) → Shows d fs o
-    → depth ≡ o .depth + 1 → looped ≡ loopsIn (kindIn table rows opened) (o .looped)
-    → Shows d (record { opened = opened; latest = latest } ∷ fs) (record { depth = depth; opened = opened; latest = latest; looped = looped })
-unfolding loopsIn
-shows-inside d rows table k fs o opened latest depth looped s ed el = record {
-  depth = ed ∙ (ap (λ (n : ℕ). n + 1) (s .depth) ∙ add-one (length fs));
+pub shows-inside : (d : Diagram) (rows : ℕ) (table : List ℕ) → Kinds d rows table → (fs : List Frame) (o : Open) (opened latest branches : ℕ) → Shows d fs o
+    → Shows d (record { opened = opened; latest = latest; branches = branches } ∷ fs) (insideIn (kindIn table rows opened) opened branches o)
+unfolding insideIn scenarioIn loopsIn
+shows-inside d rows table k fs o opened latest branches s = record {
+  depth = ap (λ (n : ℕ). n + 1) (s .depth) ∙ add-one (length fs);
   opened = refl;
-  latest = refl;
-  looped = el ∙ rw (kind-is d rows table k opened, s .looped);
+  branches = refl;
+  looped = rw (kind-is d rows table k opened, s .looped) (hidden (inScenario d (record { opened = opened; latest = latest; branches = branches })));
+  boxed = rw (kind-is d rows table k opened, s .boxed);
 }
+  where
+    hidden : (b : Bool) → cond b false (isKind d lp-open opened || someOpen d lp-open (ownScenario d fs))
+        ≡ someOpen d lp-open (cond b [] (record { opened = opened; latest = latest; branches = branches } ∷ ownScenario d fs))
+    hidden true = refl
+    hidden false = refl
+
+pub inside-depth : (k opened branches : ℕ) (inner o : Open) → inner ≡ insideIn k opened branches o → inner .depth ≡ o .depth + 1
+unfolding insideIn
+inside-depth k opened branches inner o e = ap (λ (x : Open). x .depth) e
 
 -- what is open where these frames are reached
 at-reached : (d : Diagram) (table : List ℕ) (rows a q : ℕ) (o : Open) (fs : List Frame) → Kinds d rows table → Shows d fs o → Reached d a q fs → At table rows q o d
@@ -145,10 +155,10 @@ module _ (table : List ℕ) (rows from : ℕ) (o : Open) (q : ℕ) (st : RunStat
     run-turned e fine = record { within = (st .low, l); ended = ends Turns e fine }
 
     module _ (e : partOf (kindIn table rows q) ≡ Closes) where
-      pub run-closed : closesIn (kindIn table rows q) (topIn table rows o) (ltb (o .opened + 1) (o .latest)) ≡ true → RunRead table rows from o (Closed q)
+      pub run-closed : closesIn (kindIn table rows q) (topIn table rows o) (leb 2 (o .branches)) ≡ true → RunRead table rows from o (Closed q)
       run-closed h = record { within = (st .low, l); ended = ends Closes e (rw h) }
 
-      pub run-unclosed : closesIn (kindIn table rows q) (topIn table rows o) (ltb (o .opened + 1) (o .latest)) ≡ false → RunRead table rows from o (Judged 7 q)
+      pub run-unclosed : closesIn (kindIn table rows q) (topIn table rows o) (leb 2 (o .branches)) ≡ false → RunRead table rows from o (Judged 7 q)
       run-unclosed h = run-fault Closes e 7 (rw h) (λ z. absurd (omega arith))
 
     pub run-stays : partOf (kindIn table rows q) ≡ Stays → 0 ≡ faultIn table rows q o Stays → RunState table rows from o (q + 1)
@@ -194,28 +204,32 @@ turned-within table rows from o r j read e = subst (RunWithin from rows) e (read
 
 -- ---- a construct
 
--- the frame of the construct that row `opened` opens, at its branch `latest`, above what is open around it
-abbrev framed : Diagram → (opened latest : ℕ) → List Frame
-framed d opened latest = record { opened = opened; latest = latest } ∷ stack d opened
+-- the frame of the construct that row `opened` opens, above what is open around it
+abbrev framed : Diagram → (opened latest branches : ℕ) → List Frame
+framed d opened latest branches = record { opened = opened; latest = latest; branches = branches } ∷ stack d opened
 
--- the construct that row `opened` opens is read up to row q: none is at fault, and it is the innermost, at its branch `latest`
-pub record ConstructState (table : List ℕ) (rows opened : ℕ) (o : Open) (latest q : ℕ) : Type 0 where
+-- the construct that row `opened` opens is read up to row q: none is at fault, and it is the innermost, with so many BRANCH rows
+pub record ConstructState (table : List ℕ) (rows opened : ℕ) (o : Open) (branches q : ℕ) : Type 0 where
   pub low : opened < q
   pub high : q < rows
-  pub reached : (d : Diagram) → At table rows opened o d → partOf (numberOf (kind d opened)) ≡ Opens → Reached d (opened + 1) q (framed d opened latest)
+  pub few : branches ≤ q
+  pub latest : ℕ
+  pub reached : (d : Diagram) → At table rows opened o d → partOf (numberOf (kind d opened)) ≡ Opens → Reached d (opened + 1) q (framed d opened latest branches)
 
-pushed : (d : Diagram) (opened : ℕ) → partOf (numberOf (kind d opened)) ≡ Opens → stack d (opened + 1) ≡ framed d opened (opened + 1)
-pushed d opened e = stack-next d opened Opens e ∙ ap (framed d opened) (sym (add-one opened))
+pushed : (d : Diagram) (opened : ℕ) → partOf (numberOf (kind d opened)) ≡ Opens → stack d (opened + 1) ≡ framed d opened (opened + 1) 0
+pushed d opened e = stack-next d opened Opens e ∙ ap (λ (n : ℕ). framed d opened n 0) (sym (add-one opened))
 
 module _ (table : List ℕ) (rows opened : ℕ) (o : Open) (l : opened + 1 < rows) where
   and-or-is : (d : Diagram) → At table rows opened o d → {b : Bool} → isAndOr (kindIn table rows opened) ≡ b → isAndOr (numberOf (kind d opened)) ≡ b
   and-or-is d a h = ap isAndOr (sym (kind-is d rows table (a .kinds) opened)) ∙ h
 
-  -- an IT or LP
-  pub construct-start : isAndOr (kindIn table rows opened) ≡ false → ConstructState table rows opened o (opened + 1) (opened + 1)
+  -- an IT, LP or box
+  pub construct-start : isAndOr (kindIn table rows opened) ≡ false → ConstructState table rows opened o 0 (opened + 1)
   construct-start h = record {
     low = omega arith;
     high = l;
+    few = omega arith;
+    latest = opened + 1;
     reached = λ d a e. record { clean = clean-none d (opened + 1); around = pushed d opened e; free = free-behind d opened (and-or-is d a h) };
   }
 
@@ -228,14 +242,16 @@ module _ (table : List ℕ) (rows opened : ℕ) (o : Open) (l : opened + 1 < row
     unfolding openFault
     follows-open z = decide (eqb (kindIn table rows (opened + 1)) 18 && ltb (opened + 1 + 1) rows) (λ e. e) (λ e. absurd (let y : _≡_ {A = ℕ} 0 7 = sym z ∙ (rw e at ef) in omega arith))
 
-    pub construct-branched : fault ≡ 0 → ConstructState table rows opened o (opened + 1) (opened + 1 + 1)
+    pub construct-branched : fault ≡ 0 → ConstructState table rows opened o 1 (opened + 1 + 1)
     unfolding partOf
     construct-branched z =
         let f = follows-open z in
         record {
           low = omega arith;
           high = ltb-true (opened + 1 + 1) rows (and-right (eqb (kindIn table rows (opened + 1)) 18) (ltb (opened + 1 + 1) rows) f);
-          reached = λ d a e. passed d Turns (opened + 1) (opened + 1) (framed d opened (opened + 1)) refl (pushed d opened e) (record {
+          few = omega arith;
+          latest = opened + 1;
+          reached = λ d a e. passed d Turns (opened + 1) (opened + 1) (framed d opened (opened + 1) 0) refl (pushed d opened e) (record {
             clean = clean-more d (opened + 1) (opened + 1) (clean-none d (opened + 1)) (at-open d a e ∙ z);
             does = ap partOf (sym (kind-is d rows table (a .kinds) (opened + 1)) ∙ eqb-true (kindIn table rows (opened + 1)) 18 (and-left (eqb (kindIn table rows (opened + 1)) 18) _ f));
             around = refl;
@@ -251,12 +267,11 @@ module _ (table : List ℕ) (rows opened : ℕ) (o : Open) (l : opened + 1 < row
       };
     }
 
-module _ (table : List ℕ) (rows opened : ℕ) (o : Open) (latest q depth : ℕ) (looped : Bool) (st : ConstructState table rows opened o latest q)
-    (ed : depth ≡ o .depth + 1) (el : looped ≡ loopsIn (kindIn table rows opened) (o .looped)) (r : Run)
-    (read : RunRead table rows q (record { depth = depth; opened = opened; latest = latest; looped = looped }) r) where
+module _ (table : List ℕ) (rows opened : ℕ) (o : Open) (branches q : ℕ) (st : ConstructState table rows opened o branches q) (r : Run)
+    (read : RunRead table rows q (insideIn (kindIn table rows opened) opened branches o) r) where
   ran : (d : Diagram) → At table rows opened o d → partOf (numberOf (kind d opened)) ≡ Opens → RunEnded d q r
-  ran d a e = read .ended d (at-reached d table rows (opened + 1) q (record { depth = depth; opened = opened; latest = latest; looped = looped }) (framed d opened latest) (a .kinds)
-      (shows-inside d rows table (a .kinds) (stack d opened) o opened latest depth looped (a .shows) ed el) (st .reached d a e))
+  ran d a e = read .ended d (at-reached d table rows (opened + 1) q (insideIn (kindIn table rows opened) opened branches o) (framed d opened (st .latest) branches) (a .kinds)
+      (shows-inside d rows table (a .kinds) (stack d opened) o opened (st .latest) branches (a .shows)) (st .reached d a e))
 
   pub construct-judged : (number row : ℕ) → r ≡ Judged number row → ConstructRead table rows opened o (WasJudged number row)
   construct-judged number row e = record {
@@ -266,15 +281,21 @@ module _ (table : List ℕ) (rows opened : ℕ) (o : Open) (latest q depth : ℕ
 
   -- behind the BRANCH or close that ended the run
   behind : (d : Diagram) → At table rows opened o d → partOf (numberOf (kind d opened)) ≡ Opens → (part : Part) (j : ℕ) → opening part ≡ false → Ends d part q j
-      → Reached d (opened + 1) (j + 1) (passingBy part j (framed d opened latest))
+      → Reached d (opened + 1) (j + 1) (passingBy part j (framed d opened (st .latest) branches))
   behind d a p part j h x = let w = st .reached d a p in
-      reached-on d (opened + 1) q (j + 1) (passingBy part j (framed d opened latest)) (w .clean) (passed d part q j (framed d opened latest) h (w .around) x)
+      reached-on d (opened + 1) q (j + 1) (passingBy part j (framed d opened (st .latest) branches)) (w .clean) (passed d part q j (framed d opened (st .latest) branches) h (w .around) x)
 
-  pub construct-turned : (j : ℕ) → r ≡ Turned j → ConstructState table rows opened o j (j + 1)
+  pub construct-turned : (j : ℕ) → r ≡ Turned j → ConstructState table rows opened o (branches + 1) (j + 1)
   construct-turned j e =
       let w : (q ≤ j) × (j + 1 < rows) = subst (RunWithin q rows) e (read .within) in
       let x = w .0 in
-      record { low = let h = st .low in omega arith; high = w .1; reached = λ d a p. behind d a p Turns j refl (subst (RunEnded d q) e (ran d a p)) }
+      record {
+        low = let h = st .low in omega arith;
+        high = w .1;
+        few = let h = st .few in omega arith;
+        latest = j;
+        reached = λ d a p. subst (λ n. Reached d (opened + 1) (j + 1) (framed d opened j n)) (sym (add-one branches)) (behind d a p Turns j refl (subst (RunEnded d q) e (ran d a p)));
+      }
 
   pub construct-closed : (j : ℕ) → r ≡ Closed j → ConstructRead table rows opened o (WasClosed j)
   construct-closed j e =
@@ -285,7 +306,7 @@ module _ (table : List ℕ) (rows opened : ℕ) (o : Open) (latest q depth : ℕ
 -- ---- all rows
 
 abbrev pub nothing : Open
-nothing = record { depth = 0; opened = 0; latest = 0; looped = false }
+nothing = record { depth = 0; opened = 0; branches = 0; looped = false; boxed = false }
 
 judged-is : (d : Diagram) (number row : ℕ) → AllJudged d 0 number row → (on : Outcome Diagram) → unlessRow d (nestingFault d) on ≡ unless number row on
 judged-is d number row j on = decide (eqb number 0)
@@ -304,7 +325,7 @@ no-rows table rows e = record {
 module _ (table : List ℕ) (rows : ℕ) (r : Run) (read : RunRead table rows 0 nothing r) where
   ran-all : (d : Diagram) → Kinds d rows table → RunEnded d 0 r
   unfolding stack
-  ran-all d k = read .ended d (record { kinds = k; shows = record { depth = refl; opened = refl; latest = refl; looped = refl }; free = refl })
+  ran-all d k = read .ended d (record { kinds = k; shows = record { depth = refl; opened = refl; branches = refl; looped = refl; boxed = refl }; free = refl })
 
   pub all-judged : (number row : ℕ) → r ≡ Judged number row → NestingRead table rows (record { number = number; row = row })
   all-judged number row e = record {

@@ -2,13 +2,14 @@
 use Prim.Native.Nat.{ℕ, _+_, _≤_, _<_}
 use mathlib.Core.Path.{_≡_}
 use mathlib.Core.Logic.{_≢_}
-use mathlib.Core.Bool.{Bool, true, false, cond, _&&_, _||_}
+use mathlib.Core.Bool.{Bool, true, false, not, cond, _&&_, _||_}
 use mathlib.Core.List.{List}
 use lib.ListN.{length, getD}
 use lib.Dec.{ltb, eqb}
 use Rattle.effbd.specs.Answers.{Outcome, unless}
 use Rattle.effbd.specs.Diagrams.{mostRows, Diagram, lp-open, numberOf, rowCount, row, kind}
-use Rattle.effbd.specs.Nesting.{Frame, innermostOpen, latestBranch, stack, someOpen, follows, nestingFault, unlessRow}
+use Rattle.effbd.specs.Frames.{Frame, innermostOpen, branchCount}
+use Rattle.effbd.specs.Nesting.{stack, ownScenario, someOpen, someScenario, follows, nestingFault, unlessRow}
 use Rattle.nesting.specs.declared.Part.{Part}
 use Rattle.nesting.specs.declared.Part.the-variants.{Opens, Turns, Closes, Stays}
 use Rattle.nesting.specs.declared.Open.{Open}
@@ -20,7 +21,7 @@ use Rattle.nesting.specs.declared.Judgement.{Judgement}
 
 unfoldable pub partOf : ℕ → Part
 partOf k = cond (eqb k 17) Opens (cond (eqb k 18) Turns (cond (eqb k 19) Closes (cond (eqb k 20) Opens (cond (eqb k 21) Closes (cond (eqb k 22) Opens
-    (cond (eqb k 23) Closes (cond (eqb k 24) Opens (cond (eqb k 25) Closes Stays))))))))
+    (cond (eqb k 23) Closes (cond (eqb k 24) Opens (cond (eqb k 25) Closes (cond (eqb k 29) Opens (cond (eqb k 30) Closes Stays))))))))))
 
 -- the kind of a row in the table; behind the last row an END
 unfoldable pub kindIn : List ℕ → ℕ → ℕ → ℕ
@@ -36,19 +37,46 @@ topIn table rows o = cond (eqb (o .depth) 0) 0 (kindIn table rows (o .opened))
 unfoldable pub isAndOr : ℕ → Bool
 isAndOr k = eqb k 17 || eqb k 20
 
+unfoldable pub isBranching : ℕ → Bool
+isBranching k = isAndOr k || eqb k 29
+
+-- a row of kind `next` ends a run in the construct `top`
+unfoldable pub runEnds : (next top : ℕ) → Bool
+runEnds next top = eqb next 18 || ((eqb top 17 && eqb next 19) || ((eqb top 20 && eqb next 21) || (eqb top 29 && eqb next 30)))
+
+-- an LE may stand; an EXIT may
 unfoldable pub exitFits : (next top : ℕ) (looped : Bool) → Bool
-exitFits next top looped = looped && (isAndOr top && (eqb next 18 || cond (eqb top 17) (eqb next 19) (eqb next 21)))
+exitFits next top looped = isAndOr top && (looped && runEnds next top)
 
-unfoldable pub loopsIn : (kind : ℕ) (looped : Bool) → Bool
-loopsIn k looped = eqb k 24 || looped
+unfoldable pub boxExitFits : (next top : ℕ) (boxed : Bool) → Bool
+boxExitFits next top boxed = boxed && (not (eqb top 22 || eqb top 24) && runEnds next top)
 
--- a close's own construct is innermost, an AND or OR with two BRANCH rows or more
+-- a box has its scenario before its first BRANCH; those LPs that are open around it do not count in there
+unfoldable pub scenarioIn : (kind branches : ℕ) → Bool
+scenarioIn k branches = eqb k 29 && eqb branches 0
+
+unfoldable pub loopsIn : (kind : ℕ) (scenario looped : Bool) → Bool
+loopsIn k scenario looped = cond scenario false (eqb k 24 || looped)
+
+-- what is open in the construct that row `opened` opens, behind so many of its BRANCH rows
+
+unfoldable pub insideIn : (kind opened branches : ℕ) → Open → Open
+insideIn k opened branches o = record {
+  depth = o .depth + 1;
+  opened = opened;
+  branches = branches;
+  looped = loopsIn k (scenarioIn k branches) (o .looped);
+  boxed = scenarioIn k branches || o .boxed;
+}
+
+-- a close's own construct is innermost, an AND, OR or box with two BRANCH rows or more
 unfoldable pub closesIn : (kind top : ℕ) (two : Bool) → Bool
-closesIn k top two = cond (eqb k 19) (eqb top 17 && two) (cond (eqb k 21) (eqb top 20 && two) (cond (eqb k 23) (eqb top 22) (cond (eqb k 25) (eqb top 24) false)))
+closesIn k top two = cond (eqb k 19) (eqb top 17 && two) (cond (eqb k 21) (eqb top 20 && two) (cond (eqb k 23) (eqb top 22) (cond (eqb k 25) (eqb top 24)
+    (cond (eqb k 30) (eqb top 29 && two) false))))
 
 -- the fault of a row that stays and is not the last
-unfoldable pub stayFault : (kind next top : ℕ) (looped : Bool) → ℕ
-stayFault k next top looped = cond (eqb k 26) (cond (exitFits next top looped) 0 8) (cond (eqb k 27) 7 0)
+unfoldable pub stayFault : (kind next top : ℕ) (looped boxed : Bool) → ℕ
+stayFault k next top looped boxed = cond (eqb k 26) (cond (exitFits next top looped) 0 8) (cond (eqb k 31) (cond (boxExitFits next top boxed) 0 48) (cond (eqb k 27) 7 0))
 
 -- the fault of the last row
 unfoldable pub lastFault : (kind top : ℕ) → ℕ
@@ -60,7 +88,7 @@ killerFault next top = cond (eqb top 17) (cond (eqb next 18 || eqb next 19) 44 0
 
 -- the fault of a BRANCH that is not the last row
 unfoldable pub branchFault : (first next top : ℕ) → ℕ
-branchFault first next top = cond (eqb first 1) (killerFault next top) (cond (isAndOr top) 0 7)
+branchFault first next top = cond (eqb first 1) (killerFault next top) (cond (isBranching top) 0 7)
 
 -- the fault of row q, right behind an AND open or OR open
 unfoldable pub openFault : (table : List ℕ) (rows q top : ℕ) → ℕ
@@ -76,8 +104,9 @@ pub record Kinds (d : Diagram) (rows : ℕ) (table : List ℕ) : Type 0 where
 pub record Shows (d : Diagram) (frames : List Frame) (o : Open) : Type 0 where
   pub depth : o .depth ≡ length frames
   pub opened : o .opened ≡ innermostOpen frames
-  pub latest : o .latest ≡ latestBranch frames
-  pub looped : o .looped ≡ someOpen d lp-open frames
+  pub branches : o .branches ≡ branchCount frames
+  pub looped : o .looped ≡ someOpen d lp-open (ownScenario d frames)
+  pub boxed : o .boxed ≡ someScenario d frames
 
 -- a diagram of the table's kinds: at row q `o` is open, and row q may follow the row before it
 pub record At (table : List ℕ) (rows q : ℕ) (o : Open) (d : Diagram) : Type 0 where

@@ -1,10 +1,10 @@
-// The nesting of a diagram's rows: refusals 7 to 9 and 44. `read_run` reads a run of rows by its constructs, `read_construct` a construct by the
+// The nesting of a diagram's rows: refusals 7 to 9, 44 and 48. `read_run` reads a run of rows by its constructs, `read_construct` a construct by the
 // runs inside it; they call each other, and the call stack is the stack of what is open. The rows left and the depth left fall together.
 // Nothing is asked of a caller: past the table's end a kind is 0, which no row has.
 ghost use mathlib.Core.Path.{_≡_};
 ghost use Prim.Native.Nat.{_+_, _≤_, _<_};
 ghost use Rattle.effbd.specs.Moves.{mostWord};
-ghost use Rattle.nesting.specs.Runs.{partOf, kindIn, topIn, firstIn, isAndOr, exitFits, loopsIn, closesIn, stayFault, lastFault, killerFault, branchFault, openFault, RunRead, ConstructRead, NestingRead};
+ghost use Rattle.nesting.specs.Runs.{partOf, kindIn, topIn, firstIn, isAndOr, isBranching, runEnds, exitFits, boxExitFits, scenarioIn, loopsIn, insideIn, closesIn, stayFault, lastFault, killerFault, branchFault, openFault, RunRead, ConstructRead, NestingRead};
 use effbd::limits::MOST_OPEN;
 use effbd::limits::MOST_ROWS;
 use effbd::refusals;
@@ -17,12 +17,14 @@ pub enum Part {
     Stays,
 }
 
-// What is open: how many constructs, the innermost one's open row and latest BRANCH, and whether an LP is among them.
+// What is open: how many constructs, the innermost one's open row and number of BRANCH rows so far, whether an LP is among those of the own
+// scenario, and whether some box's scenario is.
 pub struct Open {
     pub depth: usize,
     pub opened: usize,
-    pub latest: usize,
+    pub branches: usize,
     pub looped: bool,
+    pub boxed: bool,
 }
 
 // How a run ended: with all rows judged, at a BRANCH of the construct that it stands in, or at its close.
@@ -58,6 +60,8 @@ pub fn part_of(kind: u16) -> Part
         kinds::IT_CLOSE => Part::Closes,
         kinds::LP_OPEN => Part::Opens,
         kinds::LP_CLOSE => Part::Closes,
+        kinds::BOX_OPEN => Part::Opens,
+        kinds::BOX_CLOSE => Part::Closes,
         _ => Part::Stays,
     }
 }
@@ -92,36 +96,98 @@ fn is_and_or(kind: u16) -> bool
     }
 }
 
+// A construct that has BRANCH rows.
+fn is_branching(kind: u16) -> bool
+    ensures { λ r. ⌜ r ≡ isBranching kind ⌝ }
+{
+    match kind {
+        kinds::AND_OPEN => true,
+        kinds::OR_OPEN => true,
+        kinds::BOX_OPEN => true,
+        _ => false,
+    }
+}
+
+// Does a row of kind `next` end a run in the construct `top`: a BRANCH, or its close?
+fn run_ends(next: u16, top: u16) -> bool
+    ensures { λ r. ⌜ r ≡ runEnds next top ⌝ }
+{
+    if next == kinds::BRANCH {
+        return true;
+    }
+    match top {
+        kinds::AND_OPEN => next == kinds::AND_CLOSE,
+        kinds::OR_OPEN => next == kinds::OR_CLOSE,
+        kinds::BOX_OPEN => next == kinds::BOX_CLOSE,
+        _ => false,
+    }
+}
+
 // May an LE stand here? `next` is the kind of the row after.
 fn exit_fits(next: u16, top: u16, looped: bool) -> bool
     ensures { λ r. ⌜ r ≡ exitFits next top looped ⌝ }
 {
-    if !looped {
-        return false;
-    }
     if !is_and_or(top) {
         return false;
     }
-    if next == kinds::BRANCH {
-        return true;
+    if !looped {
+        return false;
     }
-    if top == kinds::AND_OPEN {
-        return next == kinds::AND_CLOSE;
-    }
-    next == kinds::OR_CLOSE
+    run_ends(next, top)
 }
 
-// Is an LP open in a construct that a row of this kind opens? `looped`: one is open around it.
-fn loops(kind: u16, looped: bool) -> bool
-    ensures { λ r. ⌜ r ≡ loopsIn kind looped ⌝ }
+// May an EXIT stand here?
+fn box_exit_fits(next: u16, top: u16, boxed: bool) -> bool
+    ensures { λ r. ⌜ r ≡ boxExitFits next top boxed ⌝ }
 {
+    if !boxed {
+        return false;
+    }
+    if top == kinds::IT_OPEN {
+        return false;
+    }
+    if top == kinds::LP_OPEN {
+        return false;
+    }
+    run_ends(next, top)
+}
+
+// Does a construct of this kind, behind so many of its BRANCH rows, have its scenario? A box does before the first.
+fn in_scenario(kind: u16, branches: usize) -> bool
+    ensures { λ r. ⌜ r ≡ scenarioIn kind branches ⌝ }
+{
+    kind == kinds::BOX_OPEN && branches == 0
+}
+
+// Is an LP open in a construct of this kind? `looped`: one is open around it; in a scenario those around it do not count.
+fn loops(kind: u16, scenario: bool, looped: bool) -> bool
+    ensures { λ r. ⌜ r ≡ loopsIn kind scenario looped ⌝ }
+{
+    if scenario {
+        return false;
+    }
     if kind == kinds::LP_OPEN {
         return true;
     }
     looped
 }
 
-// Is a row of this kind the innermost construct's own close? `two`: that has two BRANCH rows or more, as an AND or OR must.
+// What is open in the construct that row `opened`, of this kind, opens, behind so many of its BRANCH rows.
+fn inside(kind: u16, opened: usize, branches: usize, around: Open) -> Open
+    requires { ⌜ around .depth < 12 ⌝ }
+    ensures { λ r. ⌜ r ≡ insideIn kind opened branches around ⌝ }
+{
+    let scenario = in_scenario(kind, branches);
+    Open {
+        depth: around.depth + 1,
+        opened: opened,
+        branches: branches,
+        looped: loops(kind, scenario, around.looped),
+        boxed: scenario || around.boxed,
+    }
+}
+
+// Is a row of this kind the innermost construct's own close? `two`: that has two BRANCH rows or more, as an AND, OR or box must.
 fn closes(kind: u16, top: u16, two: bool) -> bool
     ensures { λ r. ⌜ r ≡ closesIn kind top two ⌝ }
 {
@@ -130,13 +196,14 @@ fn closes(kind: u16, top: u16, two: bool) -> bool
         kinds::OR_CLOSE => top == kinds::OR_OPEN && two,
         kinds::IT_CLOSE => top == kinds::IT_OPEN,
         kinds::LP_CLOSE => top == kinds::LP_OPEN,
+        kinds::BOX_CLOSE => top == kinds::BOX_OPEN && two,
         _ => false,
     }
 }
 
-// The fault of a row that stays and is not the last: 8 for an LE that may not stand here, 7 for an END.
-fn stay_fault(kind: u16, next: u16, top: u16, looped: bool) -> u16
-    ensures { λ r. ⌜ r ≡ stayFault kind next top looped ⌝ }
+// The fault of a row that stays and is not the last: 8 for an LE that may not stand here, 48 for an EXIT, 7 for an END.
+fn stay_fault(kind: u16, next: u16, top: u16, looped: bool, boxed: bool) -> u16
+    ensures { λ r. ⌜ r ≡ stayFault kind next top looped boxed ⌝ }
 {
     match kind {
         kinds::LOOP_EXIT => {
@@ -144,6 +211,12 @@ fn stay_fault(kind: u16, next: u16, top: u16, looped: bool) -> u16
                 return 0;
             }
             refusals::LOOP_EXIT_MISPLACED
+        }
+        kinds::BOX_EXIT => {
+            if box_exit_fits(next, top, boxed) {
+                return 0;
+            }
+            refusals::BOX_EXIT_MISPLACED
         }
         kinds::END => refusals::NESTING_BROKEN,
         _ => 0,
@@ -187,7 +260,7 @@ fn branch_fault(table: &[u16], rows: usize, row: usize, top: u16) -> u16
     if words::get(table, MOST_ROWS as usize + row) == 1 {
         return killer_fault(kind_in(table, rows, row + 1), top);
     }
-    if is_and_or(top) {
+    if is_branching(top) {
         return 0;
     }
     refusals::NESTING_BROKEN
@@ -212,11 +285,11 @@ fn open_fault(table: &[u16], rows: usize, row: usize, top: u16) -> u16
 // or OR open, and the last row is judged behind the loop: so each row is looked at once, by its part.
 fn read_run(table: &[u16], rows: usize, from: usize, around: Open) -> Run
     requires { ⌜ (from < rows) × (rows ≤ mostWord) ⌝ }
-    requires { ⌜ (around .depth ≤ 12) × (around .opened ≤ mostWord) ⌝ }
+    requires { ⌜ around .depth ≤ 12 ⌝ }
     ensures { λ r. ⌜ RunRead (now (table .entry)) rows from around r ⌝ }
 {
     let top = top_in(table, rows, around);
-    let two = around.opened + 1 < around.latest;
+    let two = 2 <= around.branches;
     let mut row = from;
     while row + 1 < rows {
         let kind = kind_in(table, rows, row);
@@ -250,7 +323,13 @@ fn read_run(table: &[u16], rows: usize, from: usize, around: Open) -> Run
                 return Run::Judged(refusals::NESTING_BROKEN, row);
             }
             Part::Stays => {
-                let fault = stay_fault(kind, kind_in(table, rows, row + 1), top, around.looped);
+                let fault = stay_fault(
+                    kind,
+                    kind_in(table, rows, row + 1),
+                    top,
+                    around.looped,
+                    around.boxed,
+                );
                 if fault != 0 {
                     return Run::Judged(fault, row);
                 }
@@ -272,30 +351,25 @@ fn read_construct(table: &[u16], rows: usize, opened: usize, around: Open) -> Co
     ensures { λ r. ⌜ ConstructRead (now (table .entry)) rows opened around r ⌝ }
 {
     let kind = kind_in(table, rows, opened);
-    let looped = loops(kind, around.looped);
-    let mut latest = opened + 1;
+    let mut branches: usize = 0;
     let mut from = opened + 1;
     if is_and_or(kind) {
         let fault = open_fault(table, rows, from, kind);
         if fault != 0 {
             return Construct::Judged(fault, from);
         }
+        branches = 1;
         from += 1;
     }
     loop {
-        let inside = Open {
-            depth: around.depth + 1,
-            opened: opened,
-            latest: latest,
-            looped: looped,
-        };
-        let run = read_run(table, rows, from, inside);
+        let within = inside(kind, opened, branches, around);
+        let run = read_run(table, rows, from, within);
         match run {
             Run::Judged(number, row) => {
                 return Construct::Judged(number, row);
             }
             Run::Turned(branch) => {
-                latest = branch;
+                branches += 1;
                 from = branch + 1;
             }
             Run::Closed(close) => {
@@ -315,8 +389,9 @@ pub fn read_nesting(table: &[u16], rows: u16) -> Judgement
     let nothing = Open {
         depth: 0,
         opened: 0,
-        latest: 0,
+        branches: 0,
         looped: false,
+        boxed: false,
     };
     let run = read_run(table, rows as usize, 0, nothing);
     match run {

@@ -1,14 +1,16 @@
-// The transitions that turn and leave loops: those of an IT open and of an LE, from a diagram's table (crate diagram_table).
+// The transitions that turn and leave loops and leave boxes: those of an IT open, of an LE and of an EXIT, from a diagram's table (crate diagram_table).
 // Nothing is asked of a caller: any words are a table.
 ghost use mathlib.Core.Path.{_≡_};
 ghost use Prim.Native.Nat.{_+_};
 ghost use Rattle.net_records.specs.Writing.{Wrote, span};
 ghost use Rattle.net_clears.specs.Clearing.{restore as restoreRecords};
-ghost use Rattle.net_loops.specs.LoopTransitions.{early as earlyOf, late as lateOf, itTurn, killTurn, itOver, itOpen, leave as leaveRecords, exitTurn, loopExit};
+ghost use Rattle.net_loops.specs.LoopTransitions.{early as earlyOf, late as lateOf, itTurn, killTurn, itOver, itOpen, leave as leaveRecords, exitTurn, loopExit, boxExit};
 use diagram_table::CLOSE;
 use diagram_table::FIRST;
 use diagram_table::LOOP;
+use diagram_table::OUTLET;
 use diagram_table::OWNER;
+use diagram_table::SCENARIO_LAST;
 use kinds::CLEAR;
 use kinds::GIVE;
 use kinds::TAKE;
@@ -114,6 +116,7 @@ fn restores(table: &[u16], opened: u16, closed: u16, area: &mut [u8], at: usize)
     next
 }
 
+// An LE or EXIT that leaves the rows `opened` to `closed`.
 fn leave(
     table: &[u16],
     row: u16,
@@ -167,4 +170,15 @@ pub fn loop_exit(table: &[u16], row: u16, area: &mut [u8], at: usize) -> usize
     let closed = diagram_table::cell(table, CLOSE, opened as u32);
     let changed = diagram_table::entered_row(table, closed as u32 + 1);
     exit_turn(table, row, opened, closed, changed, area, at)
+}
+
+// An EXIT enters the row after its outlet's BRANCH, which is one of a box: no branch that kills ends there.
+pub fn box_exit(table: &[u16], row: u16, area: &mut [u8], at: usize) -> usize
+    ensures { λ r. ⌜ Wrote (now (area .entry)) at (now (area .exit)) r (boxExit (now (table .entry)) row) ⌝ }
+{
+    let branch = diagram_table::cell(table, OUTLET, row as u32);
+    let opened = diagram_table::cell(table, OWNER, branch as u32);
+    let closed = diagram_table::cell(table, SCENARIO_LAST, row as u32);
+    let to = net_entries::entry(table, branch as u32 + 1);
+    leave(table, row, opened, closed, to, area, at)
 }

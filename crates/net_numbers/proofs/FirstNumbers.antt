@@ -6,7 +6,7 @@ use native.Mathlib.Omega.{arith}
 use native.Mathlib.Numerals.{add-one}
 use lib.ListN.{length, length-append}
 use Rattle.effbd.specs.Ranges.{tabulate}
-use Rattle.effbd.specs.Diagrams.{Kind, function, and-open, branch, and-close, or-open, or-close, it-open, it-close, lp-open, lp-close, loop-exit, end, Diagram, numberOf, rowCount, kind, isKind}
+use Rattle.effbd.specs.Diagrams.{Kind, function, and-open, branch, and-close, or-open, or-close, it-open, it-close, lp-open, lp-close, loop-exit, end, box-open, box-close, box-exit, Diagram, numberOf, rowCount, kind, isKind}
 use Rattle.effbd.specs.Nesting.{owner}
 use Rattle.effbd.specs.Patterns.{Name, names, patterns, patternsAs}
 use Rattle.effbd.specs.Transitions.{firstNumber}
@@ -38,6 +38,9 @@ module _ (d : Diagram) where
   numberBy lp-close r = (refl, omega arith)
   numberBy loop-exit r = (refl, omega arith)
   numberBy end r = (refl, omega arith)
+  numberBy box-open r = (refl, omega arith)
+  numberBy box-close r = (refl, omega arith)
+  numberBy box-exit r = (refl, omega arith)
 
 module _ (d : Diagram) (rows items : ℕ) (table : List ℕ) (h : Holds d rows items table) where
   pub first-is : (n : ℕ) → n ≤ rowCount d → (firstNumberIn table n ≡ firstNumber d n) × (firstNumber d n ≤ 2 * n)

@@ -3,7 +3,7 @@ use Prim.Native.Nat.{ℕ, _+_}
 use mathlib.Core.Path.{_≡_}
 use mathlib.Core.List.{List, []}
 use borrow.Author.Tests.{ne-eqb}
-use Rattle.effbd.specs.Diagrams.{function, and-open, branch, and-close, or-close, it-open, it-close, lp-open, lp-close, loop-exit, numberOf}
+use Rattle.effbd.specs.Diagrams.{function, and-open, branch, and-close, or-close, it-open, it-close, lp-open, lp-close, loop-exit, box-open, box-close, box-exit, numberOf}
 use Rattle.diagram_table.specs.Cells.{kindIn, ownerIn}
 use Rattle.net_entries.specs.Entering.{entry}
 use Rattle.net_rows.specs.Rows.{orToken, branchToken, rowAs}
@@ -16,9 +16,10 @@ branch-token table row o k to e f g = rw (g, f, e)
 -- a row of another kind
 pub no-row : (table file : List ℕ) (rows row k : ℕ) → (k ≡ numberOf function → ⊥) → (k ≡ numberOf and-open → ⊥) → (k ≡ numberOf branch → ⊥) → (k ≡ numberOf and-close → ⊥) → (k ≡ numberOf or-close → ⊥)
     → (k ≡ numberOf it-open → ⊥) → (k ≡ numberOf it-close → ⊥) → (k ≡ numberOf lp-open → ⊥) → (k ≡ numberOf lp-close → ⊥) → (k ≡ numberOf loop-exit → ⊥)
+    → (k ≡ numberOf box-open → ⊥) → (k ≡ numberOf box-close → ⊥) → (k ≡ numberOf box-exit → ⊥)
     → [] ≡ rowAs table file rows row k
 unfolding rowAs
-no-row table file rows row k a b c d e f g h i j = rw (
+no-row table file rows row k a b c d e f g h i j m n o = rw (
   ne-eqb k (numberOf function) a,
   ne-eqb k (numberOf and-open) b,
   ne-eqb k (numberOf branch) c,
@@ -29,4 +30,7 @@ no-row table file rows row k a b c d e f g h i j = rw (
   ne-eqb k (numberOf lp-open) h,
   ne-eqb k (numberOf lp-close) i,
   ne-eqb k (numberOf loop-exit) j,
+  ne-eqb k (numberOf box-open) m,
+  ne-eqb k (numberOf box-close) n,
+  ne-eqb k (numberOf box-exit) o,
 )

@@ -8,7 +8,7 @@ use native.Mathlib.Omega.{arith}
 use native.Mathlib.Numerals.{add-one}
 use borrow.Author.Tests.{eqb-true}
 use Rattle.effbd.specs.Ranges.{only, nobody}
-use Rattle.effbd.specs.Diagrams.{Kind, function, and-open, branch, and-close, or-open, or-close, it-open, it-close, lp-open, lp-close, loop-exit, end, Diagram, numberOf, rowCount, kind, isKind}
+use Rattle.effbd.specs.Diagrams.{Kind, function, and-open, branch, and-close, or-open, or-close, it-open, it-close, lp-open, lp-close, loop-exit, end, box-open, box-close, box-exit, Diagram, numberOf, rowCount, kind, isKind}
 use Rattle.effbd.specs.Nesting.{owner, close, branchOf}
 use Rattle.effbd.specs.States.{endsKiller, enteredRow, branchEntries}
 use Rattle.effbd.specs.Nets.{takeArc, giveArc}
@@ -35,7 +35,7 @@ use Rattle.net_clears.proofs.Weights.{weights, count-none, mark-P, mark-each}
 use Rattle.net_clears.proofs.PatternRecords.{allPatterns, unclearing}
 use Rattle.net_entries.proofs.Entries.{next-entry, next-entered}
 use Rattle.net_entries.proofs.EnteringRecords.{sparing, no-rows, enter-is}
-use Rattle.net_loops.proofs.LoopRecords.{it-open-is, loop-exit-is}
+use Rattle.net_loops.proofs.LoopRecords.{it-open-is, loop-exit-is, box-exit-is}
 use Rattle.net_uses.proofs.FunctionRecords.{function-is}
 
 -- one token from P of row x to P of row y
@@ -101,9 +101,9 @@ module _ (d : Diagram) (rows items : ℕ) (table file : List ℕ) (h : Holds d r
       o : ℕ
       o = owner d r
 
-  or-close-is : (r : ℕ) → r < rowCount d → kind d r ≡ or-close → orClose table r ≡ allPatterns d r (patternsAs d or-close r)
+  or-close-is : (r : ℕ) → r < rowCount d → kind d r ≢ end → orClose table r ≡ allPatterns d r (passesTo d (only r) nobody (suc r) ∷ [])
   unfolding orClose
-  or-close-is r l e = next-is r (only r) (arc takeArc (3 * r) 1) (not-kind d r e end refl) (mark-P d takeArc r l)
+  or-close-is r l n = next-is r (only r) (arc takeArc (3 * r) 1) n (mark-P d takeArc r l)
 
   and-open-is : (r : ℕ) → r < rowCount d → kind d r ≡ and-open → andOpen table r ≡ allPatterns d r (patternsAs d and-open r)
   unfolding andOpen allPatterns
@@ -156,13 +156,16 @@ module _ (d : Diagram) (rows items : ℕ) (table file : List ℕ) (h : Holds d r
   rowIs branch r l e = branch-is r l e
   rowIs and-close r l e = and-close-is r l e
   rowIs or-open r l e = unfold allPatterns in refl
-  rowIs or-close r l e = or-close-is r l e
+  rowIs or-close r l e = or-close-is r l (not-kind d r e end refl)
   rowIs it-open r l e = it-open-is d rows items table h held r l e
   rowIs it-close r l e = back-is r l
   rowIs lp-open r l e = onward-is r l e
   rowIs lp-close r l e = back-is r l
   rowIs loop-exit r l e = loop-exit-is d rows items table h held r l e
   rowIs end r l e = unfold allPatterns in refl
+  rowIs box-open r l e = or-close-is r l (not-kind d r e end refl)
+  rowIs box-close r l e = or-close-is r l (not-kind d r e end refl)
+  rowIs box-exit r l e = box-exit-is d rows items table h held r l e
 
   pub row-is : (r : ℕ) → r < rowCount d → rowRecords table file rows r ≡ allPatterns d r (patternsAs d (kind d r) r)
   unfolding rowRecords

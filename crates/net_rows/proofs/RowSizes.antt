@@ -9,9 +9,9 @@ use native.Mathlib.Numerals.{add-one}
 use lib.Dec.{leb, eqb}
 use borrow.Author.Tests.{leb-true, leb-false}
 use Rattle.effbd.specs.Ranges.{between}
-use Rattle.effbd.specs.Diagrams.{Kind, function, and-open, branch, and-close, or-open, or-close, it-open, it-close, lp-open, lp-close, loop-exit, end, Diagram, numberOf, rowCount, kind}
+use Rattle.effbd.specs.Diagrams.{Kind, function, and-open, branch, and-close, or-open, or-close, it-open, it-close, lp-open, lp-close, loop-exit, end, box-open, box-close, box-exit, Diagram, numberOf, rowCount, kind}
 use Rattle.effbd.specs.Counts.{countTotal}
-use Rattle.effbd.specs.Nesting.{owner, close, loop, branchOf}
+use Rattle.effbd.specs.Nesting.{owner, close, loop, branchOf, box}
 use Rattle.effbd.specs.Nets.{takeArc, clearArc, giveArc}
 use Rattle.effbd.specs.States.{endsKiller, enteredRow}
 use Rattle.effbd.specs.Patterns.{none, oneAt, restoresR}
@@ -32,7 +32,8 @@ use Rattle.net_entries.specs.Entering.{entering}
 use Rattle.net_clears.proofs.Weights.{arc-none, rowArcs, Idle, idle-row}
 use Rattle.net_clears.proofs.Kills.{kill-gives, kill-is}
 use Rattle.net_entries.proofs.EnteringRecords.{kills-is, owner-is, entering-kill, entering-one}
-use Rattle.net_loops.specs.LoopTransitions.{itTurn, killTurn, itOver, itOpen, leave, exitTurn, loopExit}
+use Rattle.net_loops.specs.LoopTransitions.{itTurn, killTurn, itOver, itOpen, leave, exitTurn, loopExit, boxExit}
+use Rattle.net_loops.proofs.LoopRecords.{last-in}
 use Rattle.net_uses.specs.FunctionTransitions.{functionStart, functionEnd, functionOf, functionRecords}
 use Rattle.net_uses.proofs.UseSizes.{few-uses, takes-small, gives-small}
 use Rattle.net_rows.specs.Rows.{token, branchPlace, branchArc, branchArcs, andOpen, andClose, orToken, branchToken, orClose, onward, back, rowAs, rowRecords, mostRowBytes}
@@ -181,14 +182,18 @@ module _ (d : Diagram) (rows items : ℕ) (table file : List ℕ) (h : Holds d r
   unfolding most
   other l s = passing rows items (countTotal d) l s
 
+  onward-small : (r : ℕ) → kind d r ≢ end → Small (orClose table r) most
+  unfolding orClose
+  onward-small r n = other (omega arith) (transition-small r 0 0 then arc-small takeArc (3 * r) 1 then next-small r n)
+
   rowSmall : (k : Kind) (r : ℕ) → r < rowCount d → kind d r ≡ k → Small (rowAs table file rows r (numberOf k)) most
-  unfolding rowAs andOpen andClose branchToken orToken orClose onward back itOpen itOver loopExit exitTurn
+  unfolding rowAs andOpen andClose branchToken orToken orClose onward back itOpen itOver loopExit exitTurn boxExit
   rowSmall function r l e = unfold most in working rows items (countTotal d) (function-small r l e)
   rowSmall and-open r l e = other (omega arith) (transition-small r 0 0 then arc-small takeArc (3 * r) 1 then branches-small table file rows r giveArc (rw (close-cell d rows items table h r l) (h .closeLow r)))
   rowSmall branch r l e = other (omega arith) (either (eqb (kindIn table (ownerIn table r)) (numberOf or-open)) (token-small r _ _) (more zero-le none-small))
   rowSmall and-close r l e = rw (owner-cell d rows items table h r l, add-one r, append-assoc) (other (omega arith) (transition-small r 0 0 then close-all r l e))
   rowSmall or-open r l e = other zero-le none-small
-  rowSmall or-close r l e = other (omega arith) (transition-small r 0 0 then arc-small takeArc (3 * r) 1 then next-small r (not-kind d r e end refl))
+  rowSmall or-close r l e = onward-small r (not-kind d r e end refl)
   rowSmall it-open r l e = let b = close-in d (held .acc) r (rw e) in
       rw (close-cell d rows items table h r l, add-one (close d r)) (other (omega arith) (turn-small r _ _ _ _
       then when (killsIn table (enteredIn table (suc (close d r)))) (λ k. more {n = 50 + 8 * rows} (omega arith) (kill-turn-small table file rows r _ _ (kill-low (suc (close d r)) b k))) (more (omega arith) (turn-small r _ _ _ _))))
@@ -199,10 +204,16 @@ module _ (d : Diagram) (rows items : ℕ) (table file : List ℕ) (h : Holds d r
       let a = h .loopLow r in
       let c = close-in d (held .acc) (loop d r) (rw (laws d (held .acc) .looped r e .0)) in
       let b = h .records .rowsAre in
-      rw (h .loops r (in-rows d rows items table h r l), close-cell d rows items table h (loop d r) (omega arith), add-one (close d (loop d r)))
+      rw (h .loops r (in-rows d rows items table h r l) (rw e), close-cell d rows items table h (loop d r) (omega arith), add-one (close d (loop d r)))
       (other (omega arith) (when (killsIn table (enteredIn table (suc (close d (loop d r))))) (λ k. more {n = 42 + 8 * rows} (omega arith) (kill-turn-small table file rows r _ _ (kill-low (suc (close d (loop d r))) c k)))
       (exit-small table file rows r (loop d r) (close d (loop d r)) _ (omega arith))))
   rowSmall end r l e = other zero-le none-small
+  rowSmall box-open r l e = onward-small r (not-kind d r e end refl)
+  rowSmall box-close r l e = onward-small r (not-kind d r e end refl)
+  rowSmall box-exit r l e =
+      let c = last-in d rows items table h held (box d r) in
+      let b = h .records .rowsAre in
+      rw (h .scenarioLasts r (in-rows d rows items table h r l) (rw e)) (other (omega arith) (exit-small table file rows r _ _ _ (omega arith)))
 
   pub row-small : (r : ℕ) → r < rowCount d → Small (rowRecords table file rows r) (mostRowBytes rows items (countTotal d))
   unfolding rowRecords most

@@ -4,14 +4,14 @@ use Prim.Native.Nat.{ℕ, zero, suc, _+_, _*_}
 use mathlib.Core.Bool.{cond, _&&_}
 use mathlib.Core.List.{List, [], _++_}
 use lib.Dec.{leb, ltb, eqb}
-use Rattle.effbd.specs.Diagrams.{function, and-open, branch, and-close, or-open, or-close, it-open, it-close, lp-open, lp-close, loop-exit, numberOf}
+use Rattle.effbd.specs.Diagrams.{function, and-open, branch, and-close, or-open, or-close, it-open, it-close, lp-open, lp-close, loop-exit, box-open, box-close, box-exit, numberOf}
 use Rattle.effbd.specs.Nets.{takeArc, giveArc}
 use Rattle.diagram_table.specs.Cells.{kindIn, ownerIn, closeIn, isBranch}
 use Rattle.net_records.specs.Writing.{Records}
 use Rattle.net_records.specs.Records.{transition, arc}
 use Rattle.net_entries.specs.Entering.{entry, entering}
 use Rattle.net_uses.specs.FunctionTransitions.{functionRecords}
-use Rattle.net_loops.specs.LoopTransitions.{itOpen, loopExit}
+use Rattle.net_loops.specs.LoopTransitions.{itOpen, loopExit, boxExit}
 
 -- one token from a place to a place: BRANCH of an OR, LP open, IT close, LP close
 unfoldable pub token : (row from to : ℕ) → Records
@@ -49,6 +49,7 @@ orToken row opened k to = cond (eqb k (numberOf or-open)) (token row (3 * opened
 unfoldable pub branchToken : (table : List ℕ) (row : ℕ) → Records
 branchToken table row = let opened = ownerIn table row in orToken row opened (kindIn table opened) (entry table (row + 1))
 
+-- OR close; a box's open and close are alike
 unfoldable pub orClose : (table : List ℕ) (row : ℕ) → Records
 orClose table row = transition row 0 0 ++ arc takeArc (3 * row) 1 ++ entering table (row + 1)
 
@@ -70,7 +71,10 @@ rowAs table file rows row k =
     (cond (eqb k (numberOf it-close)) (back table row)
     (cond (eqb k (numberOf lp-open)) (onward table row)
     (cond (eqb k (numberOf lp-close)) (back table row)
-    (cond (eqb k (numberOf loop-exit)) (loopExit table row) [])))))))))
+    (cond (eqb k (numberOf loop-exit)) (loopExit table row)
+    (cond (eqb k (numberOf box-open)) (orClose table row)
+    (cond (eqb k (numberOf box-close)) (orClose table row)
+    (cond (eqb k (numberOf box-exit)) (boxExit table row) []))))))))))))
 
 unfoldable pub rowRecords : (table file : List ℕ) (rows row : ℕ) → Records
 rowRecords table file rows row = rowAs table file rows row (kindIn table row)

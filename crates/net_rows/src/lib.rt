@@ -92,6 +92,7 @@ fn branch(table: &[u16], row: u16, area: &mut [u8], at: usize) -> usize
     at
 }
 
+// OR close, and the open and close of a box: on to the next row.
 fn or_close(table: &[u16], row: u16, area: &mut [u8], at: usize) -> usize
     ensures { λ r. ⌜ Wrote (now (area .entry)) at (now (area .exit)) r (orClose (now (table .entry)) row) ⌝ }
 {
@@ -139,6 +140,9 @@ fn row_transitions(
         kinds::LP_OPEN => onward(table, row, area, at),
         kinds::LP_CLOSE => back(table, row, area, at),
         kinds::LOOP_EXIT => net_loops::loop_exit(table, row, area, at),
+        kinds::BOX_OPEN => or_close(table, row, area, at),
+        kinds::BOX_CLOSE => or_close(table, row, area, at),
+        kinds::BOX_EXIT => net_loops::box_exit(table, row, area, at),
         _ => at,
     }
 }

@@ -45,4 +45,4 @@ module _ (d : Diagram) (rows items : ℕ) (table file : List ℕ) (h : Holds d r
           ≡ functionEnd table r (useArcs table rows giveArc r (usesIn table file r))
       stop = unfold functionEnd in (enter-is d rows items table h held q (next-in d (held .acc) r no-end) r (row d r .first) (row d r .second) _ (gives d r) (arc takeArc (3 * r + 1) 1) (useArcs table rows giveArc r (usesIn table file r))
           (mark-Q d takeArc r l) (gives-are d rows items table file h u copied ranked held r l e)
-          ∙ rw (first-cell d rows items table h r l, h .records .seconds r (in-rows d rows items table h r l), add-one r))
+          ∙ rw (first-cell d rows items table h r l, h .records .seconds r (in-rows d rows items table h r l) (rw e), add-one r))

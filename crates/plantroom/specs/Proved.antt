@@ -6,7 +6,7 @@ use Rattle.effbd.specs.Answers.{accepted}
 use Rattle.effbd.specs.Records.{areBytes, kindTable, entryIn, lengthOf, fieldsOf, faultAt, readMany}
 use Rattle.effbd.specs.Diagrams.{kindOf, headFault, itemFault, usesAt, usesFine, rowAt, rowRight, rowFine, rowFault, triggersFine, rowFaultIn}
 use Rattle.effbd.specs.Counts.{copiesOf, copies, tallies, countTotal, tally, takes, gives, initialCount}
-use Rattle.effbd.specs.Nesting.{stack, owner, close, branchOf, loop, nestingBroken, killerEmpty, exitMisplaced, thirteenthOpen, nestingFault, firstFaulty, spendsNoTime, unlessRow, nested, afterRows, afterItems, readDiagram}
+use Rattle.effbd.specs.Nesting.{stack, owner, close, branchOf, loop, box, firstOutlet, leads, outlet, nestingBroken, killerEmpty, exitMisplaced, boxExitMisplaced, thirteenthOpen, nestingFault, firstFaulty, notOneToOne, loopLeft, endsBranch, fallsInto, scenarioFalls, spendsNoTime, unlessRow, nested, afterRows, afterItems, readDiagram}
 use Rattle.effbd.specs.Layout.{placeOf}
 use Rattle.effbd.specs.States.{stateWords, stateOf, enteredRow, endsKiller, killed, entered, branchEntries, freshWords}
 use Rattle.effbd.specs.Moves.{moveOf, lowestItem, wordsOutcome, moveWords, checkedMove, stepDiagram}
@@ -20,7 +20,7 @@ use Rattle.effbd.specs.History.{freshEnds, run, seen, runAll, seenAll, offers, 
 use Rattle.effbd.specs.Logs.{setpointsAt, setpoints, logFault, made, stateFrom, playedFrom}
 use Rattle.effbd.specs.Starts.{isStart, startsFrom, fallIn, busiestFrom, startsOf, logStarts}
 use Rattle.plantroom.specs.Table.{fileOf, fileA, sameWords, plays, holds, allHold, examples, annexOfA, followerSays, followerHolds, tableHolds}
-use Rattle.plantroom.specs.Requests.{refusals, requests, requestsHold}
+use Rattle.plantroom.specs.Requests.{boxRefusals, refusals, requests, requestsHold}
 use Rattle.plantroom.specs.Calls.{diagramA, calls, accepting, callsHold}
 use Rattle.plantroom.specs.Starts.{questions, answered, startsHold}
 use Rattle.plantroom.specs.Transitions.{turns, told, apart, transitionsHold}
@@ -29,7 +29,7 @@ use Rattle.plantroom.specs.Transitions.{turns, told, apart, transitionsH
 pub examples-hold : tableHolds ≡ true
 unfolding areBytes kindTable entryIn lengthOf fieldsOf faultAt readMany
     kindOf headFault itemFault usesAt usesFine rowAt rowRight rowFine rowFault triggersFine rowFaultIn copiesOf copies tallies countTotal tally takes gives initialCount
-    stack owner close branchOf loop nestingBroken killerEmpty exitMisplaced thirteenthOpen nestingFault firstFaulty spendsNoTime unlessRow nested afterRows afterItems readDiagram
+    stack owner close branchOf loop box firstOutlet leads outlet nestingBroken killerEmpty exitMisplaced boxExitMisplaced thirteenthOpen nestingFault firstFaulty notOneToOne loopLeft endsBranch fallsInto scenarioFalls spendsNoTime unlessRow nested afterRows afterItems readDiagram
     placeOf stateWords stateOf enteredRow endsKiller killed entered branchEntries freshWords moveOf lowestItem wordsOutcome moveWords checkedMove stepDiagram
     arcBytes transitionBytes markBytes netBytes arcDue arcFine above transitionFine netHeadFault markFault arcFault transitionFault readTail afterPlaces readNet
     weightAt clearedAt effectOf covers takenAndCleared firedState overflows fire fireLowest letsPass tickedState netWait netMove checkedNetMove stepNet freshNetWords
@@ -41,19 +41,19 @@ examples-hold = refl
 pub requests-hold : requestsHold ≡ true
 unfolding areBytes kindTable entryIn lengthOf fieldsOf faultAt readMany
     kindOf headFault itemFault usesAt usesFine rowAt rowRight rowFine rowFault triggersFine rowFaultIn copiesOf copies tallies countTotal tally takes gives initialCount
-    stack owner close branchOf loop nestingBroken killerEmpty exitMisplaced thirteenthOpen nestingFault firstFaulty spendsNoTime unlessRow nested afterRows afterItems readDiagram
+    stack owner close branchOf loop box firstOutlet leads outlet nestingBroken killerEmpty exitMisplaced boxExitMisplaced thirteenthOpen nestingFault firstFaulty notOneToOne loopLeft endsBranch fallsInto scenarioFalls spendsNoTime unlessRow nested afterRows afterItems readDiagram
     placeOf stateWords stateOf enteredRow endsKiller killed entered branchEntries freshWords moveOf lowestItem wordsOutcome moveWords checkedMove stepDiagram
     arcBytes transitionBytes markBytes netBytes arcDue arcFine above transitionFine netHeadFault markFault arcFault transitionFault readTail afterPlaces readNet
     weightAt clearedAt effectOf covers takenAndCleared firedState overflows fire fireLowest letsPass tickedState netWait netMove checkedNetMove stepNet freshNetWords
     names arcsOf rangesFrom transitionOf netOf
-    fileOf sameWords plays holds allHold requests refusals requestsHold
+    fileOf sameWords plays holds allHold requests refusals boxRefusals requestsHold
 requests-hold = refl
 
 -- THEOREM: the list of calls is one that demand 3 speaks of, and ends as said
 pub calls-hold : (readDiagram (fileA 3) ≡ accepted diagramA) × MayBeHanded (fileA 3) diagramA 9 calls × (callsHold ≡ true)
 unfolding areBytes kindTable entryIn lengthOf fieldsOf faultAt readMany
     kindOf headFault itemFault usesAt usesFine rowAt rowRight rowFine rowFault triggersFine rowFaultIn copiesOf copies tallies countTotal tally takes gives initialCount
-    stack owner close branchOf loop nestingBroken killerEmpty exitMisplaced thirteenthOpen nestingFault firstFaulty spendsNoTime unlessRow nested afterRows afterItems readDiagram
+    stack owner close branchOf loop box firstOutlet leads outlet nestingBroken killerEmpty exitMisplaced boxExitMisplaced thirteenthOpen nestingFault firstFaulty notOneToOne loopLeft endsBranch fallsInto scenarioFalls spendsNoTime unlessRow nested afterRows afterItems readDiagram
     placeOf stateWords stateOf enteredRow endsKiller killed entered branchEntries freshWords moveOf lowestItem wordsOutcome moveWords checkedMove stepDiagram
     arcBytes transitionBytes markBytes netBytes arcDue arcFine above transitionFine netHeadFault markFault arcFault transitionFault readTail afterPlaces readNet
     weightAt clearedAt effectOf covers takenAndCleared firedState overflows fire fireLowest letsPass tickedState netWait netMove checkedNetMove stepNet freshNetWords
@@ -65,7 +65,7 @@ calls-hold = (refl, (offers, (offers, (offers, (wrote-before 1 (omega arith) ref
 pub starts-hold : startsHold ≡ true
 unfolding kindTable entryIn lengthOf fieldsOf faultAt readMany
     kindOf headFault itemFault usesAt usesFine rowAt rowRight rowFine rowFault triggersFine rowFaultIn copiesOf copies tallies countTotal tally takes gives initialCount
-    stack owner close branchOf loop nestingBroken killerEmpty exitMisplaced thirteenthOpen nestingFault firstFaulty spendsNoTime unlessRow nested afterRows afterItems readDiagram
+    stack owner close branchOf loop box firstOutlet leads outlet nestingBroken killerEmpty exitMisplaced boxExitMisplaced thirteenthOpen nestingFault firstFaulty notOneToOne loopLeft endsBranch fallsInto scenarioFalls spendsNoTime unlessRow nested afterRows afterItems readDiagram
     placeOf stateWords stateOf enteredRow endsKiller killed entered branchEntries freshWords moveOf lowestItem wordsOutcome moveWords
     setpointsAt setpoints logFault made stateFrom playedFrom isStart startsFrom fallIn busiestFrom startsOf logStarts
     fileOf questions answered startsHold
@@ -75,7 +75,7 @@ starts-hold = refl
 pub transitions-hold : transitionsHold ≡ true
 unfolding areBytes kindTable entryIn lengthOf fieldsOf faultAt readMany
     kindOf headFault itemFault usesAt usesFine rowAt rowRight rowFine rowFault triggersFine rowFaultIn copiesOf copies tallies countTotal tally takes gives initialCount
-    stack owner close branchOf loop nestingBroken killerEmpty exitMisplaced thirteenthOpen nestingFault firstFaulty spendsNoTime unlessRow nested afterRows afterItems readDiagram
+    stack owner close branchOf loop box firstOutlet leads outlet nestingBroken killerEmpty exitMisplaced boxExitMisplaced thirteenthOpen nestingFault firstFaulty notOneToOne loopLeft endsBranch fallsInto scenarioFalls spendsNoTime unlessRow nested afterRows afterItems readDiagram
     placeOf stateWords stateOf enteredRow endsKiller killed entered branchEntries freshWords moveOf lowestItem wordsOutcome moveWords checkedMove stepDiagram
     arcBytes transitionBytes markBytes netBytes arcDue arcFine above transitionFine netHeadFault markFault arcFault transitionFault readTail afterPlaces readNet
     weightAt clearedAt effectOf covers takenAndCleared firedState overflows fire fireLowest letsPass tickedState netWait netMove checkedNetMove stepNet freshNetWords

@@ -1,4 +1,4 @@
--- Document 02, CR 2 to CR 4: closed examples of one diagram, and files that are turned away (document 02 gives none). Assumes nothing.
+-- Document 02, CR 2 to CR 7: closed examples of one diagram, and files that are turned away (document 02 gives none). Assumes nothing.
 use Prim.Native.Nat.{ℕ}
 use mathlib.Core.Bool.{Bool, false, _&&_}
 use mathlib.Core.List.{List, [], _∷_, _++_}
@@ -73,6 +73,24 @@ requests =
       diagramAfter = 0 ∷ 0 ∷ 0 ∷ 0 ∷ 0 ∷ 0 ∷ 1 ∷ 0 ∷ 0 ∷ 0 ∷ 0 ∷ 0 ∷ 0 ∷ 0 ∷ 0 ∷ 0 ∷ 0 ∷ 0 ∷ [];
       netAfter = 0 ∷ 0 ∷ 0 ∷ 0 ∷ 0 ∷ 0 ∷ 1 ∷ 0 ∷ 0 ∷ 0 ∷ 0 ∷ 0 ∷ 0 ∷ 0 ∷ 0 ∷ 0 ∷ 0 ∷ 0 ∷ 0 ∷ 0 ∷ 0 ∷ 0 ∷ 0 ∷ 0 ∷ [];
     }
+    -- CR 7: an EXIT out of an AND, each branch of which has one
+    ∷ record {
+      file = fileOf (head 12 0 ++ row 29 ++ row 17 ++ row 18 ++ (6 ∷ 31 ∷ 1 ∷ []) ++ row 18 ++ (6 ∷ 31 ∷ 0 ∷ []) ++ row 19 ++ row 18 ++ function 0 3 ++ row 18 ++ row 30 ++ row 27);
+      fileLength = 66;
+      netLength = 464;
+      offers = step 0 yes yes ∷ step 1 yes yes ∷ step 5 yes yes ∷ step 3 (refused 22 3) (refused 22 3) ∷ step 8 yes yes ∷ step 8 yes yes ∷ step 10 yes yes ∷ [];
+      diagramAfter = 0 ∷ 0 ∷ 0 ∷ 0 ∷ 0 ∷ 0 ∷ 0 ∷ 0 ∷ 0 ∷ 0 ∷ 0 ∷ 0 ∷ 0 ∷ 0 ∷ 0 ∷ 0 ∷ 0 ∷ 0 ∷ 0 ∷ 0 ∷ 0 ∷ 0 ∷ 0 ∷ 0 ∷ 0 ∷ 0 ∷ 0 ∷ 0 ∷ 0 ∷ 0 ∷ 0 ∷ 0 ∷ 0 ∷ 1 ∷ 0 ∷ 0 ∷ [];
+      netAfter = 0 ∷ 0 ∷ 0 ∷ 0 ∷ 0 ∷ 0 ∷ 0 ∷ 0 ∷ 0 ∷ 0 ∷ 0 ∷ 0 ∷ 0 ∷ 0 ∷ 0 ∷ 0 ∷ 0 ∷ 0 ∷ 0 ∷ 0 ∷ 0 ∷ 0 ∷ 0 ∷ 0 ∷ 0 ∷ 0 ∷ 0 ∷ 0 ∷ 0 ∷ 0 ∷ 0 ∷ 0 ∷ 0 ∷ 1 ∷ 0 ∷ 0 ∷ 0 ∷ 0 ∷ 0 ∷ 0 ∷ 0 ∷ 0 ∷ 0 ∷ 0 ∷ [];
+    }
+    -- CR 7: a box ends a killing branch
+    ∷ record {
+      file = fileOf (head 16 0 ++ row 17 ++ row 28 ++ row 29 ++ row 17 ++ row 18 ++ (6 ∷ 31 ∷ 0 ∷ []) ++ row 18 ++ (6 ∷ 31 ∷ 1 ∷ []) ++ row 19 ++ row 18 ++ row 18 ++ row 30 ++ row 18 ++ function 1 9 ++ row 19 ++ row 27);
+      fileLength = 82;
+      netLength = 620;
+      offers = step 0 yes yes ∷ step 13 yes yes ∷ step 2 yes yes ∷ step 3 yes yes ∷ step 5 yes yes ∷ step 11 yes yes ∷ step 14 yes yes ∷ [];
+      diagramAfter = 0 ∷ 0 ∷ 0 ∷ 0 ∷ 0 ∷ 0 ∷ 0 ∷ 0 ∷ 0 ∷ 0 ∷ 0 ∷ 0 ∷ 0 ∷ 0 ∷ 0 ∷ 0 ∷ 0 ∷ 0 ∷ 0 ∷ 0 ∷ 0 ∷ 0 ∷ 0 ∷ 0 ∷ 0 ∷ 0 ∷ 0 ∷ 0 ∷ 0 ∷ 0 ∷ 0 ∷ 0 ∷ 0 ∷ 0 ∷ 0 ∷ 0 ∷ 0 ∷ 0 ∷ 0 ∷ 0 ∷ 0 ∷ 0 ∷ 0 ∷ 0 ∷ 0 ∷ 1 ∷ 0 ∷ 0 ∷ [];
+      netAfter = 0 ∷ 0 ∷ 0 ∷ 0 ∷ 0 ∷ 0 ∷ 0 ∷ 0 ∷ 0 ∷ 0 ∷ 0 ∷ 0 ∷ 0 ∷ 0 ∷ 0 ∷ 0 ∷ 0 ∷ 0 ∷ 0 ∷ 0 ∷ 0 ∷ 0 ∷ 0 ∷ 0 ∷ 0 ∷ 0 ∷ 0 ∷ 0 ∷ 0 ∷ 0 ∷ 0 ∷ 0 ∷ 0 ∷ 0 ∷ 0 ∷ 0 ∷ 0 ∷ 0 ∷ 0 ∷ 0 ∷ 0 ∷ 0 ∷ 0 ∷ 0 ∷ 0 ∷ 1 ∷ 0 ∷ 0 ∷ 0 ∷ 0 ∷ 0 ∷ 0 ∷ 0 ∷ 0 ∷ 0 ∷ 0 ∷ 0 ∷ 0 ∷ [];
+    }
     ∷ []
 
 -- refused, with this number and value
@@ -91,5 +109,23 @@ refusals = turnsAway (readDiagram (fileOf (head 2 1 ++ (6 ∷ 3 ∷ 0 ∷ []) ++
     && (turnsAway (readDiagram (fileOf (head 6 0 ++ row 24 ++ row 24 ++ row 25 ++ row 25 ++ function 1 1 ++ row 27))) 45 0
     && turnsAway (readDiagram (fileOf (head 4 0 ++ row 24 ++ row 25 ++ row 25 ++ row 27))) 7 2))))))
 
+-- CR 7, rule by rule: EXIT in no scenario; in an outlet; right in an LP
+unfoldable pub boxRefusals : Bool
+boxRefusals = turnsAway (readDiagram (fileOf (head 6 0 ++ row 20 ++ row 18 ++ (6 ∷ 31 ∷ 0 ∷ []) ++ row 18 ++ row 21 ++ row 27))) 48 2
+    && (turnsAway (readDiagram (fileOf (head 7 0 ++ row 29 ++ (6 ∷ 31 ∷ 0 ∷ []) ++ row 18 ++ (6 ∷ 31 ∷ 1 ∷ []) ++ row 18 ++ row 30 ++ row 27))) 48 3
+    && (turnsAway (readDiagram (fileOf (head 8 0 ++ row 29 ++ row 24 ++ (6 ∷ 31 ∷ 0 ∷ []) ++ row 25 ++ row 18 ++ row 18 ++ row 30 ++ row 27))) 48 2
+    -- one outlet only; a BRANCH that kills as outlet; an LE whose loop is around its box
+    && (turnsAway (readDiagram (fileOf (head 5 0 ++ row 29 ++ (6 ∷ 31 ∷ 0 ∷ []) ++ row 18 ++ row 30 ++ row 27))) 7 3
+    && (turnsAway (readDiagram (fileOf (head 6 0 ++ row 29 ++ (6 ∷ 31 ∷ 0 ∷ []) ++ row 28 ++ row 18 ++ row 30 ++ row 27))) 7 2
+    && (turnsAway (readDiagram (fileOf (head 14 0 ++ row 24 ++ row 29 ++ row 20 ++ row 18 ++ row 26 ++ row 18 ++ (6 ∷ 31 ∷ 0 ∷ []) ++ row 21 ++ row 18 ++ row 18 ++ row 30 ++ function 1 1 ++ row 25 ++ row 27))) 8 4
+    -- two EXITs for one outlet; an outlet that is none; at a later box, before the 50 of an earlier one and the 45 of an LP
+    && (turnsAway (readDiagram (fileOf (head 11 0 ++ row 29 ++ row 20 ++ row 18 ++ (6 ∷ 31 ∷ 0 ∷ []) ++ row 18 ++ (6 ∷ 31 ∷ 0 ∷ []) ++ row 21 ++ row 18 ++ row 18 ++ row 30 ++ row 27))) 49 0
+    && (turnsAway (readDiagram (fileOf (head 11 0 ++ row 29 ++ row 20 ++ row 18 ++ (6 ∷ 31 ∷ 0 ∷ []) ++ row 18 ++ (6 ∷ 31 ∷ 2 ∷ []) ++ row 21 ++ row 18 ++ row 18 ++ row 30 ++ row 27))) 49 0
+    && (turnsAway (readDiagram (fileOf (head 18 0 ++ row 24 ++ row 25 ++ row 29 ++ row 20 ++ row 18 ++ (6 ∷ 31 ∷ 0 ∷ []) ++ row 18 ++ (6 ∷ 31 ∷ 1 ∷ []) ++ row 21 ++ function 0 0 ++ row 18 ++ row 18 ++ row 30 ++ row 29 ++ row 18 ++ row 18 ++ row 30 ++ row 27))) 49 13
+    -- an OR one of whose branches falls through; an AND with a killing branch that does; before the 45 of an LP
+    && (turnsAway (readDiagram (fileOf (head 12 0 ++ row 29 ++ row 20 ++ row 18 ++ (6 ∷ 31 ∷ 0 ∷ []) ++ row 18 ++ (6 ∷ 31 ∷ 1 ∷ []) ++ row 18 ++ row 21 ++ row 18 ++ row 18 ++ row 30 ++ row 27))) 50 0
+    && (turnsAway (readDiagram (fileOf (head 16 0 ++ row 29 ++ row 17 ++ row 28 ++ function 0 0 ++ row 18 ++ row 20 ++ row 18 ++ (6 ∷ 31 ∷ 0 ∷ []) ++ row 18 ++ (6 ∷ 31 ∷ 1 ∷ []) ++ row 21 ++ row 19 ++ row 18 ++ row 18 ++ row 30 ++ row 27))) 50 0
+    && turnsAway (readDiagram (fileOf (head 14 0 ++ row 24 ++ row 25 ++ row 29 ++ row 20 ++ row 18 ++ (6 ∷ 31 ∷ 0 ∷ []) ++ row 18 ++ (6 ∷ 31 ∷ 1 ∷ []) ++ row 21 ++ function 0 0 ++ row 18 ++ row 18 ++ row 30 ++ row 27))) 50 2))))))))))
+
 unfoldable pub requestsHold : Bool
-requestsHold = allHold requests && refusals
+requestsHold = allHold requests && (refusals && boxRefusals)

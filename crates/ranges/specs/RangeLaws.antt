@@ -36,6 +36,13 @@ pub all-ext : (n : ℕ) (f g : ℕ → Bool) → ((i : ℕ) → i < n → f i �
 all-ext zero f g h = refl
 all-ext (suc n) f g h = ap₂ _&&_ (h n (omega arith)) (all-ext n f g (λ i l. h i (omega arith)))
 
+-- where some number passes, one is found
+pub many-find : (n : ℕ) (f : ℕ → Bool) → howMany n f ≢ 0 → (i : ℕ) × (i < n) × (f i ≡ true)
+many-find zero f h = absurd (h refl)
+many-find (suc n) f h = decide (f n)
+    (λ t. (n, omega arith, t))
+    (λ t. let w = many-find n f (λ z. h (rw (t, z))) in (w .0, (let l = w .1 in omega arith), w .2))
+
 pub many-le : (n : ℕ) (f : ℕ → Bool) → howMany n f ≤ n
 many-le zero f = zero-le
 many-le (suc n) f = let a = many-le n f in decide (f n) (λ t. rw t (omega arith)) (λ t. rw t (omega arith))

@@ -9,7 +9,7 @@ use lib.ListN.{length, getD, drop}
 use lib.Dec.{leb, ltb, eqb}
 use borrow.Author.Tests.{lt-ltb, le-leb, lt-leb, ne-eqb}
 use Rattle.effbd.specs.Records.{word, lengthAt, kindAt, kindTable, entryIn, lengthOf, fieldsOf, KindBytes, faultAt}
-use Rattle.effbd.specs.Diagrams.{and-open, branch, and-close, or-open, or-close, it-open, it-close, lp-open, lp-close, loop-exit, end, Use, Row, kindOf, usesAt, usesFine, rowAt, rowRight, rowFineAs, rowFine, rowFault}
+use Rattle.effbd.specs.Diagrams.{and-open, branch, and-close, or-open, or-close, it-open, it-close, lp-open, lp-close, loop-exit, end, box-open, box-close, box-exit, Use, Row, kindOf, usesAt, usesFine, rowAt, rowRight, rowFineAs, rowFine, rowFault}
 use Rattle.row_records.specs.Fields.{fieldOf, useFine, isRow, functionRight, functionFine, functionFault, turnLimitFine}
 use Rattle.row_records.specs.Rows.{usesFrom, column, putRow, fillRow, useFits, triggersFit, triggerFault}
 
@@ -32,18 +32,21 @@ pub uses-none : (items from : ℕ) (bytes : List ℕ) → _≡_ {A = Bool} true 
 unfolding usesFine usesAt
 uses-none items from bytes = refl
 
-other : (a b c e f i j k m n : Bool) (items : ℕ) (r : Row) → rowFineAs (cond a and-open (cond b branch (cond c and-close (cond e or-open (cond f or-close (cond false it-open (cond i it-close (cond j lp-open (cond k lp-close (cond m loop-exit (cond n branch end))))))))))) items r ≡ true
-other true b c e f i j k m n items r = refl
-other false true c e f i j k m n items r = refl
-other false false true e f i j k m n items r = refl
-other false false false true f i j k m n items r = refl
-other false false false false true i j k m n items r = refl
-other false false false false false true j k m n items r = refl
-other false false false false false false true k m n items r = refl
-other false false false false false false false true m n items r = refl
-other false false false false false false false false true n items r = refl
-other false false false false false false false false false true items r = refl
-other false false false false false false false false false false items r = refl
+other : (a b c e f i j k m n o p q : Bool) (items : ℕ) (r : Row) → rowFineAs (cond a and-open (cond b branch (cond c and-close (cond e or-open (cond f or-close (cond false it-open (cond i it-close (cond j lp-open (cond k lp-close (cond m loop-exit (cond n branch (cond o box-open (cond p box-close (cond q box-exit end)))))))))))))) items r ≡ true
+other true b c e f i j k m n o p q items r = refl
+other false true c e f i j k m n o p q items r = refl
+other false false true e f i j k m n o p q items r = refl
+other false false false true f i j k m n o p q items r = refl
+other false false false false true i j k m n o p q items r = refl
+other false false false false false true j k m n o p q items r = refl
+other false false false false false false true k m n o p q items r = refl
+other false false false false false false false true m n o p q items r = refl
+other false false false false false false false false true n o p q items r = refl
+other false false false false false false false false false true o p q items r = refl
+other false false false false false false false false false false true p q items r = refl
+other false false false false false false false false false false false true q items r = refl
+other false false false false false false false false false false false false true items r = refl
+other false false false false false false false false false false false false false items r = refl
 
 -- the table of kinds at a FUNCTION: where its fields end is where its uses begin, at the length that its kind gives
 pub function-base : lengthOf 16 ≡ 8
@@ -78,7 +81,7 @@ module _ (items : ℕ) (bytes : List ℕ) where
 
   fine-other : kindAt bytes ≢ 16 → kindAt bytes ≢ 22 → true ≡ rowFine items (rowAt bytes)
   unfolding rowFine rowAt kindOf
-  fine-other p q = rw (ne-eqb (kindAt bytes) 16 p, ne-eqb (kindAt bytes) 22 q) (sym (other (eqb (kindAt bytes) 17) (eqb (kindAt bytes) 18) (eqb (kindAt bytes) 19) (eqb (kindAt bytes) 20) (eqb (kindAt bytes) 21) (eqb (kindAt bytes) 23) (eqb (kindAt bytes) 24) (eqb (kindAt bytes) 25) (eqb (kindAt bytes) 26) (eqb (kindAt bytes) 28) items _))
+  fine-other p q = rw (ne-eqb (kindAt bytes) 16 p, ne-eqb (kindAt bytes) 22 q) (sym (other (eqb (kindAt bytes) 17) (eqb (kindAt bytes) 18) (eqb (kindAt bytes) 19) (eqb (kindAt bytes) 20) (eqb (kindAt bytes) 21) (eqb (kindAt bytes) 23) (eqb (kindAt bytes) 24) (eqb (kindAt bytes) 25) (eqb (kindAt bytes) 26) (eqb (kindAt bytes) 28) (eqb (kindAt bytes) 29) (eqb (kindAt bytes) 30) (eqb (kindAt bytes) 31) items _))
 
   module _ (base behind : ℕ) where
     -- where a FUNCTION is cut short its fields are not asked for

@@ -69,17 +69,17 @@ module _ (fault : List ℕ → ℕ) (from : ℕ) (start : List ℕ) where
 
 -- one row's record without fault
 module _ (items : ℕ) (l : List ℕ) (clean : rowFault items l ≡ 0) where
-  pub row-whole : Clean l (leb 16 (kindAt l) && leb (kindAt l) 28) (rowRight items l) (rowFine items (rowAt l))
+  pub row-whole : Clean l (leb 16 (kindAt l) && leb (kindAt l) 31) (rowRight items l) (rowFine items (rowAt l))
   unfolding rowFault
-  row-whole = none-clean l (leb 16 (kindAt l) && leb (kindAt l) 28) (rowRight items l) (rowFine items (rowAt l)) 4 clean
+  row-whole = none-clean l (leb 16 (kindAt l) && leb (kindAt l) 31) (rowRight items l) (rowFine items (rowAt l)) 4 clean
 
   -- its kind passes a test that every kind of row passes
-  pub of-kind : (test : ℕ → Bool) → allBelow 13 (λ j. test (16 + j)) ≡ true → test (kindAt l) ≡ true
+  pub of-kind : (test : ℕ → Bool) → allBelow 16 (λ j. test (16 + j)) ≡ true → test (kindAt l) ≡ true
   of-kind test all =
       let low = leb-true 16 (kindAt l) (and-left (leb 16 (kindAt l)) _ (row-whole .isDue)) in
-      let high = leb-true (kindAt l) 28 (and-right (leb 16 (kindAt l)) _ (row-whole .isDue)) in
+      let high = leb-true (kindAt l) 31 (and-right (leb 16 (kindAt l)) _ (row-whole .isDue)) in
       let z : 16 + (kindAt l - 16) ≡ kindAt l = omega arith in
-      subst (λ (k : ℕ). test k ≡ true) z (all-elim 13 (λ j. test (16 + j)) all (kindAt l - 16) (omega arith))
+      subst (λ (k : ℕ). test k ≡ true) z (all-elim 16 (λ j. test (16 + j)) all (kindAt l - 16) (omega arith))
 
   pub row-clean : items ≤ 16 → (lengthAt l ≤ 104) × (lengthAt l ≤ length l)
   unfolding rowRight
@@ -96,7 +96,7 @@ module _ (items : ℕ) (l : List ℕ) (clean : rowFault items l ≡ 0) where
   unfolding rowRight
   some-length = go (eqb (kindAt l) 16) (row-whole .isRight)
     where
-      long : allBelow 13 (λ j. leb 4 (lengthOf (16 + j))) ≡ true
+      long : allBelow 16 (λ j. leb 4 (lengthOf (16 + j))) ≡ true
       long = unfold lengthOf entryIn kindTable in refl
 
       go : (b : Bool) → cond b (leb 8 (lengthAt l) && (eqb ((lengthAt l - 8) % 6) 0 && leb ((lengthAt l - 8) / 6) items)) (eqb (lengthAt l) (lengthOf (kindAt l))) ≡ true → 4 ≤ lengthAt l

@@ -15,7 +15,7 @@ unfoldable pub useFine : (items from item take give : ℕ) → Bool
 useFine items from item take give = leb from item && (ltb item items && ltb 0 (take + give))
 
 unfoldable pub isRow : ℕ → Bool
-isRow kind = leb 16 kind && leb kind 28
+isRow kind = leb 16 kind && leb kind 31
 
 unfoldable pub functionRight : (size base items : ℕ) → Bool
 functionRight size base items = leb base size && (eqb ((size - base) % 6) 0 && leb ((size - base) / 6) items)

@@ -81,7 +81,7 @@ fn use_count(size: u16, base: u16) -> u16
 fn is_row(kind: u16) -> bool
     ensures { λ r. ⌜ r ≡ isRow kind ⌝ }
 {
-    kinds::FUNCTION <= kind && kind <= kinds::KILLING_BRANCH
+    kinds::FUNCTION <= kind && kind <= kinds::BOX_EXIT
 }
 
 fn function_right(size: u16, base: u16, items: u16) -> bool

@@ -4,13 +4,15 @@ ghost use mathlib.Core.Bool.{true, false};
 ghost use Rattle.effbd.specs.Answers.{said, returningZero, afterwards};
 ghost use Prim.Native.Nat.{_+_};
 ghost use Rattle.diagram_table.specs.Cells.{branchIn, closeIn};
-ghost use Rattle.diagram_moves.specs.Changes.{rowSet, entered, branchesSet, branchesEntered, itOpenChange, exitChange, functionChange, rowChange, moveChange, tableMove};
+ghost use Rattle.diagram_moves.specs.Changes.{rowSet, entered, branchesSet, branchesEntered, itOpenChange, loopExitChange, boxExitChange, functionChange, rowChange, moveChange, tableMove};
 use diagram_state::cells;
 use diagram_table::BRANCH_ENDED;
 use diagram_table::CLOSE;
 use diagram_table::FIRST;
 use diagram_table::LOOP;
+use diagram_table::OUTLET;
 use diagram_table::OWNER;
+use diagram_table::SCENARIO_LAST;
 use effbd::Answer;
 use effbd::moves;
 
@@ -30,14 +32,23 @@ fn turn_iteration(table: &[u16], state: &mut [u16], row: u16)
     }
 }
 
-// An LE: its loop's rows are cleared, the row after the loop is entered.
+// An LE leaves its loop for the row after it.
 fn exit_loop(table: &[u16], state: &mut [u16], row: u32)
-    ensures { λ _. ⌜ now (state .exit) ≡ exitChange (now (table .entry)) row (now (state .entry)) ⌝ }
+    ensures { λ _. ⌜ now (state .exit) ≡ loopExitChange (now (table .entry)) row (now (state .entry)) ⌝ }
 {
     let first = diagram_table::cell(table, LOOP, row);
     let last = diagram_table::cell(table, CLOSE, first as u32);
-    diagram_tokens::clear_rows(state, first, last);
-    diagram_tokens::enter(table, state, last as u32 + 1);
+    diagram_tokens::leave_rows(table, state, first, last, last as u32 + 1);
+}
+
+// An EXIT leaves its box's scenario for the row after its outlet's BRANCH; that BRANCH belongs to the box.
+fn exit_box(table: &[u16], state: &mut [u16], row: u32)
+    ensures { λ _. ⌜ now (state .exit) ≡ boxExitChange (now (table .entry)) row (now (state .entry)) ⌝ }
+{
+    let outlet = diagram_table::cell(table, OUTLET, row);
+    let first = diagram_table::cell(table, OWNER, outlet as u32);
+    let last = diagram_table::cell(table, SCENARIO_LAST, row);
+    diagram_tokens::leave_rows(table, state, first, last, outlet as u32 + 1);
 }
 
 // A FUNCTION starts or ends.
@@ -70,7 +81,7 @@ fn close_branches(table: &[u16], state: &mut [u16], row: u16)
     diagram_tokens::enter(table, state, row as u32 + 1);
 }
 
-// The stores of a row's step, by its kind.
+// The stores of a row's step, by its kind; of a kind that is not named here the token goes on to the next row.
 fn step_row(table: &[u16], rows: u32, file: &[u8], state: &mut [u16], row: u16)
     ensures { λ _. ⌜ now (state .exit) ≡ rowChange (now (table .entry)) rows (now (file .entry)) row (now (state .entry)) ⌝ }
 {
@@ -86,6 +97,7 @@ fn step_row(table: &[u16], rows: u32, file: &[u8], state: &mut [u16], row: u16)
         kinds::IT_CLOSE => diagram_tokens::pass_token(table, state, at, owner),
         kinds::LP_CLOSE => diagram_tokens::pass_token(table, state, at, owner),
         kinds::LOOP_EXIT => exit_loop(table, state, at),
+        kinds::BOX_EXIT => exit_box(table, state, at),
         _ => diagram_tokens::pass_token(table, state, at, at + 1),
     }
 }

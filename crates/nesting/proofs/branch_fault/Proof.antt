@@ -27,16 +27,16 @@ returns : tie.Need-returns
 unfolding branchFault
 returns c = rw (← c .before .before .before .get .ensures, eq-eqb _ _ (c .before .before .if1 .taken), ← c .before .kind-in .ensures) (c .killer-fault .ensures)
 
-is-and-or-requires : tie.Need-is-and-or-requires
-is-and-or-requires c κs = search needs
+is-branching-requires : tie.Need-is-branching-requires
+is-branching-requires c κs = search needs
 
 returns-2 : tie.Need-returns-2
 unfolding branchFault
-returns-2 c = rw (← c .before .before .before .get .ensures, ne-eqb _ _ (c .before .before .if1 .left), sym (c .before .is-and-or .ensures) ∙ c .if2 .taken)
+returns-2 c = rw (← c .before .before .before .get .ensures, ne-eqb _ _ (c .before .before .if1 .left), sym (c .before .is-branching .ensures) ∙ c .if2 .taken)
 
 returns-3 : tie.Need-returns-3
 unfolding branchFault
-returns-3 c = rw (← c .before .before .before .get .ensures, ne-eqb _ _ (c .before .before .if1 .left), sym (c .before .is-and-or .ensures) ∙ c .if2 .left)
+returns-3 c = rw (← c .before .before .before .get .ensures, ne-eqb _ _ (c .before .before .if1 .left), sym (c .before .is-branching .ensures) ∙ c .if2 .left)
 
 pub branch-fault-spec : {M : Type 1} → statement M
 branch-fault-spec =
@@ -49,6 +49,6 @@ branch-fault-spec =
     kind-in-requires
     killer-fault-requires
     returns
-    is-and-or-requires
+    is-branching-requires
     returns-2
     returns-3)

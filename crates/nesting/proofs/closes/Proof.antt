@@ -29,8 +29,26 @@ returns-6 c = rw (c .match .keys4)
 
 returns-7 : tie.Need-returns-7
 unfolding closesIn
-returns-7 c = rw (ne-eqb _ _ (c .match .rest .1), ne-eqb _ _ (c .match .rest .0 .1), ne-eqb _ _ (c .match .rest .0 .0 .1), ne-eqb _ _ (c .match .rest .0 .0 .0 .1))
+returns-7 c = rw (c .before .match .keys5, eq-eqb _ _ (c .if3 .taken))
+
+returns-8 : tie.Need-returns-8
+unfolding closesIn
+returns-8 c = rw (c .before .match .keys5, ne-eqb _ _ (c .if3 .left))
+
+returns-9 : tie.Need-returns-9
+unfolding closesIn
+returns-9 c = rw (ne-eqb _ _ (c .match .rest .1), ne-eqb _ _ (c .match .rest .0 .1), ne-eqb _ _ (c .match .rest .0 .0 .1), ne-eqb _ _ (c .match .rest .0 .0 .0 .1), ne-eqb _ _ (c .match .rest .0 .0 .0 .0 .1))
 
 pub closes-spec : {M : Type 1} → statement M
 closes-spec =
-    tie.close (tie.spec returns returns-2 returns-3 returns-4 returns-5 returns-6 returns-7)
+    tie.close
+    (tie.spec
+    returns
+    returns-2
+    returns-3
+    returns-4
+    returns-5
+    returns-6
+    returns-7
+    returns-8
+    returns-9)

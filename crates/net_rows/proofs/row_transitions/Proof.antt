@@ -39,6 +39,15 @@ back-requires-2 c κs = search needs
 loop-exit-requires : tie.Need-loop-exit-requires
 loop-exit-requires c κs = search needs
 
+or-close-requires-2 : tie.Need-or-close-requires-2
+or-close-requires-2 c κs = search needs
+
+or-close-requires-3 : tie.Need-or-close-requires-3
+or-close-requires-3 c κs = search needs
+
+box-exit-requires : tie.Need-box-exit-requires
+box-exit-requires c κs = search needs
+
 same-length : tie.Need-same-length
 same-length c = search needs
 
@@ -119,10 +128,34 @@ unfolding rowRecords rowAs
 returns-10 c = let a = c .before .before .before .before .before .before .before .before .before .args in
     same (ap (rowAs (a .table .now) (a .file .now) (a .rows) (a .row)) (sym (c .before .before .before .before .match .keys10) ∙ c .before .before .before .before .before .kind .ensures)) (c .before .before .loop-exit .ensures)
 
+same-length-11 : tie.Need-same-length-11
+same-length-11 c = search needs
+
 returns-11 : tie.Need-returns-11
+unfolding rowRecords rowAs
+returns-11 c = let a = c .before .before .before .before .before .before .before .before .before .args in
+    same (ap (rowAs (a .table .now) (a .file .now) (a .rows) (a .row)) (sym (c .before .before .before .before .match .keys11) ∙ c .before .before .before .before .before .kind .ensures)) (c .before .before .or-close2 .ensures)
+
+same-length-12 : tie.Need-same-length-12
+same-length-12 c = search needs
+
+returns-12 : tie.Need-returns-12
+unfolding rowRecords rowAs
+returns-12 c = let a = c .before .before .before .before .before .before .before .before .before .args in
+    same (ap (rowAs (a .table .now) (a .file .now) (a .rows) (a .row)) (sym (c .before .before .before .before .match .keys12) ∙ c .before .before .before .before .before .kind .ensures)) (c .before .before .or-close3 .ensures)
+
+same-length-13 : tie.Need-same-length-13
+same-length-13 c = search needs
+
+returns-13 : tie.Need-returns-13
+unfolding rowRecords rowAs
+returns-13 c = let a = c .before .before .before .before .before .before .before .before .before .args in
+    same (ap (rowAs (a .table .now) (a .file .now) (a .rows) (a .row)) (sym (c .before .before .before .before .match .keys13) ∙ c .before .before .before .before .before .kind .ensures)) (c .before .before .box-exit .ensures)
+
+returns-14 : tie.Need-returns-14
 unfolding rowRecords
-returns-11 c = let a = c .before .before .before .before .before .args in
-    same (no-row (a .table .now) (a .file .now) (a .rows) (a .row) (c .before .kind .result) (c .match .rest .0 .0 .0 .0 .0 .0 .0 .0 .0 .1) (c .match .rest .0 .0 .0 .0 .0 .0 .0 .0 .1) (c .match .rest .0 .0 .0 .0 .0 .0 .0 .1) (c .match .rest .0 .0 .0 .0 .0 .0 .1) (c .match .rest .0 .0 .0 .0 .0 .1) (c .match .rest .0 .0 .0 .0 .1) (c .match .rest .0 .0 .0 .1) (c .match .rest .0 .0 .1) (c .match .rest .0 .1) (c .match .rest .1) ∙ ap (rowAs (a .table .now) (a .file .now) (a .rows) (a .row)) (c .before .kind .ensures)) (still (a .area .now) (a .at))
+returns-14 c = let a = c .before .before .before .before .before .args in
+    same (no-row (a .table .now) (a .file .now) (a .rows) (a .row) (c .before .kind .result) (c .match .rest .0 .0 .0 .0 .0 .0 .0 .0 .0 .0 .0 .0 .1) (c .match .rest .0 .0 .0 .0 .0 .0 .0 .0 .0 .0 .0 .1) (c .match .rest .0 .0 .0 .0 .0 .0 .0 .0 .0 .0 .1) (c .match .rest .0 .0 .0 .0 .0 .0 .0 .0 .0 .1) (c .match .rest .0 .0 .0 .0 .0 .0 .0 .0 .1) (c .match .rest .0 .0 .0 .0 .0 .0 .0 .1) (c .match .rest .0 .0 .0 .0 .0 .0 .1) (c .match .rest .0 .0 .0 .0 .0 .1) (c .match .rest .0 .0 .0 .0 .1) (c .match .rest .0 .0 .0 .1) (c .match .rest .0 .0 .1) (c .match .rest .0 .1) (c .match .rest .1) ∙ ap (rowAs (a .table .now) (a .file .now) (a .rows) (a .row)) (c .before .kind .ensures)) (still (a .area .now) (a .at))
 
 pub row-transitions-spec : {M : Type 1} → statement M
 row-transitions-spec =
@@ -139,6 +172,9 @@ row-transitions-spec =
     onward-requires
     back-requires-2
     loop-exit-requires
+    or-close-requires-2
+    or-close-requires-3
+    box-exit-requires
     same-length
     returns
     same-length-2
@@ -159,4 +195,10 @@ row-transitions-spec =
     returns-9
     same-length-10
     returns-10
-    returns-11)
+    same-length-11
+    returns-11
+    same-length-12
+    returns-12
+    same-length-13
+    returns-13
+    returns-14)

@@ -1,4 +1,4 @@
-use Rattle.diagram_moves.specs.Changes.{exitChange}
+use Rattle.diagram_moves.specs.Changes.{loopExitChange}
 use mathlib.Core.Path.{_∙_}
 use borrow.Author.Needs.{needs}
 use Rattle.table_move.proofs.exit_loop.Statement.{statement}
@@ -13,24 +13,21 @@ cast-cell c = search needs
 cell-requires-2 : tie.Need-cell-requires-2
 cell-requires-2 c κs = search needs
 
-clear-rows-requires : tie.Need-clear-rows-requires
-clear-rows-requires c κs = search needs
+cast-leave-rows : tie.Need-cast-leave-rows
+cast-leave-rows c = search needs
 
-cast-enter : tie.Need-cast-enter
-cast-enter c = search needs
+add-leave-rows : tie.Need-add-leave-rows
+add-leave-rows c = search needs
 
-add-enter : tie.Need-add-enter
-add-enter c = search needs
-
-enter-requires : tie.Need-enter-requires
-enter-requires c κs = search needs
+leave-rows-requires : tie.Need-leave-rows-requires
+leave-rows-requires c κs = search needs
 
 same-length : tie.Need-same-length
 same-length c = search needs
 
 returns : tie.Need-returns
-unfolding exitChange
-returns c = c .before .before .enter .ensures ∙ rw (c .before .before .before .before .before .before .clear-rows .ensures, ← c .before .before .before .before .before .before .before .before .before .cell .ensures, ← c .before .before .before .before .before .before .before .before .cell2 .ensures)
+unfolding loopExitChange
+returns c = c .before .before .leave-rows .ensures ∙ rw (← c .before .before .before .before .before .cell .ensures, ← c .before .before .before .before .cell2 .ensures)
 
 pub exit-loop-spec : {M : Type 1} → statement M
 exit-loop-spec =
@@ -39,9 +36,8 @@ exit-loop-spec =
     cell-requires
     cast-cell
     cell-requires-2
-    clear-rows-requires
-    cast-enter
-    add-enter
-    enter-requires
+    cast-leave-rows
+    add-leave-rows
+    leave-rows-requires
     same-length
     returns)

@@ -41,6 +41,9 @@ pass-token-requires-3 c κs = search needs
 exit-loop-requires : tie.Need-exit-loop-requires
 exit-loop-requires c κs = search needs
 
+exit-box-requires : tie.Need-exit-box-requires
+exit-box-requires c κs = search needs
+
 add-pass-token-2 : tie.Need-add-pass-token-2
 add-pass-token-2 c = search needs
 
@@ -108,7 +111,14 @@ same-length-9 c = search needs
 
 returns-9 : tie.Need-returns-9
 unfolding rowChange
-returns-9 c = c .before .before .pass-token4 .ensures ∙ rw (← c .before .before .before .before .before .before .kind .ensures, ne-eqb _ _ (c .before .before .before .before .match .rest .0 .0 .0 .0 .0 .0 .0 .1), ne-eqb _ _ (c .before .before .before .before .match .rest .0 .0 .0 .0 .0 .0 .1), ne-eqb _ _ (c .before .before .before .before .match .rest .0 .0 .0 .0 .0 .1), ne-eqb _ _ (c .before .before .before .before .match .rest .0 .0 .0 .0 .1), ne-eqb _ _ (c .before .before .before .before .match .rest .0 .0 .0 .1), ne-eqb _ _ (c .before .before .before .before .match .rest .0 .0 .1), ne-eqb _ _ (c .before .before .before .before .match .rest .0 .1), ne-eqb _ _ (c .before .before .before .before .match .rest .1))
+returns-9 c = c .before .before .exit-box .ensures ∙ rw (← c .before .before .before .before .before .before .kind .ensures, c .before .before .before .before .match .keys9)
+
+same-length-10 : tie.Need-same-length-10
+same-length-10 c = search needs
+
+returns-10 : tie.Need-returns-10
+unfolding rowChange
+returns-10 c = c .before .before .pass-token4 .ensures ∙ rw (← c .before .before .before .before .before .before .kind .ensures, ne-eqb _ _ (c .before .before .before .before .match .rest .0 .0 .0 .0 .0 .0 .0 .0 .1), ne-eqb _ _ (c .before .before .before .before .match .rest .0 .0 .0 .0 .0 .0 .0 .1), ne-eqb _ _ (c .before .before .before .before .match .rest .0 .0 .0 .0 .0 .0 .1), ne-eqb _ _ (c .before .before .before .before .match .rest .0 .0 .0 .0 .0 .1), ne-eqb _ _ (c .before .before .before .before .match .rest .0 .0 .0 .0 .1), ne-eqb _ _ (c .before .before .before .before .match .rest .0 .0 .0 .1), ne-eqb _ _ (c .before .before .before .before .match .rest .0 .0 .1), ne-eqb _ _ (c .before .before .before .before .match .rest .0 .1), ne-eqb _ _ (c .before .before .before .before .match .rest .1))
 
 pub step-row-spec : {M : Type 1} → statement M
 step-row-spec =
@@ -126,6 +136,7 @@ step-row-spec =
     pass-token-requires-2
     pass-token-requires-3
     exit-loop-requires
+    exit-box-requires
     add-pass-token-2
     pass-token-requires-4
     same-length
@@ -145,4 +156,6 @@ step-row-spec =
     same-length-8
     returns-8
     same-length-9
-    returns-9)
+    returns-9
+    same-length-10
+    returns-10)

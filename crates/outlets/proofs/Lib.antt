@@ -1,0 +1,4 @@
+pub mod Counting
+pub mod Scenarios
+pub mod Matching
+pub mod Passes

@@ -1,0 +1,47 @@
+use Rattle.diagram_moves.specs.Changes.{boxExitChange}
+use mathlib.Core.Path.{_∙_}
+use borrow.Author.Needs.{needs}
+use Rattle.table_move.proofs.exit_box.Statement.{statement}
+use Rattle.table_move.proofs.exit_box.Tie as tie
+
+cell-requires : tie.Need-cell-requires
+cell-requires c κs = search needs
+
+cast-cell : tie.Need-cast-cell
+cast-cell c = search needs
+
+cell-requires-2 : tie.Need-cell-requires-2
+cell-requires-2 c κs = search needs
+
+cell-requires-3 : tie.Need-cell-requires-3
+cell-requires-3 c κs = search needs
+
+cast-leave-rows : tie.Need-cast-leave-rows
+cast-leave-rows c = search needs
+
+add-leave-rows : tie.Need-add-leave-rows
+add-leave-rows c = search needs
+
+leave-rows-requires : tie.Need-leave-rows-requires
+leave-rows-requires c κs = search needs
+
+same-length : tie.Need-same-length
+same-length c = search needs
+
+returns : tie.Need-returns
+unfolding boxExitChange
+returns c = c .before .before .leave-rows .ensures ∙ rw (← c .before .before .before .before .before .before .cell .ensures, ← c .before .before .before .before .before .cell2 .ensures, ← c .before .before .before .before .cell3 .ensures)
+
+pub exit-box-spec : {M : Type 1} → statement M
+exit-box-spec =
+    tie.close
+    (tie.spec
+    cell-requires
+    cast-cell
+    cell-requires-2
+    cell-requires-3
+    cast-leave-rows
+    add-leave-rows
+    leave-rows-requires
+    same-length
+    returns)
