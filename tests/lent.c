@@ -1,5 +1,5 @@
 /* What bindings/c/effbd.h says of lent memory, tried: empty lists as (NULL, 0), bytes beyond a result, texts, a wrong number of words,
- * words that are only read, single numbers, runs of telegrams, of gigabytes too, and that the constants have room for the largest diagrams, nets, texts and logs. Says
+ * words that are only read, boxes, single numbers, runs of telegrams, of gigabytes too, and that the constants have room for the largest diagrams, nets, texts and logs. Says
  * what does not hold; exit status 1 then. */
 #define _GNU_SOURCE /* memfd_create */
 #include "../bindings/c/effbd.h"
@@ -197,6 +197,56 @@ static void words_only_read(void) {
     IS(effbd_transition(one_function, sizeof one_function, longer, A_WORDS - 1, 0), EFFBD_STATE_OFF, 0);
 }
 
+/* A box: 29, an OR of two EXITs, two outlets with nothing in them, 30; then END. */
+static const uint8_t one_box[58] = {10, 0, 1, 0, 1, 0, 11, 0, 0, 0, 4, 0, 29, 0, 4, 0, 20, 0, 4, 0, 18, 0, 6, 0, 31, 0, 0, 0, 4,
+                                    0,  18, 0, 6, 0, 31, 0, 1, 0, 4, 0, 21, 0, 4, 0, 18, 0, 4, 0, 18, 0, 4, 0, 30, 0, 4, 0, 27, 0};
+enum { BOX_WORDS = 33, BOX_NET = 404, FIELD = 26, LAST_OUTLET = 48, ROW_30 = 9, BOX_END = 10 };
+
+/* The file with one word another one is refused so by a call that is lent an area and by one that is lent a state, and both keep what they had. */
+static void box_off(size_t at, uint8_t low, uint8_t high, uint32_t number, uint32_t row) {
+    uint8_t off[sizeof one_box], area[BOX_NET];
+    uint16_t words[BOX_WORDS] = {FILLED};
+    memcpy(off, one_box, sizeof one_box);
+    off[at] = low, off[at + 1] = high;
+    memset(area, FILLED, sizeof area);
+    IS(effbd_read(off, sizeof off), number, row);
+    IS(effbd_translate(off, sizeof off, area, sizeof area), number, row);
+    IS(effbd_fresh(off, sizeof off, words, BOX_WORDS), number, row);
+    HOLDS(kept(area, sizeof area) && words[0] == FILLED && words[BOX_WORDS - 1] == 0);
+}
+
+/* The EXIT of row 3 clears words before it and writes one far behind it, and none beyond the state's. */
+static void boxes(void) {
+    uint8_t area[BOX_NET + BEYOND];
+    uint16_t words[BOX_WORDS + 2];
+    static const uint16_t steps[] = {0, 2, 3};
+    for (size_t at = 0; at < sizeof words / sizeof *words; at++) {
+        words[at] = FILLED;
+    }
+    memset(area, FILLED, sizeof area);
+    IS(effbd_read(one_box, sizeof one_box), EFFBD_ACCEPTED, BOX_WORDS);
+    IS(effbd_translate(one_box, sizeof one_box, area, BOX_NET - 1), EFFBD_AREA_SHORT, BOX_NET);
+    HOLDS(kept(area, sizeof area));
+    IS(effbd_translate(one_box, sizeof one_box, area, sizeof area), EFFBD_ACCEPTED, BOX_NET);
+    HOLDS(kept(area + BOX_NET, BEYOND));
+    IS(effbd_fresh(one_box, sizeof one_box, words + 1, BOX_WORDS), EFFBD_ACCEPTED, 0);
+    for (size_t at = 0; at < sizeof steps / sizeof *steps; at++) {
+        IS(effbd_step(one_box, sizeof one_box, words + 1, BOX_WORDS, EFFBD_WAIT, 1), EFFBD_WAIT_HELD, 0);
+        IS(effbd_step(one_box, sizeof one_box, words + 1, BOX_WORDS, EFFBD_STEP, steps[at]), EFFBD_ACCEPTED, 0);
+    }
+    for (size_t at = 0; at < BOX_WORDS; at++) {
+        HOLDS(words[at + 1] == (at == 3 * ROW_30 ? 1 : 0));
+    }
+    IS(effbd_step(one_box, sizeof one_box, words + 1, BOX_WORDS, EFFBD_STEP, ROW_30), EFFBD_ACCEPTED, 0);
+    HOLDS(words[1 + 3 * BOX_END] == 1 && words[0] == FILLED && words[BOX_WORDS + 1] == FILLED);
+    words[1 + 3 * 8] = 1; /* an outlet's BRANCH is never ready */
+    IS(effbd_step(one_box, sizeof one_box, words + 1, BOX_WORDS, EFFBD_STEP, ROW_30), EFFBD_STATE_OFF, 0);
+    box_off(FIELD, 1, 0, EFFBD_OUTLETS_UNMATCHED, 0);
+    box_off(FIELD, 0, 1, EFFBD_OUTLETS_UNMATCHED, 0);
+    box_off(LAST_OUTLET - 4, 28, 0, EFFBD_NESTING_BROKEN, 7);
+    box_off(LAST_OUTLET, 19, 0, EFFBD_NESTING_BROKEN, 8);
+}
+
 /* Step 0 and wait 300, of the old edition, and of this one from a station, numbered from the first. */
 enum { FIRST = 5 };
 static const uint8_t old_run[2 * EFFBD_OLD_TELEGRAM_LENGTH] = {8, 0, 47, 0, 1, 0, 0, 0, 8, 0, 47, 0, 2, 0, 44, 1};
@@ -355,6 +405,7 @@ int main(void) {
     wrong_number_of_words();
     single_numbers();
     words_only_read();
+    boxes();
     runs_upward();
     runs_downward();
     largest();

@@ -16,7 +16,7 @@ uint64_t old_tpn_read(const uint8_t *, size_t);
 uint64_t old_tpn_fresh(const uint8_t *, size_t, uint16_t *, size_t);
 uint64_t old_tpn_step(const uint8_t *, size_t, uint16_t *, size_t, uint16_t, uint16_t);
 
-enum { ROUNDS = 100, CALLS = 200, FUNCTION = 16, AND_OPEN = 17, BRANCH = 18, AND_CLOSE = 19, LP_OPEN = 24, LP_CLOSE = 25, END = 27 };
+enum { ROUNDS = 100, CALLS = 200, FUNCTION = 16, AND_OPEN = 17, BRANCH = 18, AND_CLOSE = 19, OR_OPEN = 20, OR_CLOSE = 21, LP_OPEN = 24, LP_CLOSE = 25, LE = 26, END = 27 };
 
 /* A plant, its fresh states, and its net by the old library. */
 static uint8_t file[8192], net[EFFBD_NET_ROOM], area[EFFBD_NET_ROOM];
@@ -67,6 +67,15 @@ static void loops(int count, int functions) {
     for (int number = 0; number < functions; number++) function(2);
     for (int number = 0; number < count; number++) row(LP_CLOSE);
     row(END);
+    first_step = 0;
+}
+
+/* An LP around an OR of so many branches, each a FUNCTION that uses two items and an LE. */
+static void left_loop(int count) {
+    head(3 * count + 5, 2);
+    row(LP_OPEN), row(OR_OPEN);
+    for (int number = 0; number < count; number++) row(BRANCH), function(2), row(LE);
+    row(OR_CLOSE), row(LP_CLOSE), row(END);
     first_step = 0;
 }
 
@@ -154,5 +163,7 @@ int main(void) {
     branches(30), compare_plant("AND of 30");
     loops(3, 4), compare_plant("3 loops");
     loops(12, 39), compare_plant("12 loops");
+    left_loop(3), compare_plant("OR of 3 LE");
+    left_loop(19), compare_plant("OR of 19 LE");
     return sink == 1;
 }

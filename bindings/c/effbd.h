@@ -13,10 +13,10 @@
  *     uint64_t answer = effbd_step(file, file_count, state, state_count, EFFBD_WAIT, 20);
  *     if (effbd_number(answer) == EFFBD_WAIT_HELD) { .. a step is due before time may pass .. }
  *
- * Order of refusals. A file is looked at first (1 to 9; 43 right after 5 at the same record, 44 between 7 and 8 at the same row; 45 where no
- * row is refused), then the number of words of a state (20), its words (20), the move (21 to 26), the leader's count (27), the area (10).
- * The follower looks at the telegram (30 to 33) before all of these. Of a log, after the file: its length (40), the row (41), its moves
- * (42). Of a run of telegrams each telegram in its turn (30, 46, 47), then the area (10).
+ * Order of refusals. A file is looked at first (1 to 9; 43 right after 5 at the same record, 44 between 7 and 8 and 48 between 8 and 9 at the
+ * same row; where no row is refused 49, 50, 45), then the number of words of a state (20), its words (20), the move (21 to 26), the leader's
+ * count (27), the area (10). The follower looks at the telegram (30 to 33) before all of these. Of a log, after the file: its length (40),
+ * the row (41), its moves (42). Of a run of telegrams each telegram in its turn (30, 46, 47), then the area (10).
  */
 #ifndef EFFBD_H
 #define EFFBD_H
@@ -80,6 +80,9 @@ enum effbd_refusal {
     EFFBD_LOOP_SPENDS_NO_TIME = 45,
     EFFBD_NUMBER_NOT_NEXT = 46,
     EFFBD_STATION_DIFFERS = 47,
+    EFFBD_BOX_EXIT_MISPLACED = 48,
+    EFFBD_OUTLETS_UNMATCHED = 49,
+    EFFBD_SCENARIO_FALLS_THROUGH = 50,
 };
 
 /* Number (EFFBD_ACCEPTED or a refusal) and value of an answer. */
@@ -203,6 +206,9 @@ static inline const char *effbd_words(uint32_t number) {
     case EFFBD_LOOP_SPENDS_NO_TIME: return "loop spends no time";
     case EFFBD_NUMBER_NOT_NEXT: return "number not one above the last, or past 4,294,967,295";
     case EFFBD_STATION_DIFFERS: return "station differs from the first";
+    case EFFBD_BOX_EXIT_MISPLACED: return "EXIT misplaced";
+    case EFFBD_OUTLETS_UNMATCHED: return "outlets and EXIT rows not one to one";
+    case EFFBD_SCENARIO_FALLS_THROUGH: return "a scenario falls through";
     default: return "no number of the table";
     }
 }

@@ -4,19 +4,23 @@ use crate::calls::{self, equal, hex, End};
 use crate::met::{Met, Sight};
 use crate::Verdict;
 use model::bus::{Telegram, TELEGRAM_LENGTH};
-use model::diagram::{Row, MOST_ROWS};
+use model::diagram::{Diagram, Row, MOST_ROWS};
 use model::diagram_step::{activity, check, fresh_state, moved, IDLE, READY, STEP};
 use model::editions::OLD_TELEGRAM_LENGTH;
+use model::exits::{exit_by, has_boxes};
 use model::generate::{
-    accepted_log, bus_list, crowded_diagram, damaged_diagram, damaged_log, damaged_net, diagram,
-    first_number, foreign_net, killing_diagram, lasting_diagram, lasting_killing_diagram,
-    lasting_trigger_diagram, looping_diagram, net_state, odd_state, old_run, passing_state,
-    round_log, run, timeless_diagram, walk, Random,
+    accepted_log, boxed_diagram, bus_list, crowded_diagram, damaged_diagram, damaged_log,
+    damaged_net, diagram, first_number, foreign_net, killing_diagram, lasting_box_diagram,
+    lasting_diagram, lasting_killing_diagram, lasting_trigger_diagram, leaky_diagram,
+    looping_diagram, net_state, odd_box_diagram, odd_state, old_run, passing_state, round_log, run,
+    timeless_diagram, walk, Random,
 };
 use model::history::{moves_to_try, Call, History};
 use model::kills::{has_kills, kill_by};
 use model::logs::{Log, MOST_MOVES};
-use model::refusal::LOOP_SPENDS_NO_TIME;
+use model::refusal::{
+    BOX_EXIT_MISPLACED, LOOP_SPENDS_NO_TIME, OUTLETS_UNMATCHED, SCENARIO_FALLS_THROUGH,
+};
 use model::translate::net_of;
 
 /// A kind of case.
@@ -49,16 +53,20 @@ fn plant(random: &mut Random) -> Vec<u8> {
         0 => crowded_diagram(random),
         1..=15 => killing_diagram(random),
         16..=20 => looping_diagram(random),
+        21..=40 => boxed_diagram(random),
         _ => diagram(random),
     }
 }
 
-/// A file: accepted, with loops that may spend no time, damaged, or any bytes.
+/// A file: accepted, with loops that may spend no time, with scenarios that may fall through, with something done to its boxes, damaged, or
+/// any bytes.
 fn any_diagram(random: &mut Random) -> Vec<u8> {
-    match random.below(10) {
+    match random.below(15) {
         0..=3 => plant(random),
         4 | 5 => timeless_diagram(random),
-        6..=8 => damaged_diagram(random),
+        6 | 7 => leaky_diagram(random),
+        8..=10 => odd_box_diagram(random),
+        11..=13 => damaged_diagram(random),
         _ => {
             let length = random.below(200);
             random.bytes(length)
@@ -71,6 +79,8 @@ fn likely_diagram(random: &mut Random) -> Vec<u8> {
     match random.below(20) {
         0 | 1 => any_diagram(random),
         2 => timeless_diagram(random),
+        3 => leaky_diagram(random),
+        4 | 5 => odd_box_diagram(random),
         _ => plant(random),
     }
 }
@@ -129,7 +139,7 @@ fn any_length(random: &mut Random, right: usize) -> usize {
 
 fn diagram_file(random: &mut Random, met: &mut Met) -> Verdict {
     let file = any_diagram(random);
-    note_sights(met, "read and translate", &file, kills_of(&file));
+    note_sights(met, "read and translate", &file, Sought::of_plant(&file));
     calls::read_diagram(met, &file)?;
     let needed = net_of(&file).map_or(20, |net| net.len());
     let length = any_net_area_length(random, needed);
@@ -142,7 +152,7 @@ fn diagram_file(random: &mut Random, met: &mut Met) -> Verdict {
 /// Any area for the net, and one for the text that is near the text's length or far from it.
 fn annex_text(random: &mut Random, met: &mut Met) -> Verdict {
     let file = any_diagram(random);
-    note_sights(met, "annex", &file, kills_of(&file));
+    note_sights(met, "annex", &file, Sought::of_plant(&file));
     let needed = net_of(&file).map_or(20, |net| net.len());
     let length = any_net_area_length(random, needed);
     let net = any_area(random, length);
@@ -163,20 +173,20 @@ fn uses_of_rows(random: &mut Random, met: &mut Met) -> Verdict {
     } else {
         any_diagram(random)
     };
-    note_sights(met, "uses", &file, kills_of(&file));
+    note_sights(met, "uses", &file, Sought::of_plant(&file));
     for row in rows_and_others(random, &file) {
         calls::uses(&file, row)?;
     }
     Ok(())
 }
 
-/// A state reached where some move kills, or else the last of a long walk.
-fn state_before_kill(random: &mut Random, file: &[u8]) -> Vec<u16> {
+/// A state reached where some move kills or leaves a box, or else the last of a long walk.
+fn state_before_sought(random: &mut Random, file: &[u8]) -> Vec<u16> {
     let mut states = walk(random, file, 40);
     let steps: Vec<_> = (0..MOST_ROWS as u16).map(|row| (STEP, row)).collect();
-    if kills_of(file) > 0 {
-        let killing = |state: &&Vec<u16>| kills_among(file, state, &steps) > 0;
-        let before: Vec<_> = states.iter().filter(killing).cloned().collect();
+    if Sought::of_plant(file).any() {
+        let sought = |state: &&Vec<u16>| Sought::among(file, state, &steps).any();
+        let before: Vec<_> = states.iter().filter(sought).cloned().collect();
         if !before.is_empty() {
             states = before;
             states.truncate(random.below(states.len()) + 1);
@@ -189,7 +199,7 @@ fn state_before_kill(random: &mut Random, file: &[u8]) -> Vec<u16> {
 fn any_state(random: &mut Random, file: &[u8]) -> Vec<u16> {
     match random.below(8) {
         0..=2 => walk(random, file, 12).pop().unwrap_or_default(),
-        3 => state_before_kill(random, file),
+        3 => state_before_sought(random, file),
         4..=5 => passing_state(random, file),
         6 => odd_state(random, file),
         _ => {
@@ -199,34 +209,73 @@ fn any_state(random: &mut Random, file: &[u8]) -> Vec<u16> {
     }
 }
 
-/// 1 for a plant with branches that kill.
-fn kills_of(file: &[u8]) -> usize {
-    let kills = model::diagram::parse(file).is_ok_and(|diagram| has_kills(&diagram));
-    usize::from(kills)
+/// What plants and moves are made for.
+#[derive(Clone, Copy, Default)]
+struct Sought {
+    /// Plants with branches that kill, or moves that kill.
+    kills: usize,
+    /// Plants with boxes, or moves that leave one.
+    exits: usize,
 }
 
-/// 1 for a file that is refused for a loop that spends no time.
-fn timeless_of(file: &[u8]) -> usize {
-    let is_timeless = |refused: model::Refusal| refused.number == LOOP_SPENDS_NO_TIME;
-    usize::from(model::diagram::parse(file).is_err_and(is_timeless))
+impl Sought {
+    /// 1 of each that a plant has.
+    fn of_plant(file: &[u8]) -> Self {
+        match model::diagram::parse(file) {
+            Ok(diagram) => Sought {
+                kills: usize::from(has_kills(&diagram)),
+                exits: usize::from(has_boxes(&diagram)),
+            },
+            Err(_) => Sought::default(),
+        }
+    }
+
+    /// How many of these moves are accepted at a state and are sought.
+    fn among(file: &[u8], state: &[u16], moves: &[(u16, u16)]) -> Self {
+        let mut sought = Sought::default();
+        let Ok(diagram) = model::diagram::parse(file) else {
+            return sought;
+        };
+        for (code, argument) in moves {
+            if model::diagram_step::after(&diagram, state, *code, *argument).is_ok() {
+                sought.count(&diagram, state, (*code, *argument));
+            }
+        }
+        sought
+    }
+
+    /// Counts a move that is accepted at a state.
+    fn count(&mut self, diagram: &Diagram, state: &[u16], made: (u16, u16)) {
+        self.kills += usize::from(kill_by(diagram, state, made).is_some());
+        self.exits += usize::from(exit_by(diagram, made).is_some());
+    }
+
+    fn any(self) -> bool {
+        self.kills + self.exits > 0
+    }
+
+    fn note(self, met: &mut Met, call: &'static str) {
+        met.note_sight(Sight::Kills, call, self.kills);
+        met.note_sight(Sight::Exits, call, self.exits);
+    }
 }
+
+/// What files are made to be refused for.
+const FILES_REFUSED: [u32; 4] = [
+    LOOP_SPENDS_NO_TIME,
+    BOX_EXIT_MISPLACED,
+    OUTLETS_UNMATCHED,
+    SCENARIO_FALLS_THROUGH,
+];
 
 /// Notes what a call that reads this file meets.
-fn note_sights(met: &mut Met, call: &'static str, file: &[u8], kills: usize) {
-    met.note_sight(Sight::Kills, call, kills);
-    met.note_sight(Sight::TimelessLoop, call, timeless_of(file));
-}
-
-/// How many of these moves are accepted at a state and kill.
-fn kills_among(file: &[u8], state: &[u16], moves: &[(u16, u16)]) -> usize {
-    let Ok(diagram) = model::diagram::parse(file) else {
-        return 0;
-    };
-    let kills = |(code, argument): &&(u16, u16)| {
-        model::diagram_step::after(&diagram, state, *code, *argument).is_ok()
-            && kill_by(&diagram, state, (*code, *argument)).is_some()
-    };
-    moves.iter().filter(kills).count()
+fn note_sights(met: &mut Met, call: &'static str, file: &[u8], sought: Sought) {
+    sought.note(met, call);
+    let refused = model::diagram::parse(file).err();
+    for number in FILES_REFUSED {
+        let is_met = refused.is_some_and(|refused| refused.number == number);
+        met.note_sight(Sight::Refused(number), call, usize::from(is_met));
+    }
 }
 
 /// Every move worth trying at a state, and some of any code.
@@ -242,8 +291,8 @@ fn diagram_steps(random: &mut Random, met: &mut Met) -> Verdict {
     let file = likely_diagram(random);
     let state = any_state(random, &file);
     let moves = moves(random, &file, &state);
-    let kills = kills_among(&file, &state, &moves);
-    note_sights(met, "diagram step", &file, kills);
+    let sought = Sought::among(&file, &state, &moves);
+    note_sights(met, "diagram step", &file, sought);
     for (code, argument) in moves {
         calls::step_diagram(met, &file, &state, code, argument)?;
     }
@@ -288,8 +337,7 @@ fn plant_net_steps(random: &mut Random, met: &mut Met) -> Verdict {
     let state = any_state(random, &file);
     let marks = model::image::image(&file, &state).unwrap_or_default();
     let moves = moves(random, &file, &state);
-    let kills = kills_among(&file, &state, &moves);
-    met.note_sight(Sight::Kills, "net step", kills);
+    Sought::among(&file, &state, &moves).note(met, "net step");
     for (code, argument) in moves {
         calls::step_net(met, &net, &marks, code, argument)?;
     }
@@ -349,8 +397,8 @@ fn bus_ends(random: &mut Random, met: &mut Met) -> Verdict {
     };
     let marks = model::image::image(&file, &state).unwrap_or_default();
     let moves = moves(random, &file, &state);
-    let kills = kills_among(&file, &state, &moves);
-    note_sights(met, "offer and take", &file, kills);
+    let sought = Sought::among(&file, &state, &moves);
+    note_sights(met, "offer and take", &file, sought);
     for made in moves {
         let end = End {
             count: any_count(random),
@@ -443,7 +491,7 @@ fn play(met: &mut Met, file: &[u8], station: u16, list: &[Call]) -> Verdict {
     let history = model::history::history(file, station, list).map_err(refused)?;
     for (state, telegram) in history.states.iter().zip(&history.telegrams) {
         let made = (telegram.code, telegram.argument);
-        met.note_sight(Sight::Kills, "list", kills_among(file, state, &[made]));
+        Sought::among(file, state, &[made]).note(met, "list");
     }
     let due = areas_due(list, &history);
     equal("accepted and taken, call by call", &history.counted, &seen)?;
@@ -464,12 +512,14 @@ fn logging_diagram(random: &mut Random) -> Vec<u8> {
     let row_count = match random.below(10) {
         0..=5 => 4 + random.below(12),
         6 => 4 + random.below(61),
-        7..=8 => return likely_diagram(random),
+        7 => return likely_diagram(random),
+        8 => return odd_box_diagram(random),
         _ => return any_diagram(random),
     };
-    match random.below(8) {
+    match random.below(10) {
         0 | 1 => lasting_trigger_diagram(random, row_count),
         2 | 3 => lasting_killing_diagram(random, row_count),
+        4 | 5 => lasting_box_diagram(random, row_count + 12),
         _ => lasting_diagram(random, row_count),
     }
 }
@@ -531,22 +581,21 @@ fn rows_to_ask(random: &mut Random, file: &[u8]) -> Vec<u16> {
     asked
 }
 
-/// How many of the first moves of a log kill.
-fn kills_in_log(file: &[u8], log: &[u8]) -> usize {
+/// What is sought among the first moves of a log.
+fn sought_in_log(file: &[u8], log: &[u8]) -> Sought {
+    let mut sought = Sought::default();
     let (Ok(diagram), Ok(log)) = (model::diagram::parse(file), Log::read(log)) else {
-        return 0;
+        return sought;
     };
     let mut state = fresh_state(&diagram);
-    let mut kills = 0;
     for made in log.moves().take(40) {
         let Ok(next) = moved(&diagram, &state, made.code, made.argument) else {
             break;
         };
-        let kill = kill_by(&diagram, &state, (made.code, made.argument));
-        kills += usize::from(kill.is_some());
+        sought.count(&diagram, &state, (made.code, made.argument));
         state = next;
     }
-    kills
+    sought
 }
 
 fn starts_in_logs(random: &mut Random, met: &mut Met) -> Verdict {
@@ -558,7 +607,7 @@ fn starts_in_logs(random: &mut Random, met: &mut Met) -> Verdict {
         let log = any_log(random, &file);
         (file, log)
     };
-    note_sights(met, "log", &file, kills_in_log(&file, &log));
+    note_sights(met, "log", &file, sought_in_log(&file, &log));
     for row in rows_to_ask(random, &file) {
         calls::log_starts(met, &file, &log, row, random.draw() as u32)?;
     }
@@ -661,7 +710,7 @@ fn row_asked(file: &[u8], state: &[u16], row: u16) -> Option<&'static str> {
 fn transitions_of_rows(random: &mut Random, met: &mut Met) -> Verdict {
     let file = likely_diagram(random);
     let state = any_state(random, &file);
-    note_sights(met, "transition", &file, kills_of(&file));
+    note_sights(met, "transition", &file, Sought::of_plant(&file));
     for row in rows_and_others(random, &file) {
         let asked = row_asked(&file, &state, row);
         for name in ROWS {

@@ -1,5 +1,6 @@
-//! Which answers a run has met, held against the list of refusals, and which calls have met what they should: kills, loops that spend no time,
-//! each answer that runs of telegrams and a row's transition can have, each kind of row that a transition is asked of.
+//! Which answers a run has met, held against the list of refusals, and which calls have met what they should: kills, boxes that are left, files
+//! that are refused for their loops or boxes, each answer that runs of telegrams and a row's transition can have, each kind of row that a
+//! transition is asked of.
 
 use effbd::Answer;
 use std::collections::BTreeMap;
@@ -21,8 +22,10 @@ pub fn listed() -> impl Iterator<Item = (u32, &'static str)> {
 pub enum Sight {
     /// A plant with branches that kill, or a move that kills.
     Kills,
-    /// A file that is refused for a loop that spends no time.
-    TimelessLoop,
+    /// A plant with boxes, or a move that leaves one.
+    Exits,
+    /// A file that is refused with this number: every call that reads files should meet it.
+    Refused(u32),
     /// A row of this kind and activity, or none, asked at a state that passes.
     Row(&'static str),
     /// An answer of this number, 0 accepted: `times` cannot tell whether this call had it, since others have such answers too.

@@ -1,5 +1,5 @@
-//! A short run of every kind of case, which meets every refusal of the list, and with every call what it should meet: kills, loops that spend no
-//! time, each answer to a run of telegrams, each kind of row.
+//! A short run of every kind of case, which meets every refusal of the list, and with every call what it should meet: kills, boxes that are left,
+//! files that are refused for their loops or boxes, each answer to a run of telegrams, each kind of row.
 
 use compare::cases::KINDS;
 use compare::met::Met;

@@ -1,14 +1,17 @@
 //! Diagram files: "Diagram records" (refusals 1 to 6) and "Nesting" (7 to 9);
 //! document 02's requests 2, "Triggers reach everyone" (43), 3, "Branches that
-//! kill" (44), and 4, "Loops that spend no time" (45).
+//! kill" (44), 4, "Loops that spend no time" (45), and 7, "Boxes that open" (48
+//! to 50).
 
 use crate::records::{
-    record, word, Reader, Record, AND_CLOSE, AND_OPEN, BRANCH, END, FUNCTION, HEAD, ITEM, IT_CLOSE,
-    IT_OPEN, KILLING_BRANCH, LOOP_EXIT, LP_CLOSE, LP_OPEN, OR_CLOSE, OR_OPEN, TRIGGER, USE_LENGTH,
+    record, word, Reader, Record, AND_CLOSE, AND_OPEN, BOX_CLOSE, BOX_OPEN, BRANCH, END, EXIT,
+    FUNCTION, HEAD, ITEM, IT_CLOSE, IT_OPEN, KILLING_BRANCH, LOOP_EXIT, LP_CLOSE, LP_OPEN,
+    OR_CLOSE, OR_OPEN, TRIGGER, USE_LENGTH,
 };
 use crate::refusal::{
-    refusal, Answer, Refusal, FIELD_OFF, HEAD_VALUE_OFF, KILLING_BRANCH_EMPTY, LOOP_EXIT_MISPLACED,
-    LOOP_SPENDS_NO_TIME, NESTING_BROKEN, TOO_MANY_OPEN, TRIGGER_OFF,
+    refusal, Answer, Refusal, BOX_EXIT_MISPLACED, FIELD_OFF, HEAD_VALUE_OFF, KILLING_BRANCH_EMPTY,
+    LOOP_EXIT_MISPLACED, LOOP_SPENDS_NO_TIME, NESTING_BROKEN, OUTLETS_UNMATCHED,
+    SCENARIO_FALLS_THROUGH, TOO_MANY_OPEN, TRIGGER_OFF,
 };
 use std::ops::{Range, RangeInclusive};
 
@@ -16,7 +19,7 @@ pub const EDITION: u16 = 1;
 pub const MOST_ROWS: usize = 64;
 pub const MOST_ITEMS: usize = 16;
 /// Kinds of rows.
-pub const ROW_KINDS: RangeInclusive<u16> = FUNCTION..=KILLING_BRANCH;
+pub const ROW_KINDS: RangeInclusive<u16> = FUNCTION..=EXIT;
 /// "At most 12 open together."
 pub const MOST_OPEN: usize = 12;
 
@@ -24,7 +27,7 @@ pub const MOST_OPEN: usize = 12;
 pub struct Diagram<'a> {
     pub items: Vec<Item>,
     pub rows: Vec<Row<'a>>,
-    /// Every AND, OR, IT and LP, in the order of their opens.
+    /// Every AND, OR, IT, LP and box, in the order of their opens.
     pub constructs: Vec<Construct>,
 }
 
@@ -69,6 +72,18 @@ pub enum Row<'a> {
     LpClose(usize),
     /// LE, with its loop: "the innermost open LP".
     LoopExit(usize),
+    /// "Row 29 opens" a box.
+    BoxOpen(usize),
+    /// A BRANCH of a box, one of "its outlets".
+    Outlet(usize),
+    /// "Row 30 closes it."
+    BoxClose(usize),
+    /// EXIT, with its box, "the innermost whose scenario it is in", and the
+    /// outlet that its field names.
+    Exit {
+        construct: usize,
+        outlet: usize,
+    },
     End,
 }
 
@@ -100,14 +115,15 @@ impl Function<'_> {
     }
 }
 
-/// An AND, OR, IT or LP, by its rows.
+/// An AND, OR, IT, LP or box, by its rows.
 #[derive(Clone, Debug)]
 pub struct Construct {
     /// Kind of its open.
     pub kind: u16,
     pub open: usize,
     pub close: usize,
-    /// BRANCH rows of an AND or OR.
+    /// BRANCH rows of an AND or OR; of a box "its outlets, numbered upward, the
+    /// first 0".
     pub branches: Vec<usize>,
 }
 
@@ -117,8 +133,35 @@ impl Construct {
         self.open + 1..self.close
     }
 
-    fn has_branches(&self) -> bool {
+    /// Rows of an accepted box "from 29 to before the first outlet's BRANCH".
+    pub fn box_and_scenario(&self) -> Range<usize> {
+        self.open..self.branches[0]
+    }
+
+    /// The run of an accepted box's scenario.
+    fn scenario(&self) -> Range<usize> {
+        self.open + 1..self.branches[0]
+    }
+
+    /// The run of each branch with its BRANCH row.
+    fn runs(&self) -> impl Iterator<Item = (usize, Range<usize>)> + '_ {
+        let ends = self.branches.iter().skip(1).chain([&self.close]);
+        let runs = self.branches.iter().zip(ends);
+        runs.map(|(branch, end)| (*branch, branch + 1..*end))
+    }
+
+    fn is_and_or_or(&self) -> bool {
         self.kind == AND_OPEN || self.kind == OR_OPEN
+    }
+
+    fn is_box(&self) -> bool {
+        self.kind == BOX_OPEN
+    }
+
+    /// While it is open: a box none of whose outlets has come yet, so that a row
+    /// here is its scenario's.
+    fn is_in_scenario(&self) -> bool {
+        self.is_box() && self.branches.is_empty()
     }
 
     fn close_kind(&self) -> u16 {
@@ -126,6 +169,7 @@ impl Construct {
             AND_OPEN => AND_CLOSE,
             OR_OPEN => OR_CLOSE,
             IT_OPEN => IT_CLOSE,
+            BOX_OPEN => BOX_CLOSE,
             _ => LP_CLOSE,
         }
     }
@@ -215,8 +259,9 @@ impl Diagram<'_> {
 
     /// What entering row s changes: the BRANCH row of the branch just ended for a
     /// BRANCH or close of an AND, or all of the AND if that branch kills; the OR
-    /// close for a BRANCH or close of an OR; otherwise s. (The first BRANCH of an
-    /// AND is never entered.)
+    /// close for a BRANCH or close of an OR, and row 30 likewise for "a box's
+    /// BRANCH or row 30"; otherwise s. (The first BRANCH of an AND is never
+    /// entered.)
     pub fn entered(&self, row: usize) -> Entered<'_> {
         match self.rows[row] {
             Row::AndBranch { construct, .. } | Row::AndClose(construct) => {
@@ -228,9 +273,10 @@ impl Diagram<'_> {
                     _ => Entered::Row(ended),
                 }
             }
-            Row::OrBranch(construct) | Row::OrClose(construct) => {
-                Entered::Row(self.constructs[construct].close)
-            }
+            Row::OrBranch(construct)
+            | Row::OrClose(construct)
+            | Row::Outlet(construct)
+            | Row::BoxClose(construct) => Entered::Row(self.constructs[construct].close),
             _ => Entered::Row(row),
         }
     }
@@ -271,7 +317,7 @@ pub fn uses_place(file: &[u8], row: u16) -> (usize, usize) {
 }
 
 /// Head, items, rows, nothing behind them; then the nesting of the rows; then
-/// the loops' time.
+/// boxes and the loops' time.
 pub fn parse(file: &[u8]) -> Result<Diagram<'_>, Refusal> {
     let mut reader = Reader::new(file);
     let head = reader.due(|kind| kind == HEAD, 0)?;
@@ -294,14 +340,13 @@ pub fn parse(file: &[u8]) -> Result<Diagram<'_>, Refusal> {
         return Err(reader.refuse_more());
     }
     let (rows, constructs) = nest(&records)?;
-    if let Some(timeless) = timeless_loop(&rows, &constructs) {
-        return Err(refusal(LOOP_SPENDS_NO_TIME, timeless.open));
-    }
     let mut diagram = Diagram {
         items,
         rows,
         constructs,
     };
+    diagram.judge_boxes()?;
+    diagram.judge_loops()?;
     diagram.add_receivers();
     Ok(diagram)
 }
@@ -362,7 +407,8 @@ fn triggers_hold(function: &Function, items: &[Item]) -> bool {
     })
 }
 
-/// Rows and constructs; "rows upward, at a row 7, 8, 9", 44 "between 7 and 8".
+/// Rows and constructs; "rows upward, at a row 7, 8, 9", 44 "between 7 and 8", 48
+/// "after 8".
 fn nest<'a>(records: &[Record<'a>]) -> Result<(Vec<Row<'a>>, Vec<Construct>), Refusal> {
     let mut nesting = Nesting {
         open: [0; MOST_OPEN],
@@ -411,6 +457,7 @@ impl Nesting {
                 count: record.field(0),
             },
             LP_OPEN => Row::LpOpen(self.open(number, LP_OPEN)?),
+            BOX_OPEN => Row::BoxOpen(self.open(number, BOX_OPEN)?),
             BRANCH => self.branch(number, false).ok_or(broken)?,
             KILLING_BRANCH => {
                 let branch = self.branch(number, true).ok_or(broken)?;
@@ -423,9 +470,17 @@ impl Nesting {
             OR_CLOSE => Row::OrClose(self.close(number, OR_CLOSE).ok_or(broken)?),
             IT_CLOSE => Row::ItClose(self.close(number, IT_CLOSE).ok_or(broken)?),
             LP_CLOSE => Row::LpClose(self.close(number, LP_CLOSE).ok_or(broken)?),
+            BOX_CLOSE => Row::BoxClose(self.close(number, BOX_CLOSE).ok_or(broken)?),
             LOOP_EXIT => {
                 let misplaced = refusal(LOOP_EXIT_MISPLACED, number);
                 Row::LoopExit(self.loop_exit(next_kind).ok_or(misplaced)?)
+            }
+            EXIT => {
+                let misplaced = refusal(BOX_EXIT_MISPLACED, number);
+                Row::Exit {
+                    construct: self.exit(next_kind).ok_or(misplaced)?,
+                    outlet: usize::from(record.field(0)),
+                }
             }
             // END, the one kind left: "with nothing open".
             _ if self.depth == 0 => Row::End,
@@ -443,9 +498,15 @@ impl Nesting {
             .map(|index| &self.constructs[*index])
     }
 
+    /// Those still open with their indices, the innermost first.
+    fn outward(&self) -> impl Iterator<Item = (usize, &Construct)> {
+        let indices = self.still_open().iter().rev();
+        indices.map(|index| (*index, &self.constructs[*index]))
+    }
+
     fn awaits_branch(&self) -> bool {
         self.innermost()
-            .is_some_and(|inner| inner.has_branches() && inner.branches.is_empty())
+            .is_some_and(|inner| inner.is_and_or_or() && inner.branches.is_empty())
     }
 
     /// Opens a construct, unless 12 are open.
@@ -465,8 +526,8 @@ impl Nesting {
         Ok(index)
     }
 
-    /// "A BRANCH needs an innermost open AND or OR"; one that kills an AND, "in
-    /// an OR it is 7".
+    /// "A BRANCH needs an innermost open AND or OR", or box; one that kills an
+    /// AND, "in an OR it is 7", as an outlet too.
     fn branch<'a>(&mut self, row: usize, kills: bool) -> Option<Row<'a>> {
         let index = *self.still_open().last()?;
         let construct = &mut self.constructs[index];
@@ -476,6 +537,7 @@ impl Nesting {
                 kills,
             },
             OR_OPEN if !kills => Row::OrBranch(index),
+            BOX_OPEN if !kills => Row::Outlet(index),
             _ => return None,
         };
         construct.branches.push(row);
@@ -489,14 +551,15 @@ impl Nesting {
     }
 
     /// "A close needs its own kind innermost"; an AND or OR "has two BRANCH
-    /// rows or more".
+    /// rows or more", and a box has "two or more".
     fn close(&mut self, row: usize, kind: u16) -> Option<usize> {
         let index = *self.still_open().last()?;
         let construct = &mut self.constructs[index];
         if construct.close_kind() != kind {
             return None;
         }
-        if construct.has_branches() && construct.branches.len() < 2 {
+        let has_branches = construct.is_and_or_or() || construct.is_box();
+        if has_branches && construct.branches.len() < 2 {
             return None;
         }
         construct.close = row;
@@ -505,23 +568,114 @@ impl Nesting {
     }
 
     /// "An LE needs an innermost open AND or OR, some open LP, and a BRANCH or
-    /// that construct's close as next row." Its loop, if it has all this.
+    /// that construct's close as next row." Its loop, if it has all this, which
+    /// "must lie in the LE's own scenario": no other scenario's border between.
     fn loop_exit(&self, next_kind: Option<u16>) -> Option<usize> {
-        if !self.innermost()?.has_branches() || !self.ends_branch(next_kind) {
+        if !self.innermost()?.is_and_or_or() || !self.ends_branch(next_kind) {
             return None;
         }
-        let is_loop = |index: &&usize| self.constructs[**index].kind == LP_OPEN;
-        self.still_open().iter().rev().find(is_loop).copied()
+        let mut in_own_scenario = self
+            .outward()
+            .take_while(|(_, each)| !each.is_in_scenario());
+        let found = in_own_scenario.find(|(_, each)| each.kind == LP_OPEN);
+        found.map(|(index, _)| index)
+    }
+
+    /// "EXIT belongs to the innermost box whose scenario it is in." None where
+    /// there is no such box, "or innermost open construct IT or LP, or next row not
+    /// BRANCH or that construct's close".
+    fn exit(&self, next_kind: Option<u16>) -> Option<usize> {
+        let innermost = self.innermost()?.kind;
+        if innermost == IT_OPEN || innermost == LP_OPEN || !self.ends_branch(next_kind) {
+            return None;
+        }
+        let found = self.outward().find(|(_, each)| each.is_in_scenario());
+        found.map(|(index, _)| index)
     }
 }
 
-/// The lowest "LP with no FUNCTION of α at least 1 between open and close", at
-/// any depth.
-fn timeless_loop<'a>(rows: &[Row], constructs: &'a [Construct]) -> Option<&'a Construct> {
-    let mut loops = constructs
-        .iter()
-        .filter(|construct| construct.kind == LP_OPEN);
-    loops.find(|lp| !rows[lp.inside()].iter().any(spends_time))
+impl Diagram<'_> {
+    /// 49, then 50, "each at its lowest box, after the walk and before 45".
+    fn judge_boxes(&self) -> Result<(), Refusal> {
+        let constructs = self.constructs.iter().enumerate();
+        let boxes = constructs.filter(|(_, each)| each.is_box());
+        for (index, each) in boxes.clone() {
+            if !self.is_one_to_one(index) {
+                return Err(refusal(OUTLETS_UNMATCHED, each.open));
+            }
+        }
+        for (_, each) in boxes {
+            if self.falls_through(each.scenario()) {
+                return Err(refusal(SCENARIO_FALLS_THROUGH, each.open));
+            }
+        }
+        Ok(())
+    }
+
+    /// A box's "outlets and EXIT rows" are one to one: each outlet is named once,
+    /// and none that there is not.
+    fn is_one_to_one(&self, index: usize) -> bool {
+        let found = &self.constructs[index];
+        let mut is_named = vec![false; found.branches.len()];
+        for row in &self.rows[found.scenario()] {
+            match row {
+                Row::Exit { construct, outlet } if *construct == index => {
+                    match is_named.get_mut(*outlet) {
+                        Some(named) if !*named => *named = true,
+                        _ => return false,
+                    }
+                }
+                _ => {}
+            }
+        }
+        !is_named.contains(&false)
+    }
+
+    /// "A run falls through unless its last construct is EXIT, LE, LP (one that no
+    /// LE leaves), an OR none of whose branches fall through, or an AND with one
+    /// that doesn't and no killing branch that does." An empty one has no last
+    /// construct. The last construct's last row tells which it is.
+    fn falls_through(&self, run: Range<usize>) -> bool {
+        match self.rows[run].last() {
+            Some(Row::Exit { .. } | Row::LoopExit(_)) => false,
+            Some(Row::LpClose(index)) => self.is_left(*index),
+            Some(Row::OrClose(index)) => {
+                let mut runs = self.constructs[*index].runs();
+                runs.any(|(_, run)| self.falls_through(run))
+            }
+            Some(Row::AndClose(index)) => self.and_falls_through(&self.constructs[*index]),
+            _ => true,
+        }
+    }
+
+    /// All branches fall through, or a killing one does.
+    fn and_falls_through(&self, and: &Construct) -> bool {
+        let mut all_fall = true;
+        for (branch, run) in and.runs() {
+            let falls = self.falls_through(run);
+            if falls && matches!(self.rows[branch], Row::AndBranch { kills: true, .. }) {
+                return true;
+            }
+            all_fall &= falls;
+        }
+        all_fall
+    }
+
+    /// Some LE leaves this LP.
+    fn is_left(&self, index: usize) -> bool {
+        let mut inside = self.rows[self.constructs[index].inside()].iter();
+        inside.any(|row| matches!(row, Row::LoopExit(left) if *left == index))
+    }
+
+    /// 45 at the lowest "LP with no FUNCTION of α at least 1 between open and
+    /// close", at any depth.
+    fn judge_loops(&self) -> Result<(), Refusal> {
+        let mut loops = self.constructs.iter().filter(|each| each.kind == LP_OPEN);
+        match loops.find(|lp| !self.rows[lp.inside()].iter().any(spends_time)) {
+            Some(timeless) => Err(refusal(LOOP_SPENDS_NO_TIME, timeless.open)),
+            None => Ok(()),
+        }
+    }
 }
 
 fn spends_time(row: &Row) -> bool {

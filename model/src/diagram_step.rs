@@ -1,5 +1,6 @@
 //! "Diagram state and moves": fresh states, the state check 20, steps and
-//! waits with refusals 21 to 26; document 02's request 3, "Branches that kill".
+//! waits with refusals 21 to 26; document 02's requests 3, "Branches that kill",
+//! and 7, "Boxes that open".
 
 use crate::diagram::{parse, Construct, Diagram, Entered, Function, Item, Row};
 use crate::refusal::{
@@ -102,12 +103,12 @@ pub fn check(diagram: &Diagram, state: &[u16]) -> Result<(), Refusal> {
 }
 
 /// "Activities: FUNCTION 0 to 2, BRANCH of AND 0 and 3, other BRANCH and AND
-/// close 0, the rest 0 and 1."
+/// close 0, the rest 0 and 1." A box's outlets are other BRANCH rows.
 fn has_activity(row: &Row, value: u16) -> bool {
     match row {
         Row::Function(_) => value <= RUNNING,
         Row::AndBranch { .. } => value == IDLE || value == DONE,
-        Row::OrBranch(_) | Row::AndClose(_) => value == IDLE,
+        Row::OrBranch(_) | Row::Outlet(_) | Row::AndClose(_) => value == IDLE,
         _ => value == IDLE || value == READY,
     }
 }
@@ -184,7 +185,8 @@ fn stepped(diagram: &Diagram, state: &[u16], argument: u16) -> Result<Vec<u16>, 
             next[activity(diagram.constructs[*construct].open)] = IDLE;
             enter(diagram, &mut next, number + 1);
         }
-        (Row::OrClose(_) | Row::LpOpen(_), READY) => {
+        // "Stepping 29 enters the scenario", "stepping 30 enters the next row".
+        (Row::OrClose(_) | Row::LpOpen(_) | Row::BoxOpen(_) | Row::BoxClose(_), READY) => {
             next[activity(number)] = IDLE;
             enter(diagram, &mut next, number + 1);
         }
@@ -206,6 +208,13 @@ fn stepped(diagram: &Diagram, state: &[u16], argument: u16) -> Result<Vec<u16>, 
             let exited = &diagram.constructs[*construct];
             clear(&mut next, exited.open..exited.close + 1);
             enter(diagram, &mut next, exited.close + 1);
+        }
+        // "EXIT clears the rows from 29 to before the first outlet's BRANCH and
+        // enters the row after its outlet's BRANCH."
+        (Row::Exit { construct, outlet }, READY) => {
+            let left = &diagram.constructs[*construct];
+            clear(&mut next, left.box_and_scenario());
+            enter(diagram, &mut next, left.branches[*outlet] + 1);
         }
         _ => return Err(not_standing),
     }

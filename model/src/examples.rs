@@ -5,8 +5,8 @@ use crate::diagram::{file, file_of, function_record, MOST_ITEMS, MOST_OPEN, MOST
 use crate::diagram_step::{STEP, WAIT};
 use crate::logs::log;
 use crate::records::{
-    record, AND_CLOSE, AND_OPEN, BRANCH, END, FUNCTION, ITEM, IT_CLOSE, IT_OPEN, KILLING_BRANCH,
-    LOOP_EXIT, LP_CLOSE, LP_OPEN, OR_CLOSE, OR_OPEN, TRIGGER,
+    record, AND_CLOSE, AND_OPEN, BOX_CLOSE, BOX_OPEN, BRANCH, END, EXIT, FUNCTION, ITEM, IT_CLOSE,
+    IT_OPEN, KILLING_BRANCH, LOOP_EXIT, LP_CLOSE, LP_OPEN, OR_CLOSE, OR_OPEN, TRIGGER,
 };
 
 /// Row records of length 4.
@@ -15,15 +15,25 @@ pub fn rows(kinds: &[u16]) -> Vec<Vec<u8>> {
 }
 
 /// Row records of any kind: each FUNCTION is this one, each IT open has this
-/// count.
+/// count. EXIT is `exit_to` an outlet.
 pub fn rows_with(kinds: &[u16], function: &[u8], count: u16) -> Vec<Vec<u8>> {
     let with_fields = |kind: &u16| match *kind {
         FUNCTION => function.to_vec(),
         IT_OPEN => record(IT_OPEN, &[count]),
+        kind if kind >= EXIT_TO => record(EXIT, &[kind - EXIT_TO]),
         kind => record(kind, &[]),
     };
     kinds.iter().map(with_fields).collect()
 }
+
+/// An EXIT whose field names this outlet, as a kind of row of `rows_with` and
+/// `nested`.
+pub const fn exit_to(outlet: u16) -> u16 {
+    EXIT_TO + outlet
+}
+
+/// The EXIT to outlet 0, behind the kinds that there are.
+const EXIT_TO: u16 = 200;
 
 /// A FUNCTION that spends no time, as a kind of row of `nested`.
 pub const TIMELESS: u16 = 100 + FUNCTION;
@@ -111,7 +121,8 @@ pub fn item_given_one(count: u16) -> Vec<u8> {
 }
 
 /// The longest net without triggers has 63 FUNCTIONs that take and give all 16
-/// items, 20,660 bytes; kills make none longer (tests/longest.rs).
+/// items, 20,660 bytes; neither kills nor boxes make one longer
+/// (tests/longest.rs).
 pub fn longest_plain_net() -> Vec<u8> {
     let function = function_record(0, 0, &uses_of_all(MOST_ITEMS));
     let mut rows = vec![function; MOST_ROWS - 1];
@@ -183,7 +194,7 @@ pub fn triggers_again(triggers: usize, receivers: usize) -> Vec<u8> {
 }
 
 /// The longest net of all has 63 FUNCTIONs that take and give all 16 triggers,
-/// 526,676 bytes; kills make none longer.
+/// 526,676 bytes; neither kills nor boxes make one longer.
 pub fn longest_net() -> Vec<u8> {
     triggers(MOST_ITEMS, MOST_ROWS - 1)
 }
@@ -345,6 +356,168 @@ pub fn deep_loops() -> Vec<u8> {
     let mut inside = vec![function_record(0, 9, &[]); functions - 1];
     inside.push(function_record(1, 9, &[]));
     file(&[], &in_loops(MOST_OPEN, &inside))
+}
+
+/// Fig. 1.5 of the report: F1, the decomposed function FD, F2. In FD's scenario an
+/// OR of SubFD1 and SubFD2, each with its EXIT; behind the outlets Fa and Fb.
+pub fn decomposed() -> Vec<u8> {
+    let rows = trip_rows(&[
+        FUNCTION,
+        BOX_OPEN,
+        OR_OPEN,
+        BRANCH,
+        FUNCTION,
+        exit_to(0),
+        BRANCH,
+        FUNCTION,
+        exit_to(1),
+        OR_CLOSE,
+        BRANCH,
+        FUNCTION,
+        BRANCH,
+        FUNCTION,
+        BOX_CLOSE,
+        FUNCTION,
+        END,
+    ]);
+    file(&[], &rows)
+}
+
+/// The rows of `decomposed`.
+pub const F1: u16 = 0;
+pub const FD: u16 = 1;
+pub const SUB_FD_2: u16 = 7;
+pub const EXIT_B: u16 = 8;
+pub const FB: u16 = 13;
+pub const FD_CLOSE: u16 = 14;
+pub const F2: u16 = 15;
+
+/// A door is opened while a fan runs in rounds and a pump runs: the EXIT of row 4
+/// leaves them all by outlet 1, whose row follows; that of row 11 by outlet 0,
+/// which is empty.
+pub fn door_box() -> Vec<u8> {
+    let rows = trip_rows(&[
+        BOX_OPEN,
+        AND_OPEN,
+        BRANCH,
+        FUNCTION,
+        exit_to(1),
+        BRANCH,
+        IT_OPEN,
+        FUNCTION,
+        IT_CLOSE,
+        BRANCH,
+        FUNCTION,
+        exit_to(0),
+        AND_CLOSE,
+        BRANCH,
+        BRANCH,
+        FUNCTION,
+        BOX_CLOSE,
+        END,
+    ]);
+    file(&[], &rows)
+}
+
+/// A box in a box, in a loop: the inner one's outlet 1 ends in an EXIT of the outer
+/// one (row 12), which also has a straight one (row 15). An LE in the outer one's
+/// outlet leaves the loop.
+pub fn box_in_box() -> Vec<u8> {
+    let rows = trip_rows(&[
+        LP_OPEN,
+        BOX_OPEN,
+        IT_OPEN,
+        BOX_OPEN,
+        OR_OPEN,
+        BRANCH,
+        exit_to(1),
+        BRANCH,
+        OR_CLOSE,
+        exit_to(0),
+        BRANCH,
+        BRANCH,
+        exit_to(0),
+        BOX_CLOSE,
+        IT_CLOSE,
+        exit_to(1),
+        BRANCH,
+        FUNCTION,
+        BRANCH,
+        OR_OPEN,
+        BRANCH,
+        LOOP_EXIT,
+        BRANCH,
+        OR_CLOSE,
+        BOX_CLOSE,
+        LP_CLOSE,
+        END,
+    ]);
+    file(&[], &rows)
+}
+
+/// Boxes one behind the other, again and again, by turns of an AND and of an OR: of
+/// the AND two branches end in EXIT beside rounds, of the OR both do.
+pub fn wide_boxes_again(boxes: usize) -> Vec<u8> {
+    let of_and = [
+        BOX_OPEN,
+        AND_OPEN,
+        BRANCH,
+        FUNCTION,
+        exit_to(0),
+        BRANCH,
+        IT_OPEN,
+        FUNCTION,
+        IT_CLOSE,
+        BRANCH,
+        FUNCTION,
+        exit_to(1),
+        AND_CLOSE,
+        BRANCH,
+        FUNCTION,
+        BRANCH,
+        BOX_CLOSE,
+    ];
+    let of_or = [
+        BOX_OPEN,
+        OR_OPEN,
+        BRANCH,
+        FUNCTION,
+        exit_to(1),
+        BRANCH,
+        exit_to(0),
+        OR_CLOSE,
+        BRANCH,
+        BRANCH,
+        FUNCTION,
+        BOX_CLOSE,
+    ];
+    let mut kinds = Vec::new();
+    for number in 0..boxes {
+        let each = if number % 2 == 0 { &of_and[..] } else { &of_or };
+        kinds.extend(each);
+    }
+    again_and_again(&kinds)
+}
+
+/// As many rows as there may be and as many constructs open together, again and
+/// again: an LP, eight boxes one in the other, two ITs and an OR. Of a box's two
+/// EXITs one is the last row of its scenario; the other stands in an outlet of the
+/// next box in, or in the OR. FUNCTIONs stand in the OR, before the outermost box
+/// and in its inner three's outlets.
+pub fn deep_boxes_again() -> Vec<u8> {
+    let boxes = 8;
+    let mut kinds = vec![FUNCTION];
+    kinds.extend(vec![BOX_OPEN; boxes]);
+    kinds.extend([IT_OPEN, IT_OPEN, OR_OPEN, BRANCH, exit_to(0)]);
+    kinds.extend([BRANCH, FUNCTION, OR_CLOSE, IT_CLOSE, IT_CLOSE]);
+    for number in 0..boxes {
+        kinds.extend([exit_to(1), BRANCH]);
+        kinds.extend((number < 3).then_some(FUNCTION));
+        kinds.push(BRANCH);
+        kinds.extend((number + 1 < boxes).then_some(exit_to(0)));
+        kinds.push(BOX_CLOSE);
+    }
+    again_and_again(&kinds)
 }
 
 /// A FUNCTION of a tick or more that runs again and again.

@@ -1,6 +1,7 @@
 //! Random diagrams, nets, states, lists, logs and runs for comparisons. The same
 //! seed always gives the same ones.
 
+mod boxes;
 mod damage;
 mod diagrams;
 mod kills;
@@ -12,9 +13,9 @@ mod runs;
 mod states;
 
 pub use diagrams::{
-    crowded_diagram, damaged_diagram, diagram, diagram_up_to, killing_diagram, lasting_diagram,
-    lasting_killing_diagram, lasting_trigger_diagram, looping_diagram, plain_diagram_up_to,
-    timeless_diagram,
+    boxed_diagram, crowded_diagram, damaged_diagram, diagram, diagram_up_to, killing_diagram,
+    lasting_box_diagram, lasting_diagram, lasting_killing_diagram, lasting_trigger_diagram,
+    leaky_diagram, looping_diagram, odd_box_diagram, plain_diagram_up_to, timeless_diagram,
 };
 pub use lists::bus_list;
 pub use logs::{accepted_log, damaged_log, round_log};

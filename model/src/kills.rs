@@ -25,7 +25,7 @@ pub fn kill_by<'a>(
     let behind = |construct: &usize| diagram.constructs[*construct].close + 1;
     let entered = match &diagram.rows[row] {
         Row::Function(_) if state[activity(row)] == RUNNING => row + 1,
-        Row::AndClose(_) | Row::OrClose(_) => row + 1,
+        Row::AndClose(_) | Row::OrClose(_) | Row::BoxClose(_) => row + 1,
         Row::ItOpen { construct, count } if state[turns(row)] == *count => behind(construct),
         Row::LoopExit(construct) => behind(construct),
         _ => return None,

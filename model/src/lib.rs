@@ -15,9 +15,10 @@
 //! | `diagram` | 4, Loops that spend no time |
 //! | `editions` | 5, Old panels on the new bus |
 //! | `transitions` | 6, Which transition, by arithmetic |
+//! | `diagram`, `diagram_step`, `translate` | 7, Boxes that open |
 //! | `examples`, `annex` | Plant-room examples |
 //! | `generate` | random diagrams, nets, states, lists, logs and runs for comparisons |
-//! | `kills` | which moves kill, for comparisons |
+//! | `kills`, `exits` | which moves kill, which leave a box, for comparisons |
 //!
 //! Every public call takes the caller's bytes and words as they are and checks
 //! them anew. A refusal alters nothing that was lent.
@@ -30,6 +31,7 @@ pub mod diagram;
 pub mod diagram_step;
 pub mod editions;
 pub mod examples;
+pub mod exits;
 pub mod generate;
 pub mod history;
 pub mod image;

@@ -21,6 +21,11 @@ pub const LOOP_EXIT: u16 = 26;
 pub const END: u16 = 27;
 /// A BRANCH of an AND that kills.
 pub const KILLING_BRANCH: u16 = 28;
+/// A box: a decomposed function with several ways out.
+pub const BOX_OPEN: u16 = 29;
+pub const BOX_CLOSE: u16 = 30;
+/// EXIT, by which a box's scenario is left.
+pub const EXIT: u16 = 31;
 pub const NET_HEAD: u16 = 32;
 pub const PLACE: u16 = 33;
 pub const TRANSITION: u16 = 34;
@@ -50,6 +55,8 @@ pub fn shape(kind: u16) -> Option<(usize, usize)> {
         IT_CLOSE => (4, 0),
         LP_OPEN | LP_CLOSE | LOOP_EXIT => (4, 0),
         END | KILLING_BRANCH => (4, 0),
+        BOX_OPEN | BOX_CLOSE => (4, 0),
+        EXIT => (6, 1),
         NET_HEAD => (8, 2),
         PLACE => (6, 1),
         TRANSITION => (10, 3),

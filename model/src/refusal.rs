@@ -55,3 +55,6 @@ pub const KILLING_BRANCH_EMPTY: u32 = 44;
 pub const LOOP_SPENDS_NO_TIME: u32 = 45;
 pub const NUMBER_NOT_NEXT: u32 = 46;
 pub const STATION_DIFFERS: u32 = 47;
+pub const BOX_EXIT_MISPLACED: u32 = 48;
+pub const OUTLETS_UNMATCHED: u32 = 49;
+pub const SCENARIO_FALLS_THROUGH: u32 = 50;

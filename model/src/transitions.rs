@@ -56,7 +56,7 @@ fn first_labelled(diagram: &Diagram, row: u16) -> Option<usize> {
 fn transitions_of(row: &Row) -> usize {
     match row {
         Row::Function(_) | Row::ItOpen { .. } => 2,
-        Row::AndBranch { .. } | Row::OrOpen(_) | Row::End => 0,
+        Row::AndBranch { .. } | Row::OrOpen(_) | Row::Outlet(_) | Row::End => 0,
         _ => 1,
     }
 }

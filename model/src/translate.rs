@@ -1,5 +1,5 @@
 //! The patterns of section "Net": from a diagram to its net; document 02's
-//! request 3, "Branches that kill".
+//! requests 3, "Branches that kill", and 7, "Boxes that open".
 
 use crate::diagram::{parse, Construct, Diagram, Entered, Function, Row};
 use crate::net::{Arc, Net};
@@ -117,8 +117,9 @@ fn add_row(net: &mut Net, diagram: &Diagram, number: usize, row: &Row) {
             let open_p = (place_p(construct(index).open), 1);
             add_entering(net, diagram, label, vec![open_p], number + 1);
         }
-        // "OR close, LP open: P to entry of r + 1."
-        Row::OrClose(_) | Row::LpOpen(_) => {
+        // "OR close, LP open: P to entry of r + 1"; "29 and 30 in the net as OR
+        // close".
+        Row::OrClose(_) | Row::LpOpen(_) | Row::BoxOpen(_) | Row::BoxClose(_) => {
             add_entering(net, diagram, label, vec![own_p], number + 1);
         }
         // "IT close, LP close: P to P of the open."
@@ -149,7 +150,11 @@ fn add_row(net: &mut Net, diagram: &Diagram, number: usize, row: &Row) {
             add_gives(net, gives);
         }
         Row::LoopExit(index) => add_loop_exit(net, diagram, number, construct(index)),
-        Row::AndBranch { .. } | Row::OrOpen(_) | Row::End => {}
+        Row::Exit {
+            construct: index,
+            outlet,
+        } => add_exit(net, diagram, number, construct(index), *outlet),
+        Row::AndBranch { .. } | Row::OrOpen(_) | Row::Outlet(_) | Row::End => {}
     }
 }
 
@@ -189,6 +194,18 @@ fn add_loop_exit(net: &mut Net, diagram: &Diagram, number: usize, exited: &Const
         None => add_entry(net, diagram, exited.close + 1),
     };
     add_gives(net, gives);
+}
+
+/// "EXIT clears the rows from 29 to before the first outlet's BRANCH, restores R
+/// in the net and enters the row after its outlet's BRANCH." That row is the box's
+/// own, so that no killing branch ends there.
+fn add_exit(net: &mut Net, diagram: &Diagram, number: usize, left: &Construct, outlet: usize) {
+    net.add_transition(number as u16, 0, 0);
+    add_takes(net, vec![(place_p(number), 1)]);
+    add_clear(net, left.box_and_scenario());
+    let entered = entry(diagram, left.branches[outlet] + 1);
+    let gives = restored(diagram, left.box_and_scenario()).chain(entered);
+    add_gives(net, gives.collect());
 }
 
 /// A transition with the interval [0, 0] that takes and enters a row.

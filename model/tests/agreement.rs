@@ -5,14 +5,14 @@
 mod common;
 
 use common::{fresh, net_of};
-use model::diagram::{parse, read, Row, ROW_KINDS};
+use model::diagram::{parse, read, Row};
 use model::diagram_step::{self, activity, check, turns};
 use model::examples::{self, nested, TIMELESS};
 use model::generate::{self, Random};
 use model::history::{agreement, moves_to_try};
 use model::records::{
-    AND_CLOSE, AND_OPEN, BRANCH, END, FUNCTION, IT_CLOSE, IT_OPEN, LOOP_EXIT, LP_CLOSE, LP_OPEN,
-    OR_CLOSE, OR_OPEN,
+    AND_CLOSE, AND_OPEN, BOX_CLOSE, BOX_OPEN, BRANCH, END, EXIT, FUNCTION, IT_CLOSE, IT_OPEN,
+    LOOP_EXIT, LP_CLOSE, LP_OPEN, OR_CLOSE, OR_OPEN,
 };
 use std::collections::BTreeSet;
 
@@ -87,6 +87,9 @@ fn at_every_state_of_small_diagrams() {
         examples::trip_by_loop_exit(),
         examples::trip_after_rounds(),
         examples::trip_in_trip(),
+        examples::decomposed(),
+        examples::door_box(),
+        examples::box_in_box(),
     ];
     let small = (0..300).map(|_| generate::diagram_up_to(&mut random, 12));
     for file in examples.into_iter().chain(small) {
@@ -98,13 +101,13 @@ fn at_every_state_of_small_diagrams() {
 }
 
 /// Every accepted nesting of up to 7 rows, FUNCTIONs with [1, 2] and [0, 1], IT
-/// with count 2.
+/// with count 2. A box has 10 rows or more (tests/boxes.rs has every small one).
 #[test]
 fn every_small_nesting() {
     let mut accepted = 0;
     let mut unfinished: Vec<Vec<u16>> = vec![Vec::new()];
     while let Some(kinds) = unfinished.pop() {
-        for kind in ROW_KINDS.chain([TIMELESS]) {
+        for kind in (FUNCTION..BOX_OPEN).chain([TIMELESS]) {
             let mut longer = kinds.clone();
             longer.push(kind);
             let file = nested(&longer);
@@ -231,7 +234,8 @@ fn walks_see_everything() {
                     kinds_stepped.insert(kind_of(row));
                 }
             }
-            // Only an LE takes the turns of an IT open that is idle.
+            // Only an LE, an EXIT or a kill takes the turns of an IT open that is
+            // idle.
             let lost_turns = (0..diagram.rows.len()).any(|row| {
                 pair[0][activity(row)] == 0 && pair[0][turns(row)] > 0 && pair[1][turns(row)] == 0
             });
@@ -242,7 +246,7 @@ fn walks_see_everything() {
     }
     let all = [
         FUNCTION, AND_OPEN, BRANCH, OR_OPEN, OR_CLOSE, IT_OPEN, IT_CLOSE, LP_OPEN, LP_CLOSE,
-        LOOP_EXIT, END,
+        LOOP_EXIT, BOX_OPEN, BOX_CLOSE, EXIT, END,
     ];
     assert_eq!(kinds_stepped, BTreeSet::from(all));
     assert!(loop_exits_in_it > 20, "{loop_exits_in_it}");
@@ -254,7 +258,7 @@ fn kind_of(row: &Row) -> u16 {
     match row {
         Row::Function(_) => FUNCTION,
         Row::AndOpen(_) => AND_OPEN,
-        Row::AndBranch { .. } | Row::OrBranch(_) => BRANCH,
+        Row::AndBranch { .. } | Row::OrBranch(_) | Row::Outlet(_) => BRANCH,
         Row::AndClose(_) => AND_CLOSE,
         Row::OrOpen(_) => OR_OPEN,
         Row::OrClose(_) => OR_CLOSE,
@@ -263,6 +267,9 @@ fn kind_of(row: &Row) -> u16 {
         Row::LpOpen(_) => LP_OPEN,
         Row::LpClose(_) => LP_CLOSE,
         Row::LoopExit(_) => LOOP_EXIT,
+        Row::BoxOpen(_) => BOX_OPEN,
+        Row::BoxClose(_) => BOX_CLOSE,
+        Row::Exit { .. } => EXIT,
         Row::End => END,
     }
 }

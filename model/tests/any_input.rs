@@ -63,7 +63,8 @@ fn damaged_diagrams() {
             }
         }
     }
-    assert_saw(&seen, &[0, 1, 2, 3, 4, 5, 6, 7, 8, 9, 43, 44, 45], 50);
+    let numbers = [0, 1, 2, 3, 4, 5, 6, 7, 8, 9, 43, 44, 45, 48, 49, 50];
+    assert_saw(&seen, &numbers, 50);
 }
 
 #[test]

@@ -11,7 +11,7 @@ use model::history::{agreement, claim, moves_to_try};
 use model::kills::{has_kills, kill_by, kills, Kill};
 use model::logs::Log;
 use model::records::{
-    record, word, AND_CLOSE, AND_OPEN, BRANCH, HEAD, KILLING_BRANCH, OR_OPEN, TRIGGER,
+    record, word, AND_CLOSE, AND_OPEN, BRANCH, EXIT, HEAD, KILLING_BRANCH, OR_OPEN, TRIGGER,
 };
 use model::{Answer, Refusal};
 use std::collections::BTreeMap;
@@ -59,6 +59,7 @@ fn note_end(shapes: &mut Shapes, diagram: &Diagram, kill: &Kill) {
     shapes.note("by a FUNCTION", matches!(row, Row::Function(_)));
     shapes.note("by an AND close", matches!(row, Row::AndClose(_)));
     shapes.note("by an OR close", matches!(row, Row::OrClose(_)));
+    shapes.note("by a box's close", matches!(row, Row::BoxClose(_)));
     shapes.note("by an IT's second", matches!(row, Row::ItOpen { .. }));
     let by_exit = matches!(row, Row::LoopExit(_));
     shapes.note("by an LE", by_exit);
@@ -209,7 +210,7 @@ fn kills_of_other_plants() {
         let file = generate::diagram(&mut random);
         follow(&mut random, &mut any, &file);
     }
-    for _ in 0..400 {
+    for _ in 0..700 {
         let row_count = 4 + random.below(61);
         let file = generate::lasting_killing_diagram(&mut random, row_count);
         follow(&mut random, &mut lasting, &file);
@@ -306,7 +307,7 @@ fn note_refused(shapes: &mut Shapes, bytes: &[u8], refused: Refusal) {
 fn damaged_kills() {
     let mut random = Random::new(64);
     let mut shapes = Shapes::default();
-    for _ in 0..40_000 {
+    for _ in 0..60_000 {
         let bytes = generate::damaged_diagram(&mut random);
         match read(&bytes) {
             Err(refused) if [7, 8, 44].contains(&refused.number) => {
@@ -316,8 +317,8 @@ fn damaged_kills() {
         }
     }
     shapes.assert_met(25);
-    // Kinds behind 28 are no rows, whatever their length.
-    for kind in KILLING_BRANCH + 1..=KILLING_BRANCH + 3 {
+    // Kinds behind 31 are no rows, whatever their length.
+    for kind in EXIT + 1..=EXIT + 3 {
         for fields in [&[][..], &[1]] {
             let rows = [function_record(0, 0, &[]), record(kind, fields)];
             let bytes = model::diagram::file(&[], &rows);

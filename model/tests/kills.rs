@@ -2,7 +2,7 @@
 
 mod common;
 
-use common::{both, fresh, net_of, refused, Pair};
+use common::{arcs, both, fresh, make, net_of, only, refused, Pair};
 use model::annex::annex;
 use model::diagram::{file_of, function_record, read};
 use model::diagram_step::{activity, clock, turns, DONE, READY, RUNNING};
@@ -12,37 +12,6 @@ use model::records::{
     record, AND_CLOSE, AND_OPEN, BRANCH, END, FUNCTION, ITEM, IT_CLOSE, IT_OPEN, KILLING_BRANCH,
     LOOP_EXIT, LP_CLOSE, LP_OPEN, TRIGGER,
 };
-
-/// A state of this many rows that is all 0 but for these activities.
-fn only(rows: usize, activities: &[(usize, u16)]) -> Vec<u16> {
-    let mut state = vec![0; 3 * rows];
-    for (row, value) in activities {
-        state[activity(*row)] = *value;
-    }
-    state
-}
-
-/// Makes accepted steps.
-fn make(plant: &mut Pair, rows: &[u16]) {
-    for row in rows {
-        assert_eq!(plant.step(*row), both(Ok(0)), "row {row}");
-    }
-}
-
-/// The arcs of the transitions with this label, as the annex prints them.
-fn arcs(file: &[u8], label: usize) -> String {
-    let text = annex(file);
-    let mut of_label = String::new();
-    let mut inside = false;
-    for line in text.lines() {
-        if line.starts_with("t ") {
-            inside = line.contains(&format!(" label {label} "));
-        } else if inside {
-            of_label += &format!("{line}, ");
-        }
-    }
-    of_label
-}
 
 /// The trip ends while the fan runs in its second round and the pump runs: all
 /// three BRANCH rows are done, nothing else is left, and the close steps.

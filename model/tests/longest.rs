@@ -1,14 +1,16 @@
-//! The longest nets: kills make none longer. A bound on the bytes of any net, by
-//! how many rows of each kind its diagram has, and the diagrams that come nearest.
+//! The longest nets: neither kills nor boxes make one longer. A bound on the bytes
+//! of any net, by how many rows of each kind its diagram has, and the diagrams that
+//! come nearest.
 
 mod common;
 
 use common::net_of;
 use model::diagram::{file_of, function_record, MOST_ITEMS, MOST_ROWS};
-use model::examples::{self, rows_with};
+use model::examples::{self, exit_to, rows_with};
 use model::net;
 use model::records::{
-    record, AND_CLOSE, AND_OPEN, BRANCH, END, FUNCTION, ITEM, KILLING_BRANCH, TRIGGER,
+    record, AND_CLOSE, AND_OPEN, BOX_CLOSE, BOX_OPEN, BRANCH, END, FUNCTION, ITEM, KILLING_BRANCH,
+    OR_CLOSE, OR_OPEN, TRIGGER,
 };
 
 /// How many there are of each in a diagram of 64 rows.
@@ -21,18 +23,22 @@ struct Counts {
     loops: usize,
     /// BRANCH rows of either kind, of ANDs and ORs.
     branches: usize,
+    /// LEs.
     exits: usize,
+    boxes: usize,
+    /// Outlets, each with its EXIT.
+    outlets: usize,
 }
 
 impl Counts {
     /// Transitions that may kill. An LE ends a branch that nothing else ends; a
     /// killing branch else ends in a FUNCTION, a close or an IT, each of which
-    /// ends one.
+    /// ends one. An EXIT never kills.
     fn kills(&self) -> usize {
         if self.ands == 0 {
             return 0;
         }
-        let ends = self.functions + self.ands + self.ors + self.its;
+        let ends = self.functions + self.ands + self.ors + self.its + self.boxes;
         self.exits + ends.min(self.branches - self.exits)
     }
 
@@ -51,19 +57,35 @@ impl Counts {
             + or_branches
             + 3 * self.its
             + 2 * self.loops
-            + self.exits;
+            + self.exits
+            + 2 * self.boxes
+            + self.outlets;
         let arcs = self.functions * (4 + MOST_ITEMS + MOST_ITEMS * receivers)
             + 2 * (self.ands + self.ors + self.branches)
             + 10 * self.its
             + 4 * self.loops
-            + self.exits * (3 + self.its)
+            + (self.exits + self.outlets) * (3 + self.its)
+            + 4 * self.boxes
             + self.kills() * (self.branches + self.its);
         8 + 6 * places + 10 * transitions + 8 * arcs
     }
 
-    /// Every way to fill 63 rows and END.
+    /// Every way to fill 63 rows and END. A box has six rows at least: its own two
+    /// and two outlets with their EXITs.
     fn each(mut show: impl FnMut(Counts)) {
         let rows = MOST_ROWS - 1;
+        for boxes in 0..=rows / 6 {
+            for outlets in 2 * boxes..=(rows - 2 * boxes) / 2 {
+                if boxes > 0 || outlets == 0 {
+                    let left = rows - 2 * boxes - 2 * outlets;
+                    Counts::each_with(left, boxes, outlets, &mut show);
+                }
+            }
+        }
+    }
+
+    /// Every way to fill so many rows beside these boxes and outlets.
+    fn each_with(rows: usize, boxes: usize, outlets: usize, show: &mut impl FnMut(Counts)) {
         for constructs in 0..=rows / 4 {
             for ands in 0..=constructs {
                 for branches in 2 * constructs..=rows - 2 * constructs {
@@ -82,6 +104,8 @@ impl Counts {
                                     loops,
                                     branches,
                                     exits,
+                                    boxes,
+                                    outlets,
                                 });
                             }
                         }
@@ -104,9 +128,9 @@ impl Counts {
     }
 }
 
-/// Nothing but FUNCTIONs is the longest of all, as before kills were.
+/// Nothing but FUNCTIONs is the longest of all, as before kills and boxes were.
 #[test]
-fn the_longest_nets_have_no_kill() {
+fn the_longest_nets_have_neither_kill_nor_box() {
     let only_functions = Counts {
         functions: MOST_ROWS - 1,
         ands: 0,
@@ -115,6 +139,8 @@ fn the_longest_nets_have_no_kill() {
         loops: 0,
         branches: 0,
         exits: 0,
+        boxes: 0,
+        outlets: 0,
     };
     for (triggers, bytes, file) in [
         (false, 20_660, examples::longest_plain_net()),
@@ -145,6 +171,20 @@ fn the_longest_nets_with_a_kill() {
         assert_eq!(net_of(&plant(item_kind, &kinds)).len(), bytes);
         let (bound, _) = Counts::longest(item_kind == TRIGGER, |counts| counts.kills() > 0);
         assert_eq!(bound, bytes);
+    }
+}
+
+/// The longest net with a box has one of two outlets, its EXITs in an OR.
+#[test]
+fn the_longest_nets_with_a_box() {
+    let mut kinds = vec![BOX_OPEN, OR_OPEN, BRANCH, exit_to(0), BRANCH, exit_to(1)];
+    kinds.extend([OR_CLOSE, BRANCH, BRANCH, BOX_CLOSE]);
+    kinds.extend([FUNCTION; 53]);
+    for (item_kind, bytes) in [(ITEM, 17_778), (TRIGGER, 375_634)] {
+        assert_eq!(net_of(&plant(item_kind, &kinds)).len(), bytes);
+        let has_box = |counts: &Counts| counts.boxes > 0 && counts.ands + counts.ors > 0;
+        let (bound, _) = Counts::longest(item_kind == TRIGGER, has_box);
+        assert!((bytes..bytes + 200).contains(&bound), "{bound}");
     }
 }
 

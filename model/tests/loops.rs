@@ -175,7 +175,7 @@ fn note_plant(shapes: &mut Shapes, bytes: &[u8]) {
 fn loops_with_and_without_time() {
     let mut random = Random::new(70);
     let mut shapes = Shapes::default();
-    for _ in 0..10_000 {
+    for _ in 0..14_000 {
         note_plant(&mut shapes, &generate::timeless_diagram(&mut random));
     }
     shapes.assert_met(25);
@@ -215,7 +215,7 @@ fn generated_loops_spend_time() {
 fn damaged_loops() {
     let mut random = Random::new(72);
     let mut shapes = Shapes::default();
-    for _ in 0..40_000 {
+    for _ in 0..80_000 {
         let bytes = generate::damaged_diagram(&mut random);
         let rows = rows(&bytes);
         let loops = loops(&rows);

@@ -3,48 +3,24 @@
 
 mod common;
 
-use common::{fresh, fresh_net, net_of, refused};
+use common::{assert_file_refused, fresh, fresh_net, net_of, refused};
 use model::bus::{self, Telegram};
 use model::diagram::{file, file_of, function_record, read};
 use model::diagram_step::{self, activity, clock, turns};
 use model::examples::{self, nested, rows, TIMELESS};
 use model::records::{
-    record, shape, AND_CLOSE, AND_OPEN, BRANCH, END, FUNCTION, HEAD, ITEM, IT_CLOSE, IT_OPEN,
+    record, shape, AND_CLOSE, AND_OPEN, BRANCH, END, EXIT, FUNCTION, HEAD, ITEM, IT_CLOSE, IT_OPEN,
     KILLING_BRANCH, LOOP_EXIT, LP_CLOSE, LP_OPEN, OR_CLOSE, OR_OPEN, TRIGGER,
 };
 use model::transitions::transition;
 use model::translate::translate;
-use model::{logs, net_step, Answer};
+use model::{net_step, Answer};
 
 /// Example A with the 16-bit word at this offset set.
 fn a_with(offset: usize, value: u16) -> Vec<u8> {
     let mut bytes = examples::a();
     bytes[offset..offset + 2].copy_from_slice(&value.to_le_bytes());
     bytes
-}
-
-/// Every call that takes a diagram file refuses it alike and alters nothing.
-fn assert_file_refused(bytes: &[u8], number: u32, value: u32) {
-    let expected = refused(number, value);
-    assert_eq!(read(bytes), expected);
-    assert!(model::diagram::uses(bytes, 0).is_empty());
-    let mut state = [5; 7];
-    let mut area = [6; 70_000];
-    assert_eq!(diagram_step::fresh(bytes, &mut state), expected);
-    assert_eq!(diagram_step::step(bytes, &mut state, 0, 0), expected);
-    assert_eq!(transition(bytes, &state, 65_535), expected);
-    assert_eq!(translate(bytes, &mut area), expected);
-    assert_eq!(translate(bytes, &mut area[..3]), expected);
-    let offered = bus::offer(bytes, &mut state, u32::MAX, 1, 0, 0, &mut area[..3]);
-    assert_eq!(offered, expected);
-    let mut at = 8;
-    assert_eq!(logs::log_starts(bytes, &[0; 3], 9, &mut at), expected);
-    assert_eq!(at, 8);
-    assert_eq!(state, [5; 7]);
-    assert!(area.iter().all(|byte| *byte == 6));
-    assert_eq!(model::image::image(bytes, &state), None);
-    let text = model::annex::annex(bytes);
-    assert_eq!(text, format!("refused {number} {value}\n"));
 }
 
 #[test]
@@ -55,7 +31,7 @@ fn lengths_are_the_fields_lengths() {
         }
     }
     let kinds = (0..=u16::MAX).filter(|kind| shape(*kind).is_some());
-    assert_eq!(kinds.count(), 24);
+    assert_eq!(kinds.count(), 27);
 }
 
 #[test]
@@ -80,11 +56,13 @@ fn kinds_not_due() {
     for kind in [0, 1, 4, 16, 27] {
         assert_file_refused(&a_with(12, kind), 2, 10);
     }
-    for kind in [1, 2, 3, 15, 29, 30, 31, 32, 35, 48] {
+    for kind in [1, 2, 3, 15, 32, 35, 48] {
         assert_file_refused(&a_with(18, kind), 2, 16);
     }
-    // 28 is due there; its length is wrong.
-    assert_file_refused(&a_with(18, KILLING_BRANCH), 3, 16);
+    // 28 to 31 are due there; their length is wrong.
+    for kind in KILLING_BRANCH..=EXIT {
+        assert_file_refused(&a_with(18, kind), 3, 16);
+    }
 }
 
 #[test]

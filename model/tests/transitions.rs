@@ -327,10 +327,11 @@ fn assert_told(file: &[u8], net: &net::Net, state: &[u16], shapes: &mut Shapes) 
 fn the_net_fires_the_transition_told() {
     let mut random = Random::new(60);
     let (mut reached, mut passing) = (Shapes::default(), Shapes::default());
-    for number in 0..400 {
-        let file = match number % 4 {
+    for number in 0..1_000 {
+        let file = match number % 5 {
             0 => generate::killing_diagram(&mut random),
             1 => generate::looping_diagram(&mut random),
+            2 => generate::boxed_diagram(&mut random),
             _ => generate::diagram(&mut random),
         };
         let net = net::parse(&net_of(&file)).expect("accepted net");

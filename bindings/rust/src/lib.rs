@@ -4,10 +4,10 @@
 //! the table of documents 01 and 02. A refusal alters nothing that was lent. What each call promises is proved in the Rattle crate that has it
 //! (`crates/*/src`); this file only passes lists on as pointer and number of elements.
 //!
-//! A file is looked at first (refusals 1 to 9; 43 right after 5 at the same record, 44 between 7 and 8 at the same row; 45 where no row is
-//! refused), then a state (20), the move (21 to 26), the leader's count (27), the area (10). The follower looks at the telegram (30 to 33)
-//! before all of these. Of a log, after the file: its length (40), the row (41), its moves (42). Of a run of telegrams each telegram in its
-//! turn (30, 46, 47), then the area (10).
+//! A file is looked at first (refusals 1 to 9; 43 right after 5 at the same record, 44 between 7 and 8 and 48 between 8 and 9 at the same row;
+//! where no row is refused 49, 50, 45), then a state (20), the move (21 to 26), the leader's count (27), the area (10). The follower looks at
+//! the telegram (30 to 33) before all of these. Of a log, after the file: its length (40), the row (41), its moves (42). Of a run of telegrams
+//! each telegram in its turn (30, 46, 47), then the area (10).
 //!
 //! Example A of document 01, one move over the bus:
 //!
@@ -190,6 +190,9 @@ refusals! {
     45 LOOP_SPENDS_NO_TIME "loop spends no time"
     46 NUMBER_NOT_NEXT "number not one above the last, or past 4,294,967,295"
     47 STATION_DIFFERS "station differs from the first"
+    48 BOX_EXIT_MISPLACED "EXIT misplaced"
+    49 OUTLETS_UNMATCHED "outlets and EXIT rows not one to one"
+    50 SCENARIO_FALLS_THROUGH "a scenario falls through"
 }
 
 impl fmt::Display for Refusal {

@@ -1,6 +1,6 @@
 //! `benchmark`: the time of each proved function, of the model, and their ratio, at 5, 30 and 64 rows, what one row more costs, and the same at
-//! plants with triggers, at plants with branches that kill and at a plant of loops, and of runs of telegrams between the editions, in one run;
-//! last, which ratio is the largest.
+//! plants with triggers, at plants with branches that kill, at a plant of loops and at plants with boxes, and of runs of telegrams between the
+//! editions, in one run; last, which ratio is the largest.
 //!
 //! Both are built for release and get the same inputs in the same order; states and areas that are written are copied anew before each call, for
 //! both.
@@ -20,6 +20,10 @@
 //! `12 loops` is 12 LPs one in the other, 64 rows in all, where only the last FUNCTION of the innermost spends time: all of them are looked
 //! through for it. Of its moves one half are steps of LP rows; its log is random.
 //!
+//! `8 boxes` is 64 rows with 12 open together: an LP, eight boxes one in the other, two ITs and an OR; `4 boxes` is boxes one behind the other in
+//! an LP, by turns of an AND and of an OR whose branches end in EXIT, 61 rows; `1 box` is the first of these alone. Of their moves one half are
+//! EXITs, in the order of a random log; their logs are random too.
+//!
 //! A row's transition is asked at the states before the moves, of the last FUNCTION row that is ready or running, which has the most rows before
 //! it, or of END where none is. The model counts the transitions of those rows here; elsewhere it looks for the row in the whole net, which of
 //! `16 x 63` has 65,000 arcs.
@@ -32,8 +36,10 @@ use model::diagram::{Diagram, Row, MOST_ITEMS, MOST_ROWS};
 use model::diagram_step::{activity, IDLE, STEP, WAIT};
 use model::editions::OldTelegram;
 use model::examples::{
-    deep_loops, deep_trips_again, killing_rounds_again, triggers, triggers_again, trips_again,
+    deep_boxes_again, deep_loops, deep_trips_again, killing_rounds_again, triggers, triggers_again,
+    trips_again, wide_boxes_again,
 };
+use model::exits::exit_by;
 use model::generate::{accepted_log, lasting_diagram, plain_diagram_up_to, Random};
 use model::kills::kill_by;
 use model::logs::{log, Log, Logged, MOST_MOVES};
@@ -58,7 +64,7 @@ const LOGS: usize = 4;
 const ROWS_MOVED: usize = MOVES / 3;
 /// Bytes of nets in one round on a plant with triggers, or all its moves once.
 const NET_BYTES: usize = 1_000_000;
-/// A round there, or on a plant with kills or loops, may be long; as many sweeps come back to it.
+/// A round there, or on a plant with kills, loops or boxes, may be long; as many sweeps come back to it.
 const LONG_ROUNDS: usize = 3;
 /// Telegrams of the longest run, and of each round on shorter ones.
 const TELEGRAMS: usize = 100_000;
@@ -181,6 +187,10 @@ fn is_kill(diagram: &Diagram, state: &[u16], made: (u16, u16)) -> bool {
 fn is_loop_step(diagram: &Diagram, _: &[u16], (code, argument): (u16, u16)) -> bool {
     let row = diagram.rows.get(usize::from(argument));
     code == STEP && matches!(row, Some(Row::LpOpen(_) | Row::LpClose(_)))
+}
+
+fn is_exit(diagram: &Diagram, _: &[u16], made: (u16, u16)) -> bool {
+    exit_by(diagram, made).is_some()
 }
 
 /// A plant with a random log.
@@ -808,6 +818,9 @@ fn main() {
         named_courses("19 rounds", killing_rounds_again(19), is_kill),
         named_courses("11 deep", deep_trips_again(11), is_kill),
         named_courses("12 loops", deep_loops(), is_loop_step),
+        named_courses("1 box", wide_boxes_again(1), is_exit),
+        named_courses("4 boxes", wide_boxes_again(4), is_exit),
+        named_courses("8 boxes", deep_boxes_again(), is_exit),
     ];
     let (mut calls, mut moves, mut steps) = (Vec::new(), Vec::new(), Vec::new());
     let (mut trigger_calls, mut trigger_moves) = (Vec::new(), Vec::new());
@@ -840,7 +853,7 @@ fn main() {
     print_times(["a move", "in the log", "step's call"], &steps);
     print_times(["triggers, call", "proved", "model"], &trigger_calls);
     print_times(["triggers, move", "proved", "model"], &trigger_moves);
-    print_times(["kills, loops", "proved", "model"], &named_calls);
+    print_times(["kills .. boxes", "proved", "model"], &named_calls);
     print_times(["the same, move", "proved", "model"], &named_moves);
     print_times(["a telegram", "proved", "model"], &telegrams);
     let tables = [

@@ -1,6 +1,6 @@
 //! `compare SEED SECONDS`: random cases of every kind until the time is up. Status 1 at the first difference, or where a run of some seconds
-//! did not meet every refusal of refusals.txt, or a call no kill, no loop that spends no time, or not every answer to a run of telegrams or
-//! to a row's transition.
+//! did not meet every refusal of refusals.txt, or a call no kill, no box that is left, not every refusal of a file's loops and boxes, or not
+//! every answer to a run of telegrams or to a row's transition.
 //! `compare SEED KIND ROUND`: that one case again.
 
 use compare::cases::KINDS;

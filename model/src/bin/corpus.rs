@@ -3,7 +3,8 @@
 
 use model::annex::annex;
 use model::generate::{
-    crowded_diagram, damaged_diagram, diagram, killing_diagram, timeless_diagram, Random,
+    boxed_diagram, crowded_diagram, damaged_diagram, diagram, killing_diagram, leaky_diagram,
+    odd_box_diagram, timeless_diagram, Random,
 };
 use std::path::Path;
 use std::process::ExitCode;
@@ -32,7 +33,8 @@ fn usage() -> ExitCode {
 }
 
 /// One half accepted, mostly, and one half damaged; of a hundred one with a long
-/// net, nine made for kills, five for loops that may spend no time.
+/// net, nine made for kills, five for loops that may spend no time, eighteen for
+/// boxes, what is off in half of them.
 fn write_corpus(seed: u64, count: u32, directory: &Path) -> io::Result<()> {
     fs::create_dir_all(directory)?;
     let mut random = Random::new(seed);
@@ -41,7 +43,10 @@ fn write_corpus(seed: u64, count: u32, directory: &Path) -> io::Result<()> {
             0 => crowded_diagram(&mut random),
             1..10 => killing_diagram(&mut random),
             10..15 => timeless_diagram(&mut random),
-            15..50 => diagram(&mut random),
+            15..24 => boxed_diagram(&mut random),
+            24..28 => leaky_diagram(&mut random),
+            28..33 => odd_box_diagram(&mut random),
+            33..55 => diagram(&mut random),
             _ => damaged_diagram(&mut random),
         };
         fs::write(directory.join(format!("{number:05}.dia")), &file)?;

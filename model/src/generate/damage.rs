@@ -3,7 +3,7 @@
 use super::diagrams::random_function;
 use super::Random;
 use crate::diagram::ROW_KINDS;
-use crate::records::{record, shape, word, FUNCTION, IT_OPEN, PREFIX_LENGTH};
+use crate::records::{record, shape, word, EXIT, FUNCTION, IT_OPEN, PREFIX_LENGTH};
 use std::ops::RangeInclusive;
 
 /// A record of any of these kinds, a FUNCTION or IT open with fields that hold.
@@ -15,6 +15,7 @@ pub(super) fn random_record(
     match random.between(*kinds.start(), *kinds.end()) {
         FUNCTION => random_function(random, item_kinds, 0),
         IT_OPEN => record(IT_OPEN, &[random.between(2, 5)]),
+        EXIT => record(EXIT, &[random.between(0, 3)]),
         kind => {
             let (_, field_count) = shape(kind).unwrap_or_default();
             let fields: Vec<u16> = (0..field_count).map(|_| random.word()).collect();

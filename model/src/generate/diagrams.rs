@@ -1,5 +1,6 @@
 //! Diagram files, accepted and damaged.
 
+use super::boxes::{damage_boxes, deep_box_rows, BOX_OPEN_TOGETHER, BOX_ROWS, EXIT_ROWS};
 use super::damage::{damage_bytes, damage_field, damage_records, random_record, split_records};
 use super::loops::{empty_a_loop, lose_time, put_timeless_loop, LOOP_ROWS};
 use super::Random;
@@ -8,8 +9,8 @@ use crate::diagram::{
 };
 use crate::examples::receiver_rows;
 use crate::records::{
-    record, word, AND_CLOSE, AND_OPEN, BRANCH, END, HEAD, ITEM, IT_CLOSE, IT_OPEN, KILLING_BRANCH,
-    LOOP_EXIT, LP_CLOSE, LP_OPEN, OR_CLOSE, OR_OPEN, TRIGGER,
+    record, word, AND_CLOSE, AND_OPEN, BRANCH, END, EXIT, HEAD, ITEM, IT_CLOSE, IT_OPEN,
+    KILLING_BRANCH, LOOP_EXIT, LP_CLOSE, LP_OPEN, OR_CLOSE, OR_OPEN, TRIGGER,
 };
 use std::ops::RangeInclusive;
 
@@ -42,7 +43,7 @@ pub fn diagram_up_to(random: &mut Random, most_rows: usize) -> Vec<u8> {
     draft_up_to(random, most_rows, percents).file()
 }
 
-/// The same without triggers and killing branches.
+/// The same without triggers, killing branches and boxes.
 pub fn plain_diagram_up_to(random: &mut Random, most_rows: usize) -> Vec<u8> {
     draft_up_to(random, most_rows, Percents::PLAIN).file()
 }
@@ -54,22 +55,26 @@ struct Percents {
     triggers: usize,
     /// Branches of ANDs that kill.
     kills: usize,
-    /// LPs, of the constructs that open.
+    /// LPs, of the constructs that open and are no boxes.
     loops: usize,
+    /// Boxes, of the constructs that open.
+    boxes: usize,
 }
 
 impl Percents {
-    /// Most diagrams have neither triggers nor kills.
+    /// Most diagrams have no triggers, no kills or no boxes.
     const PLAIN: Percents = Percents {
         triggers: 0,
         kills: 0,
         loops: 25,
+        boxes: 0,
     };
 
     fn some(random: &mut Random) -> Self {
         Percents {
             triggers: seldom(random, 30, &[25, 50, 100]),
             kills: seldom(random, 35, &[20, 50, 100]),
+            boxes: seldom(random, 35, &[20, 50, 90]),
             ..Percents::PLAIN
         }
     }
@@ -104,9 +109,11 @@ fn crowded_draft(random: &mut Random) -> Draft {
     let mut builder = RowsBuilder {
         kill_percent: seldom(random, 30, &[30, 100]),
         loop_percent: Percents::PLAIN.loops,
+        box_percent: seldom(random, 20, &[30, 60]),
         go_on_percent: 90,
         function_percent: 85 + random.below(16),
         lasting: None,
+        leaky: false,
         crowded: true,
         random,
         item_kinds: &item_kinds,
@@ -114,7 +121,7 @@ fn crowded_draft(random: &mut Random) -> Draft {
         left: row_count - 1,
     };
     while builder.left > 0 {
-        builder.construct(0, false);
+        builder.construct(Place::OUTERMOST);
     }
     builder.plain(END);
     let rows = builder.rows;
@@ -164,13 +171,21 @@ pub fn lasting_killing_diagram(random: &mut Random, row_count: usize) -> Vec<u8>
     lasting_with(random, row_count, percents)
 }
 
+/// The same with boxes, 16 rows or more; what an EXIT's FUNCTIONs took is lost.
+pub fn lasting_box_diagram(random: &mut Random, row_count: usize) -> Vec<u8> {
+    let percents = Percents {
+        triggers: random.pick(&[0, 100], 0),
+        kills: random.pick(&[0, 0, 60], 0),
+        boxes: random.pick(&[40, 80, 100], 80),
+        ..Percents::PLAIN
+    };
+    lasting_with(random, row_count, percents)
+}
+
 fn lasting_with(random: &mut Random, row_count: usize, percents: Percents) -> Vec<u8> {
-    let item_count = match percents {
-        Percents {
-            triggers: 0,
-            kills: 1..,
-            ..
-        } if random.chance(80) => 0,
+    let loses_takes = percents.kills > 0 || percents.boxes > 0;
+    let item_count = match percents.triggers {
+        0 if loses_takes && random.chance(80) => 0,
         _ => random.below(4),
     };
     let counts = (0..item_count).map(|_| random.between(1, 3)).collect();
@@ -178,9 +193,11 @@ fn lasting_with(random: &mut Random, row_count: usize, percents: Percents) -> Ve
     let mut builder = RowsBuilder {
         kill_percent: percents.kills,
         loop_percent: percents.loops,
+        box_percent: percents.boxes,
         go_on_percent: 30 + random.below(60),
         function_percent: 20 + random.below(60),
         lasting: Some(random.pick(&[9, 600, 4_000, 12_000, 36_001, u16::MAX], 9)),
+        leaky: false,
         crowded: false,
         random,
         item_kinds: &item_kinds,
@@ -190,7 +207,7 @@ fn lasting_with(random: &mut Random, row_count: usize, percents: Percents) -> Ve
     builder.plain(LP_OPEN);
     builder.spend_time(1);
     while builder.left > 0 {
-        builder.construct(1, false);
+        builder.construct(Place::OUTERMOST.deeper());
     }
     builder.plain(LP_CLOSE);
     builder.plain(END);
@@ -243,9 +260,11 @@ fn killing_draft(random: &mut Random) -> Draft {
     let mut builder = RowsBuilder {
         kill_percent: random.pick(&[0, 30, 60], 30),
         loop_percent: Percents::PLAIN.loops,
+        box_percent: seldom(random, 30, &[30, 70]),
         go_on_percent: 10 + random.below(60),
         function_percent: 30 + random.below(50),
         lasting: Some(9),
+        leaky: false,
         crowded: false,
         random,
         item_kinds: &item_kinds,
@@ -288,6 +307,78 @@ pub fn timeless_diagram(random: &mut Random) -> Vec<u8> {
     draft.file()
 }
 
+/// An accepted diagram of short FUNCTIONs with boxes: its walks come to EXITs of
+/// every kind.
+pub fn boxed_diagram(random: &mut Random) -> Vec<u8> {
+    boxed_draft(random, false).file()
+}
+
+/// The same with scenarios that may fall through: about half have one that does,
+/// and nothing else is off.
+pub fn leaky_diagram(random: &mut Random) -> Vec<u8> {
+    boxed_draft(random, true).file()
+}
+
+/// The same after something was done to its boxes, once, twice or not at all, and
+/// sometimes to its loops or another row: each of 48 to 50 beside the others.
+pub fn odd_box_diagram(random: &mut Random) -> Vec<u8> {
+    let leaky = random.chance(60);
+    let mut draft = boxed_draft(random, leaky);
+    let times = random.pick(&[0, 1, 1, 2], 1);
+    for _ in 0..times {
+        damage_boxes(random, &mut draft.rows);
+    }
+    match random.below(8) {
+        0 | 1 => lose_time(random, &mut draft.rows),
+        2 => put_timeless_loop(random, &mut draft.rows),
+        3 => another_fault(random, &mut draft.rows),
+        4 if random.chance(50) => {
+            let depth = MOST_OPEN + 1 + random.below(2);
+            draft.rows = deep_box_rows(random, depth);
+            draft.rows.push(record(END, &[]));
+        }
+        _ => {}
+    }
+    draft.file()
+}
+
+fn boxed_draft(random: &mut Random, leaky: bool) -> Draft {
+    let item_count = random.below(3);
+    let counts = (0..item_count).map(|_| random.between(1, 9)).collect();
+    let percent = random.pick(&[0, 50, 100], 0);
+    let item_kinds = random_kinds(random, item_count, percent);
+    // Leaky ends need room, so that less comes before them.
+    let (least_rows, go_on_percent) = if leaky { (32, 10) } else { (18, 60) };
+    let most_rows = random.pick(&[18, 24, 32, 45, MOST_ROWS, MOST_ROWS], MOST_ROWS);
+    let most_rows = most_rows.max(least_rows);
+    let mut builder = RowsBuilder {
+        kill_percent: random.pick(&[0, 30, 60], 30),
+        loop_percent: Percents::PLAIN.loops,
+        box_percent: random.pick(&[10, 40, 80], 40),
+        go_on_percent: 10 + random.below(go_on_percent),
+        function_percent: 20 + random.below(50),
+        lasting: Some(9),
+        leaky,
+        crowded: false,
+        random,
+        item_kinds: &item_kinds,
+        rows: Vec::new(),
+        left: most_rows - 1,
+    };
+    if builder.random.below(12) == 0 {
+        builder.rows = deep_box_rows(builder.random, MOST_OPEN);
+    } else {
+        builder.box_plant();
+    }
+    builder.plain(END);
+    let rows = builder.rows;
+    Draft {
+        item_kinds,
+        counts,
+        rows,
+    }
+}
+
 fn draft_up_to(random: &mut Random, most_rows: usize, percents: Percents) -> Draft {
     let item_count = match random.below(4) {
         0 => 0,
@@ -299,9 +390,11 @@ fn draft_up_to(random: &mut Random, most_rows: usize, percents: Percents) -> Dra
     let mut builder = RowsBuilder {
         kill_percent: percents.kills,
         loop_percent: percents.loops,
+        box_percent: percents.boxes,
         go_on_percent: 50 + random.below(48),
         function_percent: 20 + random.below(60),
         lasting: None,
+        leaky: false,
         crowded: false,
         random,
         item_kinds: &item_kinds,
@@ -309,9 +402,9 @@ fn draft_up_to(random: &mut Random, most_rows: usize, percents: Percents) -> Dra
         left: most_rows.clamp(1, MOST_ROWS) - 1,
     };
     if builder.left >= LOOP_ROWS && builder.random.chance(30) {
-        builder.looped(0);
+        builder.looped(Place::OUTERMOST);
     }
-    builder.run(0, false);
+    builder.run(Place::OUTERMOST);
     let mut rows = builder.rows;
     rows.push(record(END, &[]));
     Draft {
@@ -330,13 +423,66 @@ pub(super) fn item_count_word(random: &mut Random) -> u16 {
     }
 }
 
+/// Where rows are put.
+#[derive(Clone, Copy)]
+pub(super) struct Place {
+    /// Constructs open here.
+    pub(super) open: usize,
+    /// Some LP is open in the scenario here, so that a branch may end in LE.
+    pub(super) in_loop: bool,
+    /// A scenario is open here, so that a branch may end in EXIT.
+    pub(super) in_scenario: bool,
+}
+
+impl Place {
+    pub(super) const OUTERMOST: Place = Place {
+        open: 0,
+        in_loop: false,
+        in_scenario: false,
+    };
+
+    /// In a construct here: an AND, OR, IT, an LP that no LE leaves, an outlet.
+    pub(super) fn deeper(self) -> Self {
+        Place {
+            open: self.open + 1,
+            ..self
+        }
+    }
+
+    /// In an LP here that LEs may leave.
+    pub(super) fn in_loop(self) -> Self {
+        Place {
+            in_loop: true,
+            ..self.deeper()
+        }
+    }
+
+    /// In the scenario of a box here; a loop around it is out of reach.
+    pub(super) fn in_scenario(self) -> Self {
+        Place {
+            in_loop: false,
+            in_scenario: true,
+            ..self.deeper()
+        }
+    }
+
+    /// So many constructs more may be open together.
+    pub(super) fn may_open(self, constructs: usize) -> bool {
+        self.open + constructs <= MOST_OPEN
+    }
+}
+
 /// Builds rows by runs and constructs, each of them a whole.
 pub(super) struct RowsBuilder<'r> {
     pub(super) random: &'r mut Random,
     /// Chance that a branch of an AND kills.
     kill_percent: usize,
-    /// Chance that a construct that opens is an LP.
+    /// Chance that a construct that opens is an LP, where it is no box.
     loop_percent: usize,
+    /// Chance that a construct that opens is a box.
+    box_percent: usize,
+    /// Scenarios may fall through.
+    pub(super) leaky: bool,
     /// Chance that a run goes on.
     go_on_percent: usize,
     /// Chance that a construct is a FUNCTION.
@@ -358,22 +504,28 @@ impl RowsBuilder<'_> {
     }
 
     /// A run of constructs; the outermost one tends to be long.
-    pub(super) fn run(&mut self, open: usize, in_loop: bool) {
-        let go_on_percent = if open == 0 { 92 } else { self.go_on_percent };
+    pub(super) fn run(&mut self, place: Place) {
+        let go_on_percent = match place.open {
+            0 => 92,
+            _ => self.go_on_percent,
+        };
         while self.left > 0 && self.random.chance(go_on_percent) {
-            self.construct(open, in_loop);
+            self.construct(place);
         }
     }
 
     /// A construct that fits into the rows left; a FUNCTION always does.
-    pub(super) fn construct(&mut self, open: usize, in_loop: bool) {
-        let may_open = open < MOST_OPEN && !self.random.chance(self.function_percent);
+    pub(super) fn construct(&mut self, place: Place) {
+        let may_open = place.may_open(1) && !self.random.chance(self.function_percent);
+        if may_open && self.may_box(place) && self.random.chance(self.box_percent) {
+            return self.boxed(place);
+        }
         if may_open && self.left >= LOOP_ROWS && self.random.chance(self.loop_percent) {
-            return self.looped(open);
+            return self.looped(place);
         }
         match self.random.below(3) {
-            0 if may_open && self.left >= 4 => self.branched(AND_OPEN, AND_CLOSE, open, in_loop),
-            1 if may_open && self.left >= 4 => self.branched(OR_OPEN, OR_CLOSE, open, in_loop),
+            0 if may_open && self.left >= 4 => self.branched(AND_OPEN, AND_CLOSE, place),
+            1 if may_open && self.left >= 4 => self.branched(OR_OPEN, OR_CLOSE, place),
             2 if may_open && self.left >= 2 => {
                 let count = match self.random.below(8) {
                     0 => self.random.between(2, 255),
@@ -381,7 +533,7 @@ impl RowsBuilder<'_> {
                 };
                 self.left -= 2;
                 self.it_open(count);
-                self.run(open + 1, in_loop);
+                self.run(place.deeper());
                 self.plain(IT_CLOSE);
             }
             _ => {
@@ -389,6 +541,12 @@ impl RowsBuilder<'_> {
                 self.function(0);
             }
         }
+    }
+
+    /// Boxes are asked for, and one has room.
+    pub(super) fn may_box(&self, place: Place) -> bool {
+        let has_room = self.left >= BOX_ROWS && place.may_open(BOX_OPEN_TOGETHER);
+        has_room && self.box_percent > 0
     }
 
     pub(super) fn it_open(&mut self, count: u16) {
@@ -427,17 +585,17 @@ impl RowsBuilder<'_> {
 
     /// An LP, mostly with an AND or OR in it that may end in LE. A lasting one
     /// begins with the time that it spends.
-    fn looped(&mut self, open: usize) {
+    pub(super) fn looped(&mut self, place: Place) {
         self.left -= LOOP_ROWS;
         self.plain(LP_OPEN);
         let inside = self.rows.len();
         if self.lasting.is_some() {
-            self.spend_time(open + 1);
+            self.spend_time(place.open + 1);
         }
-        if self.left >= 5 && open + 2 < MOST_OPEN && self.random.chance(70) {
-            self.exit_inside(open + 1);
+        if self.left >= 5 && place.may_open(3) && self.random.chance(70) {
+            self.exit_inside(place.in_loop());
         }
-        self.run(open + 1, true);
+        self.run(place.in_loop());
         if self.lasting.is_none() {
             self.ensure_time(inside);
         }
@@ -445,26 +603,27 @@ impl RowsBuilder<'_> {
     }
 
     /// An OR, seldom an AND, in a loop; half of them in an IT.
-    fn exit_inside(&mut self, open: usize) {
+    fn exit_inside(&mut self, place: Place) {
         let in_it = self.left >= 7 && self.random.chance(50);
-        let depth = open + usize::from(in_it);
+        let inside = if in_it { place.deeper() } else { place };
         if in_it {
             self.left -= 2;
             let count = self.random.between(2, 4);
             self.it_open(count);
         }
         if self.random.chance(75) {
-            self.branched(OR_OPEN, OR_CLOSE, depth, true);
+            self.branched(OR_OPEN, OR_CLOSE, inside);
         } else {
-            self.branched(AND_OPEN, AND_CLOSE, depth, true);
+            self.branched(AND_OPEN, AND_CLOSE, inside);
         }
         if in_it {
             self.plain(IT_CLOSE);
         }
     }
 
-    /// An AND or OR with two branches or more; in a loop some end in LE.
-    pub(super) fn branched(&mut self, open_kind: u16, close_kind: u16, open: usize, in_loop: bool) {
+    /// An AND or OR with two branches or more; in a loop some end in LE, in a
+    /// scenario some in EXIT.
+    pub(super) fn branched(&mut self, open_kind: u16, close_kind: u16, place: Place) {
         self.left -= 4;
         self.plain(open_kind);
         let mut branches = 0;
@@ -476,27 +635,36 @@ impl RowsBuilder<'_> {
             let may_kill = open_kind == AND_OPEN && self.left > 0 && self.kill_percent > 0;
             if may_kill && self.random.chance(self.kill_percent) {
                 self.plain(KILLING_BRANCH);
-                self.killing_run(open + 1, in_loop);
+                self.killing_run(place.deeper());
             } else {
                 self.plain(BRANCH);
-                self.run(open + 1, in_loop);
+                self.run(place.deeper());
             }
-            if in_loop && self.left > 0 && self.random.chance(40) {
+            if place.in_loop && self.left > 0 && self.random.chance(40) {
                 self.loop_exit();
+            } else if place.in_scenario && self.left >= EXIT_ROWS && self.random.chance(35) {
+                self.exit();
             }
         }
         self.plain(close_kind);
     }
 
     /// The run of a killing branch has a construct at least.
-    fn killing_run(&mut self, open: usize, in_loop: bool) {
-        self.construct(open, in_loop);
-        self.run(open, in_loop);
+    fn killing_run(&mut self, place: Place) {
+        self.construct(place);
+        self.run(place);
     }
 
     pub(super) fn loop_exit(&mut self) {
         self.left -= 1;
         self.plain(LOOP_EXIT);
+    }
+
+    /// An EXIT, and a row kept for its outlet's BRANCH; which outlet its field
+    /// names is drawn when the box has all its EXITs.
+    pub(super) fn exit(&mut self) {
+        self.left -= EXIT_ROWS;
+        self.rows.push(record(EXIT, &[0]));
     }
 }
 
@@ -597,9 +765,13 @@ pub fn damaged_diagram(random: &mut Random) -> Vec<u8> {
         0 => crowded_draft(random),
         1..=12 => killing_draft(random),
         13..=24 => looping_draft(random),
+        25..=40 => {
+            let leaky = random.chance(40);
+            boxed_draft(random, leaky)
+        }
         _ => draft(random),
     };
-    match random.below(14) {
+    match random.below(16) {
         0 => random_rows(random, &mut damaged),
         1 => too_deep(random, &mut damaged),
         2 => loop_exit_somewhere(random, &mut damaged),
@@ -613,6 +785,7 @@ pub fn damaged_diagram(random: &mut Random) -> Vec<u8> {
         8 => empty_killing_branch(random, &mut damaged.rows),
         9 => lose_time(random, &mut damaged.rows),
         10 => timeless_loop_somewhere(random, &mut damaged.rows),
+        11 | 12 => damage_boxes(random, &mut damaged.rows),
         _ => {}
     }
     let mut bytes = damaged.file();
@@ -622,7 +795,7 @@ pub fn damaged_diagram(random: &mut Random) -> Vec<u8> {
         4 => {
             let mut records = split_records(&bytes);
             // Kinds behind the last of a row too.
-            damage_records(random, &mut records, HEAD..=KILLING_BRANCH + 3, &[]);
+            damage_records(random, &mut records, HEAD..=EXIT + 3, &[]);
             bytes = records.concat();
         }
         _ => {}
@@ -644,10 +817,15 @@ fn too_deep(random: &mut Random, draft: &mut Draft) {
     draft.rows.push(record(END, &[]));
 }
 
-/// 11 to 14 constructs one in the other, mostly with time spent in the innermost.
+/// 11 to 14 constructs one in the other, some of them boxes in a third, mostly
+/// with time spent in the innermost.
 fn deep_rows(random: &mut Random) -> Vec<Vec<u8>> {
     let (mut rows, mut closes) = (Vec::new(), Vec::new());
-    for _ in 0..random.between(11, 14) {
+    let depth = usize::from(random.between(11, 14));
+    if random.chance(35) {
+        return deep_box_rows(random, depth);
+    }
+    for _ in 0..depth {
         match random.below(4) {
             0 => {
                 rows.push(record(AND_OPEN, &[]));
@@ -730,11 +908,15 @@ fn loop_exit_somewhere(random: &mut Random, draft: &mut Draft) {
 
 /// Puts a row in; where there is no room another one goes.
 fn put_row(random: &mut Random, rows: &mut Vec<Vec<u8>>, at: usize, kind: u16) {
-    if rows.len() == MOST_ROWS {
-        rows.remove(random.below(MOST_ROWS));
+    put_record(random, rows, at, record(kind, &[]));
+}
+
+pub(super) fn put_record(random: &mut Random, rows: &mut Vec<Vec<u8>>, at: usize, row: Vec<u8>) {
+    if rows.len() >= MOST_ROWS {
+        rows.remove(random.below(rows.len()));
     }
     let at = at.min(rows.len());
-    rows.insert(at, record(kind, &[]));
+    rows.insert(at, row);
 }
 
 /// Numbers of the rows whose kind is one of these.

@@ -1,7 +1,7 @@
 //! Rows of plants in which branches kill, whatever there is to kill.
 
-use super::diagrams::RowsBuilder;
-use crate::diagram::MOST_OPEN;
+use super::boxes::EXIT_ROWS;
+use super::diagrams::{Place, RowsBuilder};
 use crate::records::{
     AND_CLOSE, AND_OPEN, BRANCH, IT_CLOSE, KILLING_BRANCH, LOOP_EXIT, LP_CLOSE, LP_OPEN, OR_CLOSE,
     OR_OPEN,
@@ -22,31 +22,31 @@ impl RowsBuilder<'_> {
                 self.left -= 3;
                 self.plain(LP_OPEN);
                 self.function(1);
-                self.killing_and(1, true);
+                self.killing_and(Place::OUTERMOST.in_loop());
                 self.plain(LP_CLOSE);
             }
             1 => {
                 self.left -= 2;
                 let count = self.random.between(2, 4);
                 self.it_open(count);
-                self.killing_and(1, false);
+                self.killing_and(Place::OUTERMOST.deeper());
                 self.plain(IT_CLOSE);
             }
             2 => {
                 self.left -= 4;
                 self.plain(OR_OPEN);
                 self.plain(BRANCH);
-                self.killing_and(1, false);
+                self.killing_and(Place::OUTERMOST.deeper());
                 self.plain(BRANCH);
                 self.plain(OR_CLOSE);
             }
-            _ => self.killing_and(0, false),
+            _ => self.killing_and(Place::OUTERMOST),
         }
-        self.run(0, false);
+        self.run(Place::OUTERMOST);
     }
 
     /// An AND some of whose branches kill.
-    fn killing_and(&mut self, open: usize, in_loop: bool) {
+    fn killing_and(&mut self, place: Place) {
         let most = if self.random.chance(10) { 20 } else { 4 };
         let most = most.min(self.left / 2 - 1);
         let branches = 2 + self.random.below(most - 1);
@@ -57,10 +57,10 @@ impl RowsBuilder<'_> {
             self.left += 1;
             if kills {
                 self.plain(KILLING_BRANCH);
-                self.trip(open + 1, in_loop);
+                self.trip(place.deeper());
             } else {
                 self.plain(BRANCH);
-                self.victim(open + 1, in_loop);
+                self.victim(place.deeper());
             }
         }
         self.plain(AND_CLOSE);
@@ -82,53 +82,59 @@ impl RowsBuilder<'_> {
 
     /// A killing branch: something first, sometimes, and one of the constructs
     /// that it may end in.
-    fn trip(&mut self, open: usize, in_loop: bool) {
+    fn trip(&mut self, place: Place) {
         self.left -= 1;
         if self.left > 0 && self.random.chance(40) {
-            self.construct(open, in_loop);
+            self.construct(place);
         }
         self.left += 1;
-        let room = if open < MOST_OPEN { self.left } else { 0 };
-        match self.random.below(7) {
-            0 if room >= AND_ROWS => self.killing_and(open, in_loop),
-            1 if room >= 4 => self.branched(AND_OPEN, AND_CLOSE, open, in_loop),
-            2 if room >= 4 => self.branched(OR_OPEN, OR_CLOSE, open, in_loop),
-            3 if room >= 3 => self.rounds(open, in_loop),
-            4 if open + EXITED_OPEN <= MOST_OPEN && room >= EXITED_ROWS => self.exited_loop(open),
-            5 if in_loop => self.loop_exit(),
+        let room = if place.may_open(1) { self.left } else { 0 };
+        match self.random.below(8) {
+            0 if room >= AND_ROWS => self.killing_and(place),
+            1 if room >= 4 => self.branched(AND_OPEN, AND_CLOSE, place),
+            2 if room >= 4 => self.branched(OR_OPEN, OR_CLOSE, place),
+            3 if room >= 3 => self.rounds(place),
+            4 if self.has_room_to_leave(place) => self.exited_loop(place),
+            5 if place.in_loop => self.loop_exit(),
+            5 | 6 if place.in_scenario && self.left >= EXIT_ROWS => self.exit(),
+            7 if self.may_box(place) => self.boxed(place),
             _ => self.last_function(),
         }
     }
 
     /// A branch that does not kill: mostly something that takes its time.
-    fn victim(&mut self, open: usize, in_loop: bool) {
-        let room = if open < MOST_OPEN { self.left } else { 0 };
+    pub(super) fn victim(&mut self, place: Place) {
+        let room = if place.may_open(1) { self.left } else { 0 };
         match self.random.below(8) {
             0 => {}
-            1 | 2 if room >= 3 => self.rounds(open, in_loop),
-            3 if room >= AND_ROWS => self.killing_and(open, in_loop),
-            4 => self.run(open, in_loop),
+            1 | 2 if room >= 3 => self.rounds(place),
+            3 if room >= AND_ROWS => self.killing_and(place),
+            4 => self.run(place),
             _ => self.last_function(),
         }
     }
 
-    fn last_function(&mut self) {
+    pub(super) fn last_function(&mut self) {
         self.left -= 1;
         self.function(0);
     }
 
     /// An IT around a FUNCTION.
-    fn rounds(&mut self, open: usize, in_loop: bool) {
+    pub(super) fn rounds(&mut self, place: Place) {
         self.left -= 3;
         let count = self.random.between(2, 4);
         self.it_open(count);
         self.function(0);
-        self.run(open + 1, in_loop);
+        self.run(place.deeper());
         self.plain(IT_CLOSE);
     }
 
+    pub(super) fn has_room_to_leave(&self, place: Place) -> bool {
+        self.left >= EXITED_ROWS && place.may_open(EXITED_OPEN)
+    }
+
     /// A loop that an LE leaves, from an OR or AND in it, half of them in an IT.
-    fn exited_loop(&mut self, open: usize) {
+    pub(super) fn exited_loop(&mut self, place: Place) {
         self.left -= EXITED_ROWS;
         let in_it = self.random.chance(50);
         let is_or = self.random.chance(60);
@@ -139,7 +145,8 @@ impl RowsBuilder<'_> {
         }
         self.plain(if is_or { OR_OPEN } else { AND_OPEN });
         self.plain(BRANCH);
-        self.run(open + 2 + usize::from(in_it), true);
+        let in_or_and = place.in_loop().deeper();
+        self.run(if in_it { in_or_and.deeper() } else { in_or_and });
         self.plain(LOOP_EXIT);
         self.plain(BRANCH);
         self.function(1);

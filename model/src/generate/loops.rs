@@ -3,7 +3,7 @@
 use super::diagrams::{rows_of, RowsBuilder};
 use super::Random;
 use crate::diagram::{function_record, MOST_ROWS};
-use crate::records::{record, word, FUNCTION, LP_CLOSE, LP_OPEN};
+use crate::records::{record, word, EXIT, FUNCTION, LP_CLOSE, LP_OPEN};
 
 /// Rows of an LP whatever else is in it: open, a FUNCTION that spends time, close.
 pub(super) const LOOP_ROWS: usize = 3;
@@ -40,12 +40,17 @@ pub(super) fn lose_time(random: &mut Random, rows: &mut [Vec<u8>]) {
     }
 }
 
-/// A loop, if there is one, loses all its rows.
+/// A loop, if there is one, loses all its rows. It has no EXIT, which an outlet
+/// outside of it might need.
 pub(super) fn empty_a_loop(random: &mut Random, rows: &mut Vec<Vec<u8>>) {
     let opens = rows_of(rows, |kind| kind == LP_OPEN);
-    let open = opens.get(random.below(opens.len()));
-    if let Some((open, close)) = open.and_then(|open| Some((*open, close_of(rows, *open)?))) {
-        rows.drain(open + 1..close);
+    let loops = opens
+        .into_iter()
+        .filter_map(|open| Some((open, close_of(rows, open)?)))
+        .filter(|(open, close)| rows_of(&rows[*open..*close], |kind| kind == EXIT).is_empty());
+    let loops: Vec<_> = loops.collect();
+    if let Some((open, close)) = loops.get(random.below(loops.len())) {
+        rows.drain(open + 1..*close);
     }
 }
 

@@ -81,7 +81,7 @@ fn busy_activity(random: &mut Random, row: &Row) -> u16 {
     match row {
         Row::Function(_) => random.between(1, 2),
         Row::AndBranch { .. } => 3,
-        Row::OrBranch(_) | Row::AndClose(_) => 0,
+        Row::OrBranch(_) | Row::Outlet(_) | Row::AndClose(_) => 0,
         _ => 1,
     }
 }
@@ -93,12 +93,19 @@ pub fn odd_state(random: &mut Random, file: &[u8]) -> Vec<u16> {
         state[word] = random.word().max(1);
         return state;
     }
-    match random.below(5) {
+    match random.below(7) {
         0 => {
             state.pop();
         }
         1 => state.push(random.word()),
         2 => state.iter_mut().for_each(|word| *word = random.word()),
+        // An activity that a row of another kind may have.
+        3 | 4 => {
+            let (row, value) = (quiet_row(random, file), random.between(1, 3));
+            if let Some(word) = state.get_mut(activity(row)) {
+                *word = value;
+            }
+        }
         _ => {
             let (at, value) = (random.below(state.len()), random.word());
             if let Some(word) = state.get_mut(at) {
@@ -107,6 +114,19 @@ pub fn odd_state(random: &mut Random, file: &[u8]) -> Vec<u16> {
         }
     }
     state
+}
+
+/// A row that is never ready, a BRANCH or the close of an AND, or any row.
+fn quiet_row(random: &mut Random, file: &[u8]) -> usize {
+    let Ok(diagram) = parse(file) else {
+        return 0;
+    };
+    let is_quiet = |row: &usize| match diagram.rows[*row] {
+        Row::AndBranch { .. } | Row::OrBranch(_) | Row::Outlet(_) | Row::AndClose(_) => true,
+        _ => random.chance(20),
+    };
+    let rows: Vec<usize> = (0..diagram.rows.len()).filter(is_quiet).collect();
+    random.pick(&rows, 0)
 }
 
 /// The word of a trigger's shared count, which remains 0.

@@ -1,9 +1,11 @@
 //! Helpers that several tests share. Each test file uses some of them.
 #![allow(dead_code)]
 
-use model::diagram_step::{STEP, WAIT};
+use model::diagram_step::{activity, STEP, WAIT};
 use model::records::word;
-use model::{diagram, diagram_step, net, net_step, translate, Answer, Refusal};
+use model::{
+    bus, diagram, diagram_step, logs, net, net_step, transitions, translate, Answer, Refusal,
+};
 use std::collections::BTreeMap;
 
 /// The fresh state of an accepted diagram.
@@ -29,6 +31,30 @@ pub fn fresh_net(net: &[u8]) -> Vec<u16> {
 
 pub fn refused(number: u32, value: u32) -> Answer {
     Err(Refusal { number, value })
+}
+
+/// Every call that takes a diagram file refuses it alike and alters nothing.
+pub fn assert_file_refused(bytes: &[u8], number: u32, value: u32) {
+    let expected = refused(number, value);
+    assert_eq!(diagram::read(bytes), expected);
+    assert!(diagram::uses(bytes, 0).is_empty());
+    let mut state = [5; 7];
+    let mut area = [6; 70_000];
+    assert_eq!(diagram_step::fresh(bytes, &mut state), expected);
+    assert_eq!(diagram_step::step(bytes, &mut state, 0, 0), expected);
+    assert_eq!(transitions::transition(bytes, &state, 65_535), expected);
+    assert_eq!(translate::translate(bytes, &mut area), expected);
+    assert_eq!(translate::translate(bytes, &mut area[..3]), expected);
+    let offered = bus::offer(bytes, &mut state, u32::MAX, 1, 0, 0, &mut area[..3]);
+    assert_eq!(offered, expected);
+    let mut at = 8;
+    assert_eq!(logs::log_starts(bytes, &[0; 3], 9, &mut at), expected);
+    assert_eq!(at, 8);
+    assert_eq!(state, [5; 7]);
+    assert!(area.iter().all(|byte| *byte == 6));
+    assert_eq!(model::image::image(bytes, &state), None);
+    let text = model::annex::annex(bytes);
+    assert_eq!(text, format!("refused {number} {value}\n"));
 }
 
 /// A diagram and its net side by side, each with its state.
@@ -75,6 +101,37 @@ impl Pair {
 /// The same answer of both.
 pub fn both(answer: Answer) -> (Answer, Answer) {
     (answer, answer)
+}
+
+/// A state of this many rows that is all 0 but for these activities.
+pub fn only(rows: usize, activities: &[(usize, u16)]) -> Vec<u16> {
+    let mut state = vec![0; 3 * rows];
+    for (row, value) in activities {
+        state[activity(*row)] = *value;
+    }
+    state
+}
+
+/// Makes accepted steps.
+pub fn make(plant: &mut Pair, rows: &[u16]) {
+    for row in rows {
+        assert_eq!(plant.step(*row), both(Ok(0)), "row {row}");
+    }
+}
+
+/// The arcs of the transitions with this label, as the annex prints them.
+pub fn arcs(file: &[u8], label: usize) -> String {
+    let text = model::annex::annex(file);
+    let mut of_label = String::new();
+    let mut inside = false;
+    for line in text.lines() {
+        if line.starts_with("t ") {
+            inside = line.contains(&format!(" label {label} "));
+        } else if inside {
+            of_label += &format!("{line}, ");
+        }
+    }
+    of_label
 }
 
 /// The records of a file by their lengths, with the offset of each.
