@@ -1,8 +1,10 @@
 //! The annex to a contract as one page: the annex program's text, what its numbers stand for, the drawing, the file's bytes.
 
+use crate::boxes;
 use crate::draw::{self, escaped};
 use crate::net::{homes, place_words, transition_words, translated, Home, Net};
 use crate::plant::{Count, Plant};
+use crate::play::words::list_words;
 use crate::structure::killers;
 use crate::text::{item_lines, row_lines, time_text};
 use effbd::{refusal, Refusal};
@@ -50,9 +52,12 @@ pub fn page(plant: &Plant, file: &[u8], with_net: bool) -> Result<String, Refusa
     let heading = format!(
         "<h1>Annex: {title}</h1>\n<p>{} rows{}, {} items{}; the net has {} places and {} transitions. A tick is 0.1 s.</p>\n",
         plant.rows.len(),
-        among(killers(plant).len(), "killing branch", "killing branches"),
+        among(&[
+            (killers(plant).len(), "killing branch", "killing branches"),
+            (boxes::all(plant).len(), "box", "boxes"),
+        ]),
         plant.items.len(),
-        among(plant.triggers().count(), "trigger", "triggers"),
+        among(&[(plant.triggers().count(), "trigger", "triggers")]),
         net.marks.len(),
         net.transitions.len(),
     );
@@ -73,12 +78,17 @@ pub fn page(plant: &Plant, file: &[u8], with_net: bool) -> Result<String, Refusa
     ))
 }
 
-/// How many of those just counted are special; nothing where none is.
-fn among(number: usize, one: &str, more: &str) -> String {
-    match number {
-        0 => String::new(),
-        1 => format!(", 1 {one} among them"),
-        _ => format!(", {number} {more} among them"),
+/// How many of those just counted are special, of each sort: what one is called, and more; nothing where none is.
+fn among(sorts: &[(usize, &str, &str)]) -> String {
+    let there = sorts.iter().filter(|(number, ..)| *number > 0);
+    let words = there.map(|(number, one, more)| match number {
+        1 => format!("1 {one}"),
+        _ => format!("{number} {more}"),
+    });
+    let words: Vec<String> = words.collect();
+    match words.is_empty() {
+        true => String::new(),
+        false => format!(", {} among them", list_words(words)),
     }
 }
 

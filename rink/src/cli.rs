@@ -65,6 +65,12 @@ One item, trigger or row a line; `#` begins a comment; indentation is free.
   loop [NAME]                 its rows again and again, until an exit leaves it;
   end loop                    a function in it takes 0.1 s or more
   exit loop                   the last row of a branch inside the loop
+  box [NAME]                  a function with several ways out: its scenario's rows,
+  outlet NAME                 then its outlets (two or more), each with the rows
+  end box                     that follow there
+  exit to NAME                the last row of a branch in the scenario, or of the
+                              scenario: all of it ends, the outlet follows; each
+                              outlet has one
   end                         the last row
 
 A wrong line is named with its column; so is a row that the proved reader refuses.
@@ -113,9 +119,9 @@ const CHECK_HELP: &str = "\
 rink check FILE [--names TEXT] [-o NAME]
 
 `accepted`, with the limits used: rows, items, depth, the net's and the state's
-size; the receivers of each trigger; what each killing branch kills; whether the
-annex program prints the net; a warning of each loop with a way round that may
-spend no time. Or the refusal in words, with row and offset.
+size; the receivers of each trigger; what each killing branch kills; the exits of
+each box; whether the annex program prints the net; a warning of each loop with a
+way round that may spend no time. Or the refusal in words, with row and offset.
 ";
 
 const UP_HELP: &str = "\

@@ -5,6 +5,7 @@
 #![forbid(unsafe_code)]
 
 pub mod annex;
+pub mod boxes;
 pub mod cli;
 pub mod draw;
 pub mod editions;

@@ -1,11 +1,12 @@
 //! What `rink check` says of an accepted file: how much of each limit it uses, and what whoever drew it may not have meant.
 
 use crate::annex;
+use crate::boxes::{self, Boxed};
 use crate::net::{self, Net};
 use crate::plant::Plant;
 use crate::play::words::{list_words, number_of, row_words, rows_words};
 use crate::rounds;
-use crate::structure::{self, Killer};
+use crate::structure::{self, branch_rows, Killer};
 use effbd::Refusal;
 use std::fmt::Write;
 
@@ -39,6 +40,9 @@ pub fn used(plant: &Plant, file: &[u8]) -> Result<String, Refusal> {
     for killer in structure::killers(plant) {
         let _ = writeln!(text, "{}", kill_line(plant, killer));
     }
+    for boxed in boxes::all(plant) {
+        let _ = writeln!(text, "{}", box_line(plant, &boxed));
+    }
     if let Some(words) = annex::unprinted(net_file.len()) {
         let _ = writeln!(text, "annex: {words}");
     }
@@ -48,14 +52,26 @@ pub fn used(plant: &Plant, file: &[u8]) -> Result<String, Refusal> {
     Ok(text)
 }
 
-/// A killing branch with those that it kills. One that ends with an LE is never done: whoever drew it meant more.
+/// A killing branch with those that it kills. One that ends with an LE or EXIT is never done: whoever drew it meant more.
 fn kill_line(plant: &Plant, killer: Killer) -> String {
     let name = row_words(plant, killer.branch);
-    if !killer.can_kill(plant) {
-        return format!("{name}: never kills, it ends with `exit loop`");
+    let last = branch_rows(plant, killer.branch).last();
+    match last.filter(|_| !killer.can_kill(plant)) {
+        Some(last) => format!(
+            "{name}: never kills, it ends with `{}`",
+            plant.keyword(last)
+        ),
+        None => format!("{name}: kills {}", rows_words(plant, &killer.others(plant))),
     }
-    let others = rows_words(plant, &killer.others(plant));
-    format!("{name}: kills {others}")
+}
+
+/// A box with the EXITs that leave it, in the order of its outlets.
+fn box_line(plant: &Plant, boxed: &Boxed) -> String {
+    let outlets = 0..boxed.outlets.len();
+    let exits = outlets.flat_map(|outlet| boxed.exits_to(plant, outlet));
+    let exits = exits.map(|exit| row_words(plant, exit));
+    let name = row_words(plant, boxed.open);
+    format!("{name}: left by {}", list_words(exits.collect()))
 }
 
 /// A trigger with its receivers. One that nobody takes has no count: whoever drew a give to it meant more.

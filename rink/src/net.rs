@@ -212,6 +212,8 @@ fn own_words(plant: &Plant, net: &Net, transition: usize) -> String {
         (Part::EndAnd, _) => format!("{name}: branches joined"),
         (Part::EndRepeat | Part::EndLoop, _) => format!("{name}: back"),
         (Part::ExitLoop, _) => format!("{name}: loop left"),
+        (Part::Box, _) => format!("{name}: scenario begins"),
+        (Part::ExitTo { .. }, _) => format!("{name}: box left"),
         _ => format!("{name} passed"),
     }
 }

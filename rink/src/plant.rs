@@ -3,6 +3,7 @@
 //! Its bytes are judged by the proved reader alone. Here they are only written ([`Plant::file`]) and, once accepted, taken apart
 //! ([`Plant::read`]).
 
+use crate::boxes;
 use effbd::Refusal;
 
 /// What a row of a diagram is, with its fields.
@@ -24,6 +25,14 @@ pub enum Part {
     Loop,
     EndLoop,
     ExitLoop,
+    Box,
+    /// A BRANCH of a box.
+    Outlet,
+    EndBox,
+    /// EXIT, by the outlet of this number.
+    ExitTo {
+        outlet: u16,
+    },
     End,
 }
 
@@ -60,7 +69,7 @@ pub enum Count {
     Copy { item: usize, row: usize },
 }
 
-/// A row. A FUNCTION always has a name; AND, OR, their branches, IT and LP may have one; other rows never do.
+/// A row. A FUNCTION and an outlet always have a name; AND, OR, their branches, IT, LP and boxes may have one; other rows never do.
 #[derive(Clone, PartialEq, Eq, Debug)]
 pub struct Row {
     pub part: Part,
@@ -81,11 +90,13 @@ const ITEM: u16 = 2;
 pub const TRIGGER: u16 = 3;
 const FUNCTION: u16 = 16;
 const REPEAT: u16 = 22;
+const EXIT: u16 = 31;
 
-/// The rows whose records have no fields, with their kinds.
-const PLAIN: [(u16, Part); 11] = [
+/// The rows whose records have no fields, with their kinds. BRANCH has two parts: where it stands says which.
+const PLAIN: [(u16, Part); 14] = [
     (17, Part::And),
     (18, Part::Branch { kills: false }),
+    (18, Part::Outlet),
     (19, Part::EndAnd),
     (20, Part::Or),
     (21, Part::EndOr),
@@ -95,6 +106,8 @@ const PLAIN: [(u16, Part); 11] = [
     (26, Part::ExitLoop),
     (27, Part::End),
     (28, Part::Branch { kills: true }),
+    (29, Part::Box),
+    (30, Part::EndBox),
 ];
 
 /// A record of a file: where it stands, its kind and its fields.
@@ -178,6 +191,7 @@ impl Part {
         match self {
             Part::Function(_) => FUNCTION,
             Part::Repeat { .. } => REPEAT,
+            Part::ExitTo { .. } => EXIT,
             plain => {
                 let found = PLAIN.iter().find(|(_, part)| part == plain);
                 found
@@ -198,11 +212,12 @@ impl Part {
                     .collect()
             }
             Part::Repeat { count } => vec![*count],
+            Part::ExitTo { outlet } => vec![*outlet],
             _ => Vec::new(),
         }
     }
 
-    /// The part that a record of a right file says; `None` for a record that is no row.
+    /// The part that a record of a right file says, of a BRANCH one that is no outlet; `None` for a record that is no row.
     pub fn of(record: &Record) -> Option<Part> {
         match (record.kind, record.fields.as_slice()) {
             (FUNCTION, [shortest, longest, uses @ ..]) => {
@@ -218,6 +233,7 @@ impl Part {
                 }))
             }
             (REPEAT, [count]) => Some(Part::Repeat { count: *count }),
+            (EXIT, [outlet]) => Some(Part::ExitTo { outlet: *outlet }),
             (kind, _) => {
                 let found = PLAIN.iter().find(|(plain, _)| *plain == kind);
                 found.map(|(_, part)| part.clone())
@@ -229,7 +245,7 @@ impl Part {
     pub fn opens(&self) -> bool {
         matches!(
             self,
-            Part::And | Part::Or | Part::Repeat { .. } | Part::Loop
+            Part::And | Part::Or | Part::Repeat { .. } | Part::Loop | Part::Box
         )
     }
 
@@ -237,25 +253,41 @@ impl Part {
     pub fn closes(&self) -> bool {
         matches!(
             self,
-            Part::EndAnd | Part::EndOr | Part::EndRepeat | Part::EndLoop
+            Part::EndAnd | Part::EndOr | Part::EndRepeat | Part::EndLoop | Part::EndBox
         )
     }
 
-    /// Whether it begins a branch.
+    /// Whether it begins a branch; an outlet is one.
     pub fn is_branch(&self) -> bool {
-        matches!(self, Part::Branch { .. })
+        matches!(self, Part::Branch { .. } | Part::Outlet)
     }
 
-    /// Whether a branch of it may begin so: an OR's never kills.
+    /// Whether a branch of it may begin so: an OR's never kills, a box's are outlets.
     pub fn may_branch(&self, branch: &Part) -> bool {
         match self {
-            Part::And => branch.is_branch(),
+            Part::And => matches!(branch, Part::Branch { .. }),
             Part::Or => *branch == Part::Branch { kills: false },
+            Part::Box => *branch == Part::Outlet,
             _ => false,
         }
     }
 
-    /// How the text writes it, without name and fields.
+    /// Whether the text has a name for it always, and one is made up where there is no text.
+    pub fn is_named(&self) -> bool {
+        matches!(self, Part::Function(_) | Part::Outlet)
+    }
+
+    /// Whether it may have a name.
+    pub fn may_be_named(&self) -> bool {
+        self.is_named() || self.opens() || self.is_branch()
+    }
+
+    /// Whether nothing is entered behind it: it leaves its loop or its box.
+    pub fn leaves(&self) -> bool {
+        matches!(self, Part::ExitLoop | Part::ExitTo { .. })
+    }
+
+    /// How the text writes it, without name and fields; of an EXIT without its outlet.
     pub fn keyword(&self) -> &'static str {
         match self {
             Part::Function(_) => "function",
@@ -270,6 +302,10 @@ impl Part {
             Part::Loop => "loop",
             Part::EndLoop => "end loop",
             Part::ExitLoop => "exit loop",
+            Part::Box => "box",
+            Part::Outlet => "outlet",
+            Part::EndBox => "end box",
+            Part::ExitTo { .. } => "exit to",
             Part::End => "end",
         }
     }
@@ -295,10 +331,24 @@ impl Plant {
             let name = function.then(|| format!("function-{number}"));
             Row { part, name }
         });
-        Plant {
+        let mut plant = Plant {
             title: None,
             items: items.collect(),
             rows: rows.collect(),
+        };
+        plant.tell_outlets();
+        plant
+    }
+
+    /// Makes the BRANCH rows of boxes outlets, each with its number in its box as name.
+    fn tell_outlets(&mut self) {
+        for boxed in boxes::all(self) {
+            for (number, outlet) in boxed.outlets.into_iter().enumerate() {
+                self.rows[outlet] = Row {
+                    part: Part::Outlet,
+                    name: Some(format!("outlet-{number}")),
+                };
+            }
         }
     }
 
@@ -320,7 +370,20 @@ impl Plant {
     pub fn row_name(&self, row: usize) -> String {
         match &self.rows[row].name {
             Some(name) => name.clone(),
-            None => format!("{} (row {row})", self.rows[row].part.keyword()),
+            None => format!("{} (row {row})", self.keyword(row)),
+        }
+    }
+
+    /// A row's keyword, of an EXIT with its outlet.
+    pub fn keyword(&self, row: usize) -> String {
+        let part = &self.rows[row].part;
+        let keyword = part.keyword();
+        match part {
+            Part::ExitTo { outlet } => {
+                let name = boxes::outlet(self, row).map(|outlet| self.row_name(outlet));
+                format!("{keyword} {}", name.unwrap_or(outlet.to_string()))
+            }
+            _ => keyword.to_string(),
         }
     }
 

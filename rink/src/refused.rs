@@ -2,8 +2,9 @@
 //!
 //! The verdict is the reader's. What is said here explains it to a mechanic, and is never asked whether a file is right.
 
+use crate::boxes::{self, Boxed};
 use crate::plant::{records, Function, Part, Plant, Record, Use, TRIGGER};
-use crate::structure;
+use crate::structure::{self, open_before, Frame};
 use effbd::{refusal, Refusal};
 
 /// What a refusal of a file names.
@@ -109,6 +110,9 @@ fn nesting(refusal: Refusal) -> bool {
             | refusal::LOOP_EXIT_MISPLACED
             | refusal::TOO_MANY_OPEN
             | refusal::LOOP_SPENDS_NO_TIME
+            | refusal::BOX_EXIT_MISPLACED
+            | refusal::OUTLETS_UNMATCHED
+            | refusal::SCENARIO_FALLS_THROUGH
     )
 }
 
@@ -219,7 +223,7 @@ fn function_words(function: &Function, items: usize, named: impl Fn(Subject) -> 
     String::new()
 }
 
-/// Why a row may not stand where it does; the rows before it nest well, and where a loop spends no time all of them do.
+/// Why a row may not stand where it does; the rows before it nest well, and where a loop or box is refused all of them do.
 fn nesting_words(plant: &Plant, refusal: Refusal, named: impl Fn(Subject) -> String) -> String {
     let row = refusal.value as usize;
     let Some(found) = plant.rows.get(row) else {
@@ -227,19 +231,12 @@ fn nesting_words(plant: &Plant, refusal: Refusal, named: impl Fn(Subject) -> Str
     };
     let keyword = found.part.keyword();
     let open = open_before(plant, row);
-    let innermost = open.last().copied();
-    let innermost_part = innermost.map(|open| &plant.rows[open].part);
-    let takes_branch = innermost_part.is_some_and(|open| open.may_branch(&found.part));
-    let around = innermost.map_or("nothing is open here".to_string(), |open| {
-        format!(
-            "the innermost open construct is the `{}` of {}",
-            plant.rows[open].part.keyword(),
-            named(Subject::Row(open))
-        )
-    });
+    let innermost = open.last().map(|frame| frame.open);
+    let around = around_words(plant, innermost, &named);
     match refusal.number {
         refusal::TOO_MANY_OPEN => "a 13th construct would be open here: at most 12 are".to_string(),
-        refusal::LOOP_EXIT_MISPLACED => exit_words(plant, row, &open, &around),
+        refusal::LOOP_EXIT_MISPLACED => loop_exit_words(plant, row, &open, &around, named),
+        refusal::BOX_EXIT_MISPLACED => box_exit_words(plant, row, &open, &around),
         refusal::KILLING_BRANCH_EMPTY => {
             format!("nothing stands in this `{keyword}`, so nothing could end and kill: put the function that trips behind it, or write `branch`")
         }
@@ -248,27 +245,47 @@ fn nesting_words(plant: &Plant, refusal: Refusal, named: impl Fn(Subject) -> Str
             let end = named(Subject::Row(close));
             format!("no function between this `{keyword}` and the `end loop` of {end} has a shortest time of 0.1 s or more, so a way round it would spend no time: put one in, or raise a shortest time")
         }
-        _ if row > 0 && needs_branch(&plant.rows[row - 1].part) && !found.part.is_branch() => {
+        refusal::OUTLETS_UNMATCHED => {
+            let boxed = boxes::all(plant).into_iter();
+            let boxed = boxed.filter(|boxed| boxed.open == row);
+            let words = boxed.map(|boxed| unmatched_words(plant, &boxed, &named));
+            words.collect()
+        }
+        refusal::SCENARIO_FALLS_THROUGH => falling_words(plant, row, named),
+        _ => misplaced_words(plant, row, open.last(), &around),
+    }
+}
+
+/// Why a row may not follow the rows before it.
+fn misplaced_words(plant: &Plant, row: usize, innermost: Option<&Frame>, around: &str) -> String {
+    let part = &plant.rows[row].part;
+    let keyword = part.keyword();
+    let open = innermost.map(|frame| &plant.rows[frame.open].part);
+    let branches = innermost.map_or(0, |frame| frame.branches);
+    match part {
+        _ if row > 0 && needs_branch(&plant.rows[row - 1].part) && !part.is_branch() => {
             format!(
                 "`{keyword}` right behind `{}`: a `branch` is due",
                 plant.rows[row - 1].part.keyword()
             )
         }
-        _ if found.part == Part::End && innermost.is_none() => {
-            "`end` stands before the last row".to_string()
+        Part::End if open.is_none() => "`end` stands before the last row".to_string(),
+        Part::End => format!("`end` stands where a construct is still open: {around}"),
+        branch if branch.is_branch() && !open.is_some_and(|open| open.may_branch(branch)) => {
+            branch_words(branch, open, around)
         }
-        _ if found.part == Part::End => {
-            format!("`end` stands where a construct is still open: {around}")
+        close if close.closes() && open.is_none_or(|open| closed_by(open) != *close) => {
+            format!("`{keyword}` closes nothing: {around}")
         }
-        _ if found.part.is_branch() && !takes_branch => {
-            branch_words(&found.part, innermost_part, &around)
-        }
-        _ if found.part.closes()
-            && innermost.is_some_and(|open| closed_by(&plant.rows[open].part) == found.part) =>
-        {
+        Part::EndAnd | Part::EndOr if branches == 1 => {
             format!("`{keyword}` after one branch: two or more are due")
         }
-        _ if found.part.closes() => format!("`{keyword}` closes nothing: {around}"),
+        Part::EndBox if branches == 1 => {
+            format!("`{keyword}` after one outlet: two or more are due")
+        }
+        Part::EndBox if branches == 0 => {
+            format!("`{keyword}` without an outlet: two or more are due")
+        }
         _ if row + 1 == plant.rows.len() => {
             format!("the last row is `{keyword}`: it has to be `end`")
         }
@@ -276,31 +293,40 @@ fn nesting_words(plant: &Plant, refusal: Refusal, named: impl Fn(Subject) -> Str
     }
 }
 
-/// Why a branch may not stand in the innermost open construct, or in none.
-fn branch_words(branch: &Part, innermost: Option<&Part>, around: &str) -> String {
-    let keyword = branch.keyword();
-    match (branch, innermost) {
-        (Part::Branch { kills: true }, Some(Part::Or)) => {
-            format!("a `{keyword}` belongs to an `and`, and {around}: one branch of it runs alone and has no others to kill, write `branch`")
-        }
-        (Part::Branch { kills: true }, _) => {
-            format!("a `{keyword}` belongs to an `and`, and {around}")
-        }
-        _ => format!("a `{keyword}` belongs to an `and` or `or`, and {around}"),
-    }
+/// What is open around a row.
+pub fn around_words(
+    plant: &Plant,
+    innermost: Option<usize>,
+    named: impl Fn(Subject) -> String,
+) -> String {
+    innermost.map_or("nothing is open here".to_string(), |open| {
+        format!(
+            "the innermost open construct is the `{}` of {}",
+            plant.rows[open].part.keyword(),
+            named(Subject::Row(open))
+        )
+    })
 }
 
-/// The open rows of the constructs around a row, the innermost last.
-fn open_before(plant: &Plant, row: usize) -> Vec<usize> {
-    let mut open = Vec::new();
-    for (number, before) in plant.rows[..row].iter().enumerate() {
-        if before.part.opens() {
-            open.push(number);
-        } else if before.part.closes() {
-            open.pop();
+/// Why a branch may not stand in the innermost open construct, or in none.
+pub fn branch_words(branch: &Part, innermost: Option<&Part>, around: &str) -> String {
+    let keyword = branch.keyword();
+    let belongs = match branch {
+        Part::Outlet => format!("an `{keyword}` belongs to a `box`"),
+        Part::Branch { kills: true } => format!("a `{keyword}` belongs to an `and`"),
+        _ => format!("a `{keyword}` belongs to an `and` or `or`"),
+    };
+    let instead = match (branch, innermost) {
+        (Part::Branch { kills: true }, Some(Part::Or)) => {
+            ": one branch of it runs alone and has no others to kill, write `branch`"
         }
-    }
-    open
+        (Part::Branch { .. }, Some(Part::Box)) => {
+            ": behind its scenario stand outlets, write `outlet` and a name"
+        }
+        (Part::Outlet, Some(Part::And | Part::Or)) => ": close it before, or write `branch`",
+        _ => "",
+    };
+    format!("{belongs}, and {around}{instead}")
 }
 
 fn needs_branch(part: &Part) -> bool {
@@ -313,21 +339,100 @@ fn closed_by(open: &Part) -> Part {
         Part::And => Part::EndAnd,
         Part::Or => Part::EndOr,
         Part::Loop => Part::EndLoop,
+        Part::Box => Part::EndBox,
         _ => Part::EndRepeat,
     }
 }
 
-fn exit_words(plant: &Plant, row: usize, open: &[usize], around: &str) -> String {
-    let part = |open: &usize| &plant.rows[*open].part;
-    if !open.iter().any(|open| *part(open) == Part::Loop) {
-        "`exit loop` stands in no loop".to_string()
-    } else if !open.last().is_some_and(|open| needs_branch(part(open))) {
-        format!("`exit loop` stands at the end of a branch, and {around}")
-    } else {
-        let next = plant
-            .rows
-            .get(row + 1)
-            .map_or("nothing", |next| next.part.keyword());
-        format!("`exit loop` is the last row of its branch, and `{next}` follows")
+/// Why an LE may not stand here.
+fn loop_exit_words(
+    plant: &Plant,
+    row: usize,
+    open: &[Frame],
+    around: &str,
+    named: impl Fn(Subject) -> String,
+) -> String {
+    let part = |frame: &Frame| &plant.rows[frame.open].part;
+    let is_loop = |frame: &&Frame| *part(frame) == Part::Loop;
+    let Some(left) = open.iter().rev().find(is_loop) else {
+        return "`exit loop` stands in no loop".to_string();
+    };
+    if let Some(boxed) = boxes::scenario(plant, open).filter(|boxed| boxed.open > left.open) {
+        let [left, boxed] = [left, boxed].map(|frame| named(Subject::Row(frame.open)));
+        return format!("the `loop` of {left} is outside the `box` of {boxed}, whose scenario this `exit loop` stands in: leave the box with `exit to` first");
     }
+    if !open.last().is_some_and(|frame| needs_branch(part(frame))) {
+        return format!("`exit loop` stands at the end of a branch, and {around}");
+    }
+    follows_words(plant, row, "its branch")
+}
+
+/// Why an EXIT may not stand here.
+fn box_exit_words(plant: &Plant, row: usize, open: &[Frame], around: &str) -> String {
+    let part = |frame: &Frame| &plant.rows[frame.open].part;
+    if boxes::scenario(plant, open).is_none() {
+        return match open.iter().any(|frame| *part(frame) == Part::Box) {
+            true => {
+                "`exit to` leaves a box out of its scenario, and this one stands behind an `outlet`"
+                    .to_string()
+            }
+            false => "`exit to` stands in no box".to_string(),
+        };
+    }
+    match open.last().map(part) {
+        Some(Part::Repeat { .. } | Part::Loop) => {
+            format!("`exit to` stands at the end of a branch or of its scenario, and {around}")
+        }
+        _ => follows_words(plant, row, "its branch or scenario"),
+    }
+}
+
+/// That a row which leaves something is not the last one there.
+fn follows_words(plant: &Plant, row: usize, last_of: &str) -> String {
+    let keyword = plant.rows[row].part.keyword();
+    let next = plant.rows.get(row + 1);
+    let next = next.map_or("nothing", |next| next.part.keyword());
+    format!("`{keyword}` is the last row of {last_of}, and `{next}` follows")
+}
+
+/// Which EXIT has no outlet, or which outlet two EXITs or none: the first of these that is found.
+fn unmatched_words(plant: &Plant, boxed: &Boxed, named: impl Fn(Subject) -> String) -> String {
+    let line = |row: usize| named(Subject::Row(row));
+    let count = boxed.outlets.len();
+    let unknown = boxed.exits.iter().find_map(|&exit| {
+        let Part::ExitTo { outlet } = plant.rows[exit].part else {
+            return None;
+        };
+        let words = format!(
+            "the `exit to` of {} leads to outlet {outlet}, and this `box` has {count} of them, numbered from 0",
+            line(exit)
+        );
+        (usize::from(outlet) >= count).then_some(words)
+    });
+    let exits = |number: usize| boxed.exits_to(plant, number);
+    let shared = (0..count).find_map(|number| match exits(number)[..] {
+        [first, second, ..] => Some(format!(
+            "the `exit to` of {} and that of {} lead to the same outlet, that of {}: each outlet has one",
+            line(first),
+            line(second),
+            line(boxed.outlets[number])
+        )),
+        _ => None,
+    });
+    let missed = (0..count).find(|number| exits(*number).is_empty());
+    let missed = missed.map(|number| {
+        let outlet = line(boxed.outlets[number]);
+        format!("no `exit to` in the scenario of this `box` leads to its outlet of {outlet}: each outlet has one")
+    });
+    unknown.or(shared).or(missed).unwrap_or_default()
+}
+
+/// Where a scenario falls through.
+fn falling_words(plant: &Plant, open: usize, named: impl Fn(Subject) -> String) -> String {
+    let (scenario, _) = structure::run_from(plant, open + 1);
+    let Some(row) = boxes::falls_behind(plant, open, &scenario) else {
+        return String::new();
+    };
+    let (keyword, line) = (plant.rows[row].part.keyword(), named(Subject::Row(row)));
+    format!("the scenario of this `box` comes to its end behind the `{keyword}` of {line}, and nothing leads from there to an outlet: put an `exit to` there")
 }

@@ -38,12 +38,12 @@ fn through(plant: &Plant, run: &[Node]) -> Option<Way> {
     Some(ways?.concat())
 }
 
-/// From before a row or construct to behind it. An LP is left by an LE alone.
+/// From before a row or construct to behind it. An LP is left by an LE alone, a box by its outlets.
 fn past(plant: &Plant, node: &Node) -> Option<Way> {
     match node {
         Node::Single { row } => instant(&plant.rows[*row].part).then(|| vec![*row]),
         Node::Around { open, body, .. } if is_loop(plant, *open) => {
-            Some([vec![*open], to_exit(plant, body)?].concat())
+            Some([vec![*open], to_exit(plant, body, &Part::ExitLoop)?].concat())
         }
         Node::Around { open, body, close } => Some(between(*open, through(plant, body)?, *close)),
         Node::Branched {
@@ -57,10 +57,21 @@ fn past(plant: &Plant, node: &Node) -> Option<Way> {
             };
             Some(between(*open, inside?, *close))
         }
+        Node::Boxed {
+            open,
+            scenario,
+            outlets,
+            close,
+        } => shortest(
+            to_outlets(plant, *open, scenario, outlets).filter_map(|(way, outlet)| {
+                let inside = through(plant, &outlet.run)?;
+                Some([way, inside, vec![*close]].concat())
+            }),
+        ),
     }
 }
 
-/// Whether a row that stands alone can be passed in no time: no LE is passed.
+/// Whether a row that stands alone can be passed in no time: no LE or EXIT is passed.
 fn instant(part: &Part) -> bool {
     matches!(part, Part::Function(Function { shortest: 0, .. }))
 }
@@ -83,24 +94,50 @@ fn past_and(plant: &Plant, branches: &[Branch]) -> Option<Way> {
     })
 }
 
-/// From the beginning of a run to an LE of the loop that the run belongs to.
-fn to_exit(plant: &Plant, run: &[Node]) -> Option<Way> {
+/// From before a box to each outlet that can be come to, its BRANCH row included.
+fn to_outlets<'a>(
+    plant: &'a Plant,
+    open: usize,
+    scenario: &'a [Node],
+    outlets: &'a [Branch],
+) -> impl Iterator<Item = (Way, &'a Branch)> + 'a {
+    (0..).zip(outlets).filter_map(move |(number, outlet)| {
+        let exit = to_exit(plant, scenario, &Part::ExitTo { outlet: number })?;
+        Some(([vec![open], exit, vec![outlet.row]].concat(), outlet))
+    })
+}
+
+/// From the beginning of a run to an LE of the loop that the run belongs to, or such an EXIT of its box.
+fn to_exit(plant: &Plant, run: &[Node], exit: &Part) -> Option<Way> {
     let ways = run.iter().enumerate().filter_map(|(at, node)| {
-        let exit = exit_in(plant, node)?;
-        Some([through(plant, &run[..at])?, exit].concat())
+        let way = exit_in(plant, node, exit)?;
+        Some([through(plant, &run[..at])?, way].concat())
     });
     shortest(ways)
 }
 
-/// From before a row or construct to such an LE. Other branches of an AND need not end; an LE in an inner loop leaves that one.
-fn exit_in(plant: &Plant, node: &Node) -> Option<Way> {
+/// From before a row or construct to such an LE or EXIT. Other branches of an AND need not end. An LE in an inner loop leaves that one,
+/// an EXIT in the scenario of an inner box that one; no LE stands there for a loop outside.
+fn exit_in(plant: &Plant, node: &Node, exit: &Part) -> Option<Way> {
     match node {
-        Node::Single { row } => (plant.rows[*row].part == Part::ExitLoop).then(|| vec![*row]),
-        Node::Around { open, .. } if is_loop(plant, *open) => None,
-        Node::Around { open, body, .. } => Some([vec![*open], to_exit(plant, body)?].concat()),
+        Node::Single { row } => (plant.rows[*row].part == *exit).then(|| vec![*row]),
+        Node::Around { open, .. } if is_loop(plant, *open) && *exit == Part::ExitLoop => None,
+        Node::Around { open, body, .. } => {
+            Some([vec![*open], to_exit(plant, body, exit)?].concat())
+        }
         Node::Branched { open, branches, .. } => shortest(branches.iter().filter_map(|branch| {
-            let exit = to_exit(plant, &branch.run)?;
-            Some([vec![*open, branch.row], exit].concat())
+            let way = to_exit(plant, &branch.run, exit)?;
+            Some([vec![*open, branch.row], way].concat())
         })),
+        Node::Boxed {
+            open,
+            scenario,
+            outlets,
+            ..
+        } => shortest(
+            to_outlets(plant, *open, scenario, outlets).filter_map(|(way, outlet)| {
+                Some([way, to_exit(plant, &outlet.run, exit)?].concat())
+            }),
+        ),
     }
 }

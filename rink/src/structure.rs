@@ -9,7 +9,7 @@ pub type Run = Vec<Node>;
 /// A row that stands alone, or a construct with the runs inside it.
 #[derive(Clone, PartialEq, Eq, Debug)]
 pub enum Node {
-    /// FUNCTION, LE or END.
+    /// FUNCTION, LE, EXIT or END.
     Single { row: usize },
     /// IT or LP.
     Around {
@@ -21,6 +21,12 @@ pub enum Node {
     Branched {
         open: usize,
         branches: Vec<Branch>,
+        close: usize,
+    },
+    Boxed {
+        open: usize,
+        scenario: Run,
+        outlets: Vec<Branch>,
         close: usize,
     },
 }
@@ -54,21 +60,30 @@ fn run(plant: &Plant, row: &mut usize) -> Run {
         let open = *row;
         *row += 1;
         nodes.push(match part {
-            Part::And | Part::Or => branched(plant, open, row),
-            Part::Repeat { .. } | Part::Loop => {
-                let body = run(plant, row);
-                *row += 1;
-                let close = *row - 1;
-                Node::Around { open, body, close }
-            }
+            Part::And | Part::Or => Node::Branched {
+                open,
+                branches: branch_runs(plant, row),
+                close: closed(row),
+            },
+            Part::Box => Node::Boxed {
+                open,
+                scenario: run(plant, row),
+                outlets: branch_runs(plant, row),
+                close: closed(row),
+            },
+            Part::Repeat { .. } | Part::Loop => Node::Around {
+                open,
+                body: run(plant, row),
+                close: closed(row),
+            },
             _ => Node::Single { row: open },
         });
     }
     nodes
 }
 
-/// The branches behind `open`, up to the close.
-fn branched(plant: &Plant, open: usize, row: &mut usize) -> Node {
+/// The branches from `row` on, which becomes their close.
+fn branch_runs(plant: &Plant, row: &mut usize) -> Vec<Branch> {
     let mut branches = Vec::new();
     while plant.rows[*row].part.is_branch() {
         let branch = *row;
@@ -76,32 +91,66 @@ fn branched(plant: &Plant, open: usize, row: &mut usize) -> Node {
         let run = run(plant, row);
         branches.push(Branch { row: branch, run });
     }
+    branches
+}
+
+/// The close at `row`, which becomes the row behind it.
+fn closed(row: &mut usize) -> usize {
     *row += 1;
-    Node::Branched {
-        open,
-        branches,
-        close: *row - 1,
+    *row - 1
+}
+
+/// An open construct: its open row, and how many of its BRANCH rows came so far.
+#[derive(Clone, Copy, PartialEq, Eq, Debug)]
+pub struct Frame {
+    pub open: usize,
+    pub branches: usize,
+}
+
+/// Goes through the rows of any plant, nested well or not: each with the constructs open before it, the innermost last.
+pub fn walk(plant: &Plant, mut see: impl FnMut(usize, &[Frame])) {
+    let mut open: Vec<Frame> = Vec::new();
+    for (row, found) in plant.rows.iter().enumerate() {
+        see(row, &open);
+        let part = &found.part;
+        if part.opens() {
+            open.push(Frame {
+                open: row,
+                branches: 0,
+            });
+        } else if part.closes() {
+            open.pop();
+        } else if part.is_branch() {
+            if let Some(innermost) = open.last_mut() {
+                innermost.branches += 1;
+            }
+        }
     }
+}
+
+/// The constructs open before a row of any plant, the innermost last.
+pub fn open_before(plant: &Plant, row: usize) -> Vec<Frame> {
+    let mut found = Vec::new();
+    walk(plant, |other, open| {
+        if other == row {
+            found = open.to_vec();
+        }
+    });
+    found
 }
 
 /// Of each row: the open row of the innermost construct around it. An open and a close belong to what is around their construct,
 /// a BRANCH to its own.
 pub fn owners(plant: &Plant) -> Vec<Option<usize>> {
-    let mut open: Vec<usize> = Vec::new();
     let mut owners = Vec::new();
-    for (row, found) in plant.rows.iter().enumerate() {
-        if found.part.closes() {
-            open.pop();
-        }
-        owners.push(open.last().copied());
-        if found.part.opens() {
-            open.push(row);
-        }
-    }
+    walk(plant, |row, open| {
+        let own = usize::from(plant.rows[row].part.closes());
+        owners.push(open.iter().rev().nth(own).map(|frame| frame.open));
+    });
     owners
 }
 
-/// The BRANCH rows of the AND or OR that opens here.
+/// The BRANCH rows of the AND, OR or box that opens here.
 pub fn branches(plant: &Plant, open: usize) -> Vec<usize> {
     let owners = owners(plant).into_iter().enumerate();
     let own =
@@ -147,10 +196,10 @@ impl Killer {
         others
     }
 
-    /// Whether its end can come: a branch that ends with an LE is never done.
+    /// Whether its end can come: a branch that ends with an LE or EXIT is never done.
     pub fn can_kill(&self, plant: &Plant) -> bool {
         let last = branch_rows(plant, self.branch).last();
-        last.is_some_and(|last| plant.rows[last].part != Part::ExitLoop)
+        last.is_some_and(|last| !plant.rows[last].part.leaves())
     }
 }
 

@@ -3,9 +3,12 @@
 //! `parse` takes any text apart into parts and lays no rule of the diagram on them: `make` has the proved reader judge their bytes, and
 //! shows a refusal at the line whose record or row it names.
 
+use crate::boxes::{self, Boxed};
 use crate::plant::{Function, Item, Part, Plant, Row, Use};
-use crate::refused;
+use crate::refused::{self, Subject};
+use crate::structure;
 use crate::times::{self, NoTime};
+use std::collections::BTreeMap;
 use std::fmt::Write;
 
 /// A place in a text; lines and columns count from 1, columns in letters.
@@ -54,8 +57,17 @@ pub struct Parsed {
     pub plant: Plant,
     pub items: Vec<Place>,
     pub rows: Vec<Place>,
+    /// Of each EXIT row the outlet that it names.
+    exits: BTreeMap<usize, Named>,
     /// Behind the last line.
     pub end: Place,
+}
+
+/// A name, and where it stands.
+#[derive(Clone, PartialEq, Eq, Debug)]
+struct Named {
+    place: Place,
+    name: String,
 }
 
 /// Letters of a name, at most: longer ones would not fit a drawing.
@@ -63,7 +75,7 @@ pub const MOST_LETTERS: usize = 40;
 
 /// The words that a line begins with.
 const FIRST_WORDS: &str =
-    "plant, item, trigger, function, and, or, branch, killing branch, repeat, loop, exit loop, end and, end or, end repeat, end loop, end";
+    "plant, item, trigger, function, and, or, branch, killing branch, repeat, loop, exit loop, box, outlet, exit to, end and, end or, end repeat, end loop, end box, end";
 
 /// The bytes of a text's plant, accepted by the proved reader, and the plant.
 pub fn make(text: &str) -> Result<(Vec<u8>, Plant), Fault> {
@@ -84,23 +96,23 @@ pub fn make(text: &str) -> Result<(Vec<u8>, Plant), Fault> {
 
 impl Parsed {
     /// The line of what a refusal names. The head has none: too many items or rows are shown at the first too many.
-    fn place_of(&self, subject: refused::Subject) -> Place {
+    fn place_of(&self, subject: Subject) -> Place {
         let place = match subject {
-            refused::Subject::Head if self.items.len() > effbd::MOST_ITEMS => {
+            Subject::Head if self.items.len() > effbd::MOST_ITEMS => {
                 self.items.get(effbd::MOST_ITEMS)
             }
-            refused::Subject::Head => self.rows.get(effbd::MOST_ROWS),
-            refused::Subject::Item(item) => self.items.get(item),
-            refused::Subject::Row(row) => self.rows.get(row),
-            refused::Subject::Behind => None,
+            Subject::Head => self.rows.get(effbd::MOST_ROWS),
+            Subject::Item(item) => self.items.get(item),
+            Subject::Row(row) => self.rows.get(row),
+            Subject::Behind => None,
         };
         place.copied().unwrap_or(self.end)
     }
 
     /// How the text's writer calls it: an item by its name, all else by its line.
-    fn named(&self, subject: refused::Subject) -> String {
+    fn named(&self, subject: Subject) -> String {
         match subject {
-            refused::Subject::Item(item) if item < self.plant.items.len() => {
+            Subject::Item(item) if item < self.plant.items.len() => {
                 let item = &self.plant.items[item];
                 format!("{} `{}`", item.keyword(), item.name)
             }
@@ -130,6 +142,7 @@ pub fn parse(text: &str) -> Result<Parsed, Fault> {
         plant: Plant::default(),
         items: Vec::new(),
         rows: Vec::new(),
+        exits: BTreeMap::new(),
         end: Place {
             line: lines.max(1),
             column: text.lines().last().unwrap_or("").chars().count() + 1,
@@ -141,6 +154,11 @@ pub fn parse(text: &str) -> Result<Parsed, Fault> {
             parsed.line(&mut words)?;
             words.done()?;
         }
+    }
+    // Too many rows are told first, by the reader.
+    if parsed.rows.len() <= effbd::MOST_ROWS {
+        parsed.branches_are_called_right()?;
+        parsed.number_exits()?;
     }
     Ok(parsed)
 }
@@ -162,7 +180,9 @@ impl Parsed {
                 count: words.number("how often it repeats, such as `repeat 3`")?,
             },
             "loop" => Part::Loop,
-            "exit" => two_words(Part::ExitLoop, "what is left", words)?,
+            "exit" => return self.exit(first.place, words),
+            "box" => Part::Box,
+            "outlet" => return self.outlet(first.place, words),
             "end" => ended(words)?,
             other => {
                 let words = format!(
@@ -171,7 +191,7 @@ impl Parsed {
                 return Err(Fault::at(first.place, words));
             }
         };
-        let name = match part.opens() || part.is_branch() {
+        let name = match part.may_be_named() {
             true => words.optional_name()?,
             false => None,
         };
@@ -182,6 +202,101 @@ impl Parsed {
     fn row(&mut self, place: Place, part: Part, name: Option<String>) {
         self.plant.rows.push(Row { part, name });
         self.rows.push(place);
+    }
+
+    fn outlet(&mut self, place: Place, words: &mut Words) -> Result<(), Fault> {
+        let name = words.next("the outlet's name, such as `outlet trip`")?;
+        self.row(place, Part::Outlet, Some(name.name()?));
+        Ok(())
+    }
+
+    /// An LE, or an EXIT, whose outlet stands further down: its number is found when all lines are read.
+    fn exit(&mut self, place: Place, words: &mut Words) -> Result<(), Fault> {
+        const KNOWN: &str = "`exit loop`, or `exit to` with an outlet's name";
+        let left = words.next(&format!("what is left: {KNOWN}"))?;
+        let part = match left.text {
+            "loop" => Part::ExitLoop,
+            "to" => {
+                let outlet = words.next("the outlet's name, such as `exit to trip`")?;
+                let named = Named {
+                    place: outlet.place,
+                    name: outlet.name()?,
+                };
+                self.exits.insert(self.rows.len(), named);
+                Part::ExitTo { outlet: 0 }
+            }
+            other => {
+                let words = format!("`exit {other}`: known are {KNOWN}");
+                return Err(Fault::at(left.place, words));
+            }
+        };
+        self.row(place, part, None);
+        Ok(())
+    }
+
+    /// That outlets stand in boxes, and other branches do not: their bytes are the same, so that the reader cannot tell.
+    fn branches_are_called_right(&self) -> Result<(), Fault> {
+        let mut wrong = None;
+        structure::walk(&self.plant, |row, open| {
+            let innermost = open.last().map(|frame| frame.open);
+            let in_box = innermost.is_some_and(|open| self.plant.rows[open].part == Part::Box);
+            let part = &self.plant.rows[row].part;
+            let is_wrong = match part {
+                Part::Branch { kills: false } => in_box,
+                Part::Outlet => !in_box,
+                _ => false,
+            };
+            if is_wrong && wrong.is_none() {
+                let around = refused::around_words(&self.plant, innermost, |at| self.named(at));
+                let open = innermost.map(|open| &self.plant.rows[open].part);
+                let words = refused::branch_words(part, open, &around);
+                wrong = Some(Fault::at(self.rows[row], words));
+            }
+        });
+        wrong.map_or(Ok(()), Err)
+    }
+
+    /// Gives each EXIT the number of the outlet that it names. One that is in no scenario is left to the reader.
+    fn number_exits(&mut self) -> Result<(), Fault> {
+        for boxed in boxes::all(&self.plant) {
+            self.outlets_differ(&boxed)?;
+            for exit in &boxed.exits {
+                let outlet = self.outlet_of(*exit, &boxed)?;
+                self.plant.rows[*exit].part = Part::ExitTo { outlet };
+            }
+        }
+        Ok(())
+    }
+
+    fn outlets_differ(&self, boxed: &Boxed) -> Result<(), Fault> {
+        let name = |outlet: &usize| &self.plant.rows[*outlet].name;
+        let twice = boxed.outlets.iter().enumerate().find(|(number, outlet)| {
+            let mut before = boxed.outlets[..*number].iter();
+            before.any(|other| name(other) == name(outlet))
+        });
+        twice.map_or(Ok(()), |(_, outlet)| {
+            let name = self.plant.row_name(*outlet);
+            let open = self.named(Subject::Row(boxed.open));
+            let words = format!("the `box` of {open} has an outlet `{name}` already");
+            Err(Fault::at(self.rows[*outlet], words))
+        })
+    }
+
+    /// The number of the outlet that an EXIT of this box names.
+    fn outlet_of(&self, exit: usize, boxed: &Boxed) -> Result<u16, Fault> {
+        let Named { place, name } = &self.exits[&exit];
+        let names = boxed.outlets.iter();
+        let names: Vec<String> = names.map(|outlet| self.plant.row_name(*outlet)).collect();
+        let number = names.iter().position(|outlet| outlet == name);
+        number.map(|number| number as u16).ok_or_else(|| {
+            let open = self.named(Subject::Row(boxed.open));
+            let listed = match names.as_slice() {
+                [] => "has none".to_string(),
+                names => format!("has {}", names.join(", ")),
+            };
+            let words = format!("no outlet `{name}`: the `box` of {open} {listed}");
+            Fault::at(*place, words)
+        })
     }
 
     fn title(&mut self, place: Place, words: &mut Words) -> Result<(), Fault> {
@@ -316,8 +431,9 @@ fn ended(words: &mut Words) -> Result<Part, Fault> {
         "or" => Part::EndOr,
         "repeat" => Part::EndRepeat,
         "loop" => Part::EndLoop,
+        "box" => Part::EndBox,
         other => {
-            let words = format!("`end {other}`: known are end and, end or, end repeat, end loop, and `end` alone for the last row");
+            let words = format!("`end {other}`: known are end and, end or, end repeat, end loop, end box, and `end` alone for the last row");
             return Err(Fault::at(what.place, words));
         }
     };
@@ -536,21 +652,21 @@ pub fn item_lines(plant: &Plant) -> Vec<String> {
 pub fn row_lines(plant: &Plant, seconds: bool) -> Vec<String> {
     let mut indent = 0;
     let mut lines = Vec::new();
-    for row in &plant.rows {
+    for (number, row) in plant.rows.iter().enumerate() {
         let depth = before(&row.part, indent);
-        let line = row_line(plant, row, seconds);
+        let line = row_line(plant, number, seconds);
         lines.push(format!("{}{line}", "  ".repeat(depth)));
         indent = behind(&row.part, depth);
     }
     lines
 }
 
-/// Where a row stands, if a run at its place stands at `indent`: a branch stands between its construct and its rows.
+/// Where a row stands, if a run at its place stands at `indent`: a branch stands between its construct and its rows, an outlet as its box.
 fn before(part: &Part, indent: usize) -> usize {
     match part {
         Part::Branch { .. } => indent.saturating_sub(1),
         Part::EndAnd | Part::EndOr => indent.saturating_sub(2),
-        Part::EndRepeat | Part::EndLoop => indent.saturating_sub(1),
+        Part::EndRepeat | Part::EndLoop | Part::Outlet | Part::EndBox => indent.saturating_sub(1),
         _ => indent,
     }
 }
@@ -559,13 +675,16 @@ fn before(part: &Part, indent: usize) -> usize {
 fn behind(part: &Part, depth: usize) -> usize {
     match part {
         Part::And | Part::Or => depth + 2,
-        Part::Branch { .. } | Part::Repeat { .. } | Part::Loop => depth + 1,
+        Part::Branch { .. } | Part::Repeat { .. } | Part::Loop | Part::Box | Part::Outlet => {
+            depth + 1
+        }
         _ => depth,
     }
 }
 
-fn row_line(plant: &Plant, row: &Row, seconds: bool) -> String {
-    let mut line = row.part.keyword().to_string();
+fn row_line(plant: &Plant, number: usize, seconds: bool) -> String {
+    let row = &plant.rows[number];
+    let mut line = plant.keyword(number);
     if let Part::Repeat { count } = row.part {
         let _ = write!(line, " {count}");
     }

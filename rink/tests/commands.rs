@@ -352,6 +352,32 @@ fn kills_told() {
     assert!(checked.text().contains(never), "{}", checked.text());
 }
 
+/// The EXITs of each box in the order of its outlets, and a killing branch that never kills for one.
+#[test]
+fn boxes_told() {
+    let has = |answer: &Answer, line: &str| {
+        let text = answer.text();
+        assert!(text.lines().any(|other| other == line), "{line} in {text}");
+    };
+    let store = rink(&["check", &example("pull-down.dia")]);
+    has(&store, "box pull-down (row 2): left by exit to setpoint-reached (row 16), exit to pressure-trip (row 27) and exit to time-out (row 30)");
+    has(
+        &store,
+        "killing branch oil-pump (row 6): kills branch crankcase (row 4)",
+    );
+    let text = "box\nand\nkilling branch\nexit to b\nbranch\nexit to a\nend and\noutlet a\noutlet b\nend box\nend\n";
+    let file = fed(&["make", "-"], text.as_bytes()).output;
+    let checked = fed(&["check", "-"], &file);
+    has(
+        &checked,
+        "killing branch (row 2): never kills, it ends with `exit to outlet-1`",
+    );
+    has(
+        &checked,
+        "box (row 0): left by exit to outlet-0 (row 5) and exit to outlet-1 (row 3)",
+    );
+}
+
 /// That a file is refused in these words: `check` prints them, other commands say them.
 fn refuses(file: &[u8], words: &str) {
     let answer = fed(&["check", "-"], file);
@@ -373,6 +399,46 @@ fn refused_killer() {
     file[12] = 20;
     let words = "row 1, offset 14: a `killing branch` belongs to an `and`, and the innermost open construct is the `or` of row 0: ";
     refuses(&file, words);
+}
+
+/// What is off with a box in a file: its rows and the numbers of its outlets.
+#[test]
+fn refused_box() {
+    let text = "function f 1..2\nbox\nor\nbranch\nexit to a\nbranch\nexit to b\nend or\noutlet a\noutlet b\nend box\nend\n";
+    let made = fed(&["make", "-"], text.as_bytes()).output;
+    assert_eq!(made[30..36], [6, 0, 31, 0, 0, 0]);
+    let with = |at: usize, byte: u8| {
+        let mut file = made.clone();
+        file[at] = byte;
+        file
+    };
+    refuses(
+        &with(34, 7),
+        "row 1, offset 18: the `exit to` of row 4 leads to outlet 7, and this `box` has 2 of them, numbered from 0 (refusal 49, ",
+    );
+    refuses(
+        &with(34, 1),
+        "row 1, offset 18: the `exit to` of row 4 and that of row 6 lead to the same outlet, that of row 9: each outlet has one (refusal 49, ",
+    );
+    refuses(
+        &with(52, 28),
+        "row 8, offset 50: a `killing branch` belongs to an `and`, and the innermost open construct is the `box` of row 1: behind its scenario stand outlets, write `outlet` and a name (refusal 7, ",
+    );
+    let short = [&made[..30], &[4, 0, 31, 0], &made[36..]].concat();
+    refuses(
+        &short,
+        "row 4, offset 30: 4 bytes are no length of a record of kind 31 (refusal 3, ",
+    );
+    let file = fed(
+        &["make", "-"],
+        text.replace("exit to b\n", "exit to b\nbranch\n")
+            .as_bytes(),
+    );
+    says(
+        &file,
+        REFUSED,
+        "standard input:2:1: the scenario of this `box` comes to its end behind the `branch` of line 8",
+    );
 }
 
 /// A loop that spends no time in a file: its row and offset, and where it ends.
@@ -397,8 +463,9 @@ fn rounds_told() {
         lines.map(str::to_string).collect()
     };
     assert_eq!(warnings(&watch), [warning]);
-    for name in ["h", "pump-down", "ice-making", "pressure-trip"] {
+    for name in ["h", "pump-down", "ice-making", "pressure-trip", "pull-down"] {
         let checked = rink(&["check", &example(&format!("{name}.dia"))]);
+        assert_eq!(checked.status, DONE, "{name}");
         assert_eq!(warnings(&checked), [""; 0], "{name}");
     }
 }
@@ -503,6 +570,16 @@ fn other_formats() {
     ] {
         assert!(trip.text().lines().any(|other| other == line), "{line}");
     }
+    let store = rink(&["draw", "--tina", &example("pull-down.dia")]);
+    for line in [
+        "# t16 clears 6 to 95",
+        "tr t3 : {pull-down: scenario begins} [0,0] p6 -> p9",
+        "tr t16 : {exit to setpoint-reached (row 16): box left} [0,0] p48 -> p62*3 p99",
+        "tr t33 : {exit to time-out (row 30): box left} [0,0] p90 -> p62*3 p114",
+        "tr t41 : {end box (row 38) passed} [0,0] p114 -> p117",
+    ] {
+        assert!(store.text().lines().any(|other| other == line), "{line}");
+    }
 }
 
 /// The page has the file's bytes and length, and needs nothing from elsewhere.
@@ -537,5 +614,15 @@ fn annex_page() {
         "<td>trip done</td>",
     ] {
         assert!(trip.text().contains(words), "{words}");
+    }
+    let store = rink(&["annex", &example("pull-down.dia")]);
+    for words in [
+        "48 rows, 1 killing branch and 1 box among them, 2 items; the net has 146 places",
+        "<pre>  outlet pressure-trip</pre>",
+        "<pre>        exit to pressure-trip</pre>",
+        "<td>exit to pressure-trip (row 27): box left</td>",
+        "<rect data-box=\"2\" ",
+    ] {
+        assert!(store.text().contains(words), "{words}");
     }
 }

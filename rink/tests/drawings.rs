@@ -4,7 +4,8 @@ use model::generate::{
     crowded_diagram, diagram, killing_diagram, lasting_diagram, lasting_killing_diagram,
     lasting_trigger_diagram, Random,
 };
-use rink::draw::{self, Line, Node, Outline, Placed, Point, Sheet};
+use rink::boxes;
+use rink::draw::{self, Border, Group, Line, Node, Outline, Placed, Point, Sheet};
 use rink::formats;
 use rink::net::Net;
 use rink::plant::{Function, Item, Part, Plant, Row, Use};
@@ -70,8 +71,7 @@ fn name_all(plant: &mut Plant, random: &mut Random) {
         item.name = name(random);
     }
     for row in &mut plant.rows {
-        let may = row.part.opens() || row.part.is_branch();
-        if row.name.is_some() || (may && random.chance(30)) {
+        if row.part.is_named() || (row.part.may_be_named() && random.chance(30)) {
             row.name = Some(name(random));
         }
     }
@@ -93,9 +93,8 @@ fn name(random: &mut Random) -> String {
 }
 
 fn row(part: Part) -> Row {
-    let function = matches!(part, Part::Function(_));
     Row {
-        name: function.then(|| "open-brine-valve".to_string()),
+        name: part.is_named().then(|| "open-brine-valve".to_string()),
         part,
     }
 }
@@ -225,6 +224,67 @@ fn kill_extremes() -> Vec<Case> {
     ]
 }
 
+/// EXIT, by the outlet of this number.
+fn exit(outlet: u16) -> Part {
+    Part::ExitTo { outlet }
+}
+
+/// Plants of boxes: one in the other's scenario and outlets, of many outlets, with EXITs and LEs wherever they may stand.
+fn box_extremes() -> Vec<Case> {
+    use Part::{And, Box, EndAnd, EndBox, EndLoop, EndOr, EndRepeat, ExitLoop, Loop, Or, Outlet};
+    let it = Part::Repeat { count: 3 };
+    let mut outlets = vec![Box, And];
+    (0..19).for_each(|outlet| outlets.extend([BRANCH, exit(outlet)]));
+    outlets.push(EndAnd);
+    outlets.extend(vec![Outlet; 19]);
+    outlets.push(EndBox);
+    let either = [Or, BRANCH, exit(0), BRANCH, plain(), exit(1), EndOr];
+    let opening = [Box, And, BRANCH, exit(1), BRANCH];
+    let closing = [exit(0), EndAnd, Outlet, Outlet, EndBox];
+    let boxed = [&[Box], &either[..], &[Outlet]].concat();
+    let in_outlets = [&boxed[..], &[Outlet]].concat();
+    // An EXIT in an outlet leaves the box around.
+    let through = [
+        vec![Box, plain()],
+        boxed.clone(),
+        vec![plain(), exit(1), Outlet, exit(2), EndBox, exit(0)],
+        vec![Outlet, plain(), Outlet, Outlet, plain(), EndBox, plain()],
+    ];
+    let loops = [
+        vec![Loop, plain(), Box, Loop, plain(), Or, BRANCH, ExitLoop],
+        vec![BRANCH, plain(), exit(0), EndOr, EndLoop, exit(1), Outlet],
+        vec![plain(), Or, BRANCH, plain(), ExitLoop, BRANCH, EndOr],
+        vec![Outlet, Or, BRANCH, ExitLoop, BRANCH, ExitLoop, EndOr],
+        vec![EndBox, EndLoop, plain()],
+    ];
+    let turns = [
+        vec![it.clone(), Box, it.clone(), And, BRANCH, exit(0), BRANCH],
+        vec![plain(), exit(1), EndAnd, EndRepeat, exit(2), Outlet],
+        vec![it.clone(), EndRepeat, Outlet, plain(), Outlet, EndBox],
+        vec![EndRepeat],
+    ];
+    let killers = [
+        vec![And, BRANCH, plain(), KILLER, Box, And, KILLER, plain()],
+        vec![exit(0), BRANCH, it, plain(), EndRepeat, exit(1), EndAnd],
+        vec![Outlet, plain(), Outlet, EndBox, KILLER, plain(), EndAnd],
+    ];
+    vec![
+        extreme("19 outlets", outlets),
+        extreme(
+            "6 boxes in scenarios",
+            nested(6, &opening, &[plain()], &closing),
+        ),
+        extreme(
+            "5 boxes in outlets",
+            nested(5, &in_outlets, &[plain()], &[EndBox]),
+        ),
+        extreme("EXITs in outlets", through.concat()),
+        extreme("LEs around and in boxes", loops.concat()),
+        extreme("boxes around and in ITs", turns.concat()),
+        extreme("boxes and branches that kill", killers.concat()),
+    ]
+}
+
 fn extremes() -> Vec<Case> {
     use Part::{And, EndAnd, EndLoop, EndOr, EndRepeat, ExitLoop, Loop, Or};
     let it = Part::Repeat { count: 255 };
@@ -314,6 +374,7 @@ fn extremes() -> Vec<Case> {
     ];
     all.extend(trigger_extremes());
     all.extend(kill_extremes());
+    all.extend(box_extremes());
     all.extend(all.iter().map(widely_named).collect::<Vec<Case>>());
     all
 }
@@ -323,8 +384,7 @@ fn widely_named(case: &Case) -> Case {
     let mut plant = case.plant.clone();
     plant.title = Some("Ж".repeat(40));
     for row in &mut plant.rows {
-        let may = row.part.opens() || row.part.is_branch();
-        if may || row.name.is_some() {
+        if row.part.may_be_named() {
             row.name = Some("W".repeat(39) + "-");
         }
     }
@@ -600,18 +660,25 @@ fn flow(plant: &Plant) -> Vec<(Node, Node)> {
         kills.map_or(Node::Row(closes[open]), Node::Kill)
     };
     let target = |row: usize| match (part(row), owners[row]) {
-        (Part::Branch { .. }, Some(open)) => ended(row, open),
+        // No line goes out of a scenario: its EXITs name the outlets.
+        (Part::Outlet, Some(open)) if structure::branches(plant, open)[0] == row => None,
+        (Part::Branch { .. } | Part::Outlet, Some(open)) => Some(ended(row, open)),
         (Part::EndAnd, _) => {
             let open = closes.iter().position(|close| *close == row);
-            ended(row, open.expect("a close has its open"))
+            Some(ended(row, open.expect("a close has its open")))
         }
-        _ => Node::Row(row),
+        _ => Some(Node::Row(row)),
+    };
+    let onward = |row: usize| target(row + 1).map(|to| (Node::Row(row), to));
+    let branches = |open: usize, from: Node| {
+        let branches = structure::branches(plant, open).into_iter();
+        branches.map(move |branch| (from, Node::Row(branch)))
     };
     let mut flow = vec![(Node::Start, Node::Row(0))];
     for row in 0..plant.rows.len() {
         let from = Node::Row(row);
         match part(row) {
-            Part::End => {}
+            Part::End | Part::ExitTo { .. } => {}
             Part::ExitLoop => {
                 let mut around = owners[row].expect("an LE stands in a construct");
                 while *part(around) != Part::Loop {
@@ -619,17 +686,16 @@ fn flow(plant: &Plant) -> Vec<(Node, Node)> {
                 }
                 flow.push((from, Node::Behind(closes[around])));
             }
-            Part::And | Part::Or => {
-                let own =
-                    |branch: &usize| part(*branch).is_branch() && owners[*branch] == Some(row);
-                let branches = (0..plant.rows.len()).filter(own);
-                flow.extend(branches.map(|branch| (from, Node::Row(branch))));
+            Part::And | Part::Or => flow.extend(branches(row, from)),
+            Part::Box => {
+                flow.extend(onward(row));
+                flow.extend(branches(row, Node::Gate(row)));
             }
             Part::Function(function) => {
-                flow.push((from, target(row + 1)));
+                flow.extend(onward(row));
                 flow.extend(function.uses.iter().flat_map(|used| used_lines(row, used)));
             }
-            _ => flow.push((from, target(row + 1))),
+            _ => flow.extend(onward(row)),
         }
         if let Some(killer) = killer(row).filter(|killer| killer.can_kill(plant)) {
             flow.push((Node::Kill(row), Node::Row(closes[killer.and])));
@@ -711,6 +777,138 @@ fn killing_branches_are_told_apart() {
     assert!(with > 100 && without > 10, "{with} kill, {without} never");
 }
 
+/// The number behind this attribute of a group, if it has one.
+fn told(group: &Group, attribute: &str, before: &str) -> Option<usize> {
+    let (name, value) = group.attribute.as_ref()?;
+    let number = value.strip_prefix(before).filter(|_| *name == attribute)?;
+    number.parse().ok()
+}
+
+/// Whether a point is inside a border.
+fn within(border: &Border, (x, y): Point) -> bool {
+    let (right, bottom) = (border.x + border.width, border.y + border.height);
+    (border.x..=right).contains(&x) && (border.y..=bottom).contains(&y)
+}
+
+/// Inside a border stands what belongs to these rows, and nothing else; a line crosses it only to `entry`.
+fn check_border(
+    border: &Border,
+    sheet: &Sheet,
+    rows: &[usize],
+    row_of: impl Fn(&Group) -> Option<usize>,
+    entry: Node,
+    said: &str,
+) {
+    let own_gate = |group: &&Group| told(group, "data-gate", "") == Some(border.row);
+    for group in sheet.groups.iter().filter(|group| !own_gate(group)) {
+        for frame in &group.frames {
+            let corners = [(frame.x, frame.y), (frame.right(), frame.bottom())];
+            let [first, last] = corners.map(|corner| within(border, corner));
+            // Of weights and other words no row is said.
+            let belongs = row_of(group).map_or(first, |row| rows.contains(&row));
+            let right = [first, last] == [belongs; 2];
+            assert!(right, "{border:?}, {frame:?}, {said}");
+        }
+    }
+    for line in sheet.lines.iter().filter(|line| line.to != entry) {
+        let mut points = line.points.iter();
+        let inside = points.clone().filter(|at| within(border, **at)).count();
+        let at_gate = line.from == Node::Gate(border.row);
+        let whole = inside == 0 || points.all(|at| within(border, *at));
+        assert!(at_gate || whole, "{border:?}, {line:?}, {said}");
+    }
+}
+
+/// Every box has a border around its open and its scenario, in diagram and net; in the diagram also a sign where its outlets begin, and each
+/// of its EXITs names its outlet.
+#[test]
+fn boxes_have_borders() {
+    let mut bordered = 0;
+    for case in cases() {
+        let (plant, net, said) = (&case.plant, case.net(), case.said());
+        let boxes = boxes::all(plant);
+        let (diagram, drawn) = (draw::diagram_sheet(plant), draw::net_sheet(plant, &net));
+        let opens: Vec<usize> = boxes.iter().map(|boxed| boxed.open).collect();
+        for sheet in [&diagram, &drawn] {
+            let mut rows: Vec<usize> = sheet.borders.iter().map(|border| border.row).collect();
+            rows.sort_unstable();
+            assert_eq!(rows, opens, "{said}");
+        }
+        let gates = diagram.groups.iter();
+        let mut gates: Vec<usize> = gates
+            .filter_map(|group| told(group, "data-gate", ""))
+            .collect();
+        gates.sort_unstable();
+        assert_eq!(gates, opens, "{said}");
+        for boxed in &boxes {
+            let rows: Vec<usize> = boxed.cleared().collect();
+            let border = |sheet: &Sheet| {
+                let mut borders = sheet.borders.iter();
+                *borders
+                    .find(|border| border.row == boxed.open)
+                    .expect("one")
+            };
+            let of_row = |group: &Group| {
+                let mut signs = ["data-row", "data-kill", "data-gate"].into_iter();
+                signs.find_map(|sign| told(group, sign, ""))
+            };
+            let of_node = |group: &Group| {
+                let place = told(group, "data-node", "p").map(|place| place / 3);
+                let label = |number: usize| usize::from(net.transitions[number].label);
+                place.or(told(group, "data-node", "t").map(label))
+            };
+            let entry = Node::Row(boxed.open);
+            check_border(&border(&diagram), &diagram, &rows, of_row, entry, &said);
+            let entry = Node::Place(3 * boxed.open);
+            check_border(&border(&drawn), &drawn, &rows, of_node, entry, &said);
+        }
+        bordered += boxes.len();
+    }
+    assert!(bordered > 40, "{bordered} boxes");
+}
+
+/// An EXIT's sign names its outlet, and its transition in the net clears what stands inside the border.
+#[test]
+fn exits_are_told() {
+    let mut exits = 0;
+    for case in cases() {
+        let (plant, net, said) = (&case.plant, case.net(), case.said());
+        let svg = draw::diagram(plant);
+        assert_eq!(
+            svg.contains(">BOX: what is inside"),
+            !boxes::all(plant).is_empty()
+        );
+        let sheet = draw::diagram_sheet(plant);
+        for boxed in boxes::all(plant) {
+            let cleared = boxed.cleared();
+            let range = (3 * cleared.start as u16, 3 * cleared.end as u16 - 1);
+            for exit in boxed.exits {
+                let outlet = boxes::outlet(plant, exit).expect("an accepted plant");
+                let group = sheet
+                    .groups
+                    .iter()
+                    .find(|group| told(group, "data-row", "") == Some(exit));
+                let frames = group.expect("a sign").frames.iter();
+                let words = frames.flat_map(|frame| &frame.words);
+                let words: Vec<&str> = words.map(|words| words.text.as_str()).collect();
+                let named = format!("to {}", plant.row_name(outlet));
+                assert!(words.concat().ends_with(&named), "{words:?}, {said}");
+                let mut fired = net.transitions.iter().enumerate();
+                let fired = fired.find(|(_, transition)| usize::from(transition.label) == exit);
+                let (number, transition) = fired.expect("a transition");
+                assert_eq!(transition.clears, [range], "t{number}, {said}");
+                let told = rink::net::transition_words(plant, &net, number);
+                assert!(
+                    told.starts_with(&format!("exit {named} (row {exit}): box left")),
+                    "{told}"
+                );
+                exits += 1;
+            }
+        }
+    }
+    assert!(exits > 80, "{exits} exits");
+}
+
 /// The transitions that kill are those that clear more than a loop, or are no LE; each says so, marks all branches and has a red tag.
 #[test]
 fn killing_transitions_are_told() {
@@ -723,8 +921,8 @@ fn killing_transitions_are_told() {
             let words = rink::net::transition_words(plant, &net, number);
             let Some(and) = rink::net::killed(plant, &net, number) else {
                 let row = usize::from(transition.label);
-                let exit = plant.rows[row].part == Part::ExitLoop;
-                assert_eq!(!transition.clears.is_empty(), exit, "t{number}, {said}");
+                let leaves = plant.rows[row].part.leaves();
+                assert_eq!(!transition.clears.is_empty(), leaves, "t{number}, {said}");
                 assert!(!words.contains("killing the other branches"), "{said}");
                 continue;
             };

@@ -2,6 +2,7 @@
 
 use effbd::{Move, STEP, WAIT};
 use model::generate::{crowded_diagram, diagram, killing_diagram, lasting_trigger_diagram, Random};
+use rink::boxes;
 use rink::plant::{Count, Function, Item, Part, Plant, Row, Use};
 use rink::play::{
     parse, screen, scripted, terminal, Activity, Command, Game, Outcome, Then, Which,
@@ -175,6 +176,66 @@ fn a_pressure_trip() {
     let script = include_str!("games/trip.script");
     let stored = include_str!("games/trip.txt");
     plays_as_stored(game, script, "trip.txt", stored);
+}
+
+/// The shipped plant with a box, by its names.
+#[test]
+fn a_pull_down() {
+    let game = of_text(include_str!("../../examples/pull-down.plant"));
+    let script = include_str!("games/box.script");
+    let stored = include_str!("games/box.txt");
+    plays_as_stored(game, script, "box.txt", stored);
+}
+
+/// What an EXIT clears is told: another EXIT that was ready, an IT in its last turn, an inner box; and when nothing was left.
+#[test]
+fn exits_in_words() {
+    let after = |scenario: &str, script: &str| {
+        let outlets = "outlet cold\nfunction fan 1..2\noutlet trip\nend box\nend\n";
+        let text = format!("box store\n{scenario}{outlets}");
+        let script = format!("auto on\nstep store\n{script}\nexpect agree\n");
+        let printed = scripted(of_text(&text), &script);
+        let printed = printed.unwrap_or_else(|fault| panic!("{fault}\n{}", fault.output));
+        printed.replace("\n    ", " ")
+    };
+    let told = |printed: &str, words: &str| {
+        let words = format!("leaves box store (row 0); cleared: {words}");
+        assert!(printed.contains(&words), "no {words} in\n{printed}");
+    };
+    let both = "and\nbranch\nexit to trip\nbranch\nexit to cold\nend and\n";
+    let printed = after(both, "step 1\nstep exit to cold\nexpect ready fan");
+    told(
+        &printed,
+        "exit to trip (row 3) ready; ready now: fan (row 8)",
+    );
+    assert!(printed.contains("step box store (row 0): its scenario begins; ready now: and (row 1)"));
+    assert!(printed.contains("exit to cold (row 5): box left"));
+    let printed = after(both, "step 1\nstep exit to trip\nexpect ready end box");
+    told(
+        &printed,
+        "exit to cold (row 5) ready; ready now: end box (row 10)",
+    );
+    let turns = "and\nbranch\nexit to cold\nbranch\nrepeat 2 turns\nfunction pump 3..5\nend repeat\nexit to trip\nend and\n";
+    let script = "step 1\nstep turns\nstep pump\nwait 3\nexpect refused 26\nstep exit to cold";
+    let printed = after(turns, script);
+    let words = "repeat turns (row 5) turn 1 of 2 and pump (row 6) running 0.0 s of 0.3 to 0.5 s";
+    told(&printed, &format!("{words}; ready now: fan (row 11)"));
+    let inner = "box inner\nor\nbranch\nexit to one\nbranch\nexit to other\nend or\noutlet one\nexit to trip\noutlet other\nend box\nexit to cold\n";
+    let script = "step inner\nstep 3\nstep exit to one\nstep exit to trip";
+    let printed = after(inner, script);
+    told(&printed, "nothing; ready now: end box (row 16)");
+    assert!(printed.contains("leaves box inner (row 1); cleared: nothing; ready now: exit to trip"));
+    let printed = after(
+        inner,
+        "step one\nexpect refused 22\nstep trip\nexpect refused 22",
+    );
+    for (outlet, exit) in [
+        ("outlet one (row 8)", "exit to one (row 4)"),
+        ("outlet trip (row 15)", "exit to trip (row 9)"),
+    ] {
+        let words = format!("{outlet} is never stepped: {exit} leads to it");
+        assert!(printed.contains(&words), "no {words} in\n{printed}");
+    }
 }
 
 /// What a kill clears is told, whatever row ends the branch: an IT that has made its turns, an LE, a close; and when nothing was left.
@@ -602,6 +663,44 @@ fn random_kills() {
         }
     }
     assert!(kills > 50, "games that hardly kill: {kills}");
+}
+
+/// Moves of the list alone, on plants with boxes: an EXIT's step is told, clears all of its scenario, and the ends agree behind it.
+#[test]
+fn random_exits() {
+    let mut exits = 0;
+    for seed in 0..600 {
+        let mut random = Random::new(seed);
+        let file = killing_diagram(&mut random);
+        let plant = Plant::read(&file).expect("an accepted file");
+        if boxes::all(&plant).is_empty() {
+            continue;
+        }
+        let mut game = Game::new(plant, file.clone(), STATION).expect("an accepted file");
+        game.act(&Command::Auto(true)).expect("no expectation");
+        for _ in 0..60 {
+            let choices = game.choices();
+            if choices.is_empty() {
+                break;
+            }
+            let at = random.below(choices.len());
+            let report = game.act(&Command::Pick(1 + at)).expect("no expectation");
+            agrees_as_the_model_says(&game, &file);
+            let left = match choices[at].made {
+                Move::Step(row) => boxes::left(game.plant(), usize::from(row)),
+                Move::Wait(_) => None,
+            };
+            let told = report.lines[0].contains(": leaves box");
+            assert_eq!(told, left.is_some(), "seed {seed}, {:?}", report.lines);
+            if let Some(boxed) = left {
+                let state = game.diagram_state();
+                assert!(!boxed.cleared().any(|row| state.busy(row)), "seed {seed}");
+                assert!(report.lines[0].contains("; cleared: "), "seed {seed}");
+                exits += 1;
+            }
+        }
+    }
+    assert!(exits > 50, "games that hardly leave boxes: {exits}");
 }
 
 /// What the terminal prints for this input.

@@ -94,6 +94,35 @@ fn by_leaving_the_loop_itself() {
     );
 }
 
+/// From the EXIT on by its outlet; what else runs in the scenario need not end.
+#[test]
+fn by_an_outlet_of_a_box() {
+    let either = "or, branch, instant, exit to a, branch, timed, exit to b, end or";
+    one(
+        &format!("loop, box, {either}, outlet a, instant, outlet b, end box, or, branch, timed, branch, end or, end loop"),
+        &[0, 1, 2, 3, 4, 5, 10, 11, 13, 14, 17, 18, 19],
+    );
+    none(&format!(
+        "loop, box, {either}, outlet a, timed, outlet b, end box, end loop"
+    ));
+    // By the other one, though it is longer; out of an AND, an IT and a loop that nothing else leaves.
+    one(
+        "loop, box, and, branch, exit to a, branch, repeat 2, loop, and, branch, timed, branch, instant, exit to b, end and, end loop, end repeat, end and, outlet a, timed, outlet b, end box, end loop",
+        &[0, 1, 2, 5, 6, 7, 8, 11, 12, 13, 20, 21, 22],
+    );
+    // By an outlet of the inner box, whose EXIT leaves the outer one.
+    one(
+        "loop, box, box, or, branch, exit to a, branch, exit to b, end or, outlet a, timed, exit to c, outlet b, instant, exit to d, end box, timed, exit to e, outlet c, outlet d, outlet e, end box, or, branch, timed, branch, end or, end loop",
+        &[0, 1, 2, 3, 6, 7, 12, 13, 14, 19, 21, 22, 25, 26, 27],
+    );
+    // An LE in an outlet leaves the loop around the box.
+    one(
+        "loop, loop, box, and, branch, exit to a, branch, timed, exit to b, end and, outlet a, or, branch, exit loop, branch, end or, timed, outlet b, end box, end loop, end loop",
+        &[0, 1, 2, 3, 4, 5, 10, 11, 12, 13, 20],
+    );
+    none("loop, loop, box, and, branch, timed, exit to a, branch, timed, exit to b, end and, outlet a, or, branch, exit loop, branch, end or, outlet b, end box, end loop, end loop");
+}
+
 #[test]
 fn nested() {
     one(
@@ -158,7 +187,7 @@ fn goes_round(file: &[u8], rows: &[usize], open: usize, close: usize) -> bool {
 /// A way is told just where the proved stepper finds one, and its rows are enough for it; of loops with a FUNCTION that takes a tick.
 #[test]
 fn as_the_stepper_goes() {
-    let (mut with, mut without) = (0, 0);
+    let (mut with, mut without, mut by_boxes) = (0, 0, 0);
     for seed in 0..20_000 {
         let random = &mut Random::new(seed);
         let file = match seed % 2 {
@@ -180,6 +209,8 @@ fn as_the_stepper_goes() {
             assert_eq!(way.is_some(), found, "seed {seed}, row {open}, {file:?}");
             let enough = way.is_none_or(|way| goes_round(&file, way, open, close));
             assert!(enough, "seed {seed}, {way:?}, {file:?}");
+            let is_box = |row: &&usize| plant.rows[**row].part == Part::Box;
+            by_boxes += way.map_or(0, |way| way.iter().filter(is_box).count());
             with += usize::from(found);
             without += usize::from(!found);
         }
@@ -188,4 +219,5 @@ fn as_the_stepper_goes() {
         with > 100 && without > 100,
         "{with} with, {without} without"
     );
+    assert!(by_boxes > 20, "{by_boxes} boxes on the way");
 }

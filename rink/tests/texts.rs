@@ -4,6 +4,7 @@ use model::generate::{
     crowded_diagram, damaged_diagram, diagram, diagram_up_to, killing_diagram, lasting_diagram,
     lasting_trigger_diagram, Random,
 };
+use rink::boxes;
 use rink::plant::{Part, Plant, Row};
 use rink::structure::killers;
 use rink::text::{self, Fault, Place, Style};
@@ -42,10 +43,12 @@ fn renamed(mut plant: Plant, random: &mut Random) -> Plant {
     for (number, item) in plant.items.iter_mut().enumerate() {
         item.name = format!("i{number}-{}", random.below(1000));
     }
-    for Row { part, name } in &mut plant.rows {
-        if name.is_some() {
+    for (number, Row { part, name }) in plant.rows.iter_mut().enumerate() {
+        if *part == Part::Outlet {
+            *name = Some(format!("o{number}-{}", random.below(1000)));
+        } else if part.is_named() {
             *name = Some(random_name(random).unwrap_or("take".to_string()));
-        } else if part.opens() || part.is_branch() {
+        } else if part.may_be_named() {
             *name = random_name(random);
         }
     }
@@ -55,13 +58,14 @@ fn renamed(mut plant: Plant, random: &mut Random) -> Plant {
 /// `make` after `show` gives the same bytes, with made-up names and with any others, and the same names.
 #[test]
 fn shown_and_made_again() {
-    let (mut with_triggers, mut with_killers) = (0, 0);
+    let (mut with_triggers, mut with_killers, mut with_boxes) = (0, 0, 0);
     for seed in 0..ROUND_TRIPS as u64 {
         let random = &mut Random::new(seed);
         let file = accepted_file(random);
         let plant = Plant::read(&file).expect("accepted");
         with_triggers += plant.triggers().count().min(1);
         with_killers += killers(&plant).len().min(1);
+        with_boxes += boxes::all(&plant).len().min(1);
         let named = renamed(plant.clone(), random);
         for plant in [plant, named] {
             let style = Style {
@@ -85,6 +89,7 @@ fn shown_and_made_again() {
         with_killers > ROUND_TRIPS / 10,
         "{with_killers} with branches that kill"
     );
+    assert!(with_boxes > ROUND_TRIPS / 10, "{with_boxes} with boxes");
 }
 
 /// What a row takes a trigger from has a name of its own, made up or not.
@@ -117,6 +122,9 @@ fn refused_files_are_not_shown() {
         assert!(found.offset <= file.len(), "seed {seed}, {found:?}");
         let number = format!("refusal {}", refusal.number);
         assert!(found.words().contains(&number), "seed {seed}, {found:?}");
+        // Why is said in words of this file's.
+        let told = !found.words().starts_with(refusal.words());
+        assert!(told, "seed {seed}, {found:?}");
         refused += 1;
     }
     assert!(refused > 1_000, "{refused} refused");
@@ -125,7 +133,7 @@ fn refused_files_are_not_shown() {
 /// Any bytes are made or told where they are wrong, inside the text or right behind it.
 #[test]
 fn any_text_is_answered() {
-    const WORDS: [&str; 27] = [
+    const WORDS: [&str; 30] = [
         "plant",
         "item",
         "trigger",
@@ -137,6 +145,9 @@ fn any_text_is_answered() {
         "repeat",
         "loop",
         "exit",
+        "box",
+        "outlet",
+        "to",
         "end",
         "take",
         "give",
@@ -298,8 +309,33 @@ fn wrong_words() {
         "take oil stands twice",
     );
     wrong("repeat\nend repeat\nend\n", 1, 7, "missing: how often");
-    wrong("exit\nend\n", 1, 5, "missing: what is left: `exit loop`");
-    wrong("exit and\nend\n", 1, 6, "only `exit loop`");
+    wrong(
+        "exit\nend\n",
+        1,
+        5,
+        "missing: what is left: `exit loop`, or ",
+    );
+    wrong(
+        "exit and\nend\n",
+        1,
+        6,
+        "`exit and`: known are `exit loop`, or `exit to` with an outlet's name",
+    );
+    wrong(
+        "exit to\nend\n",
+        1,
+        8,
+        "missing: the outlet's name, such as `exit to trip`",
+    );
+    wrong("exit to 0\nend\n", 1, 9, "`0` is no name");
+    wrong("exit to a b\nend\n", 1, 11, "`b` is too much");
+    wrong(
+        "outlet\nend\n",
+        1,
+        7,
+        "missing: the outlet's name, such as `outlet trip`",
+    );
+    wrong("outlet 1\nend\n", 1, 8, "`1` is no name");
     wrong(
         "killing\nend\n",
         1,
@@ -360,6 +396,18 @@ fn refused_texts() {
         "2 to 255 are allowed",
     );
     wrong("function f 1..2\n", 1, 1, "it has to be `end`");
+    wrong(
+        "loop\nfunction f 1..2\nend loop\n",
+        3,
+        1,
+        "the last row is `end loop`: it has to be `end`",
+    );
+    wrong(
+        "or\nbranch\nbranch\nend or\n",
+        4,
+        1,
+        "the last row is `end or`: it has to be `end`",
+    );
     wrong("end\nend\n", 1, 1, "before the last row");
     wrong("loop\nend\n", 2, 1, "the `loop` of line 1");
     wrong(
@@ -472,6 +520,276 @@ fn refused_loops() {
         "end loop\n".repeat(13)
     );
     wrong(&deep, 15, 1, "(refusal 9, ");
+}
+
+/// Which word a branch has is the text's own affair: the bytes of an outlet and of a branch are the same.
+#[test]
+fn outlets_and_branches() {
+    wrong(
+        "box\nexit to a\nbranch a\nbranch b\nend box\nend\n",
+        3,
+        1,
+        "a `branch` belongs to an `and` or `or`, and the innermost open construct is the `box` of line 1: behind its scenario stand outlets, write `outlet` and a name",
+    );
+    wrong(
+        "or\nbranch\noutlet a\nend or\nend\n",
+        3,
+        1,
+        "an `outlet` belongs to a `box`, and the innermost open construct is the `or` of line 1: close it before, or write `branch`",
+    );
+    wrong(
+        "box\nand\nbranch\n  outlet a\noutlet b\nend box\nend\n",
+        4,
+        3,
+        "the innermost open construct is the `and` of line 2: close it before",
+    );
+    wrong(
+        "loop\noutlet a\nend loop\nend\n",
+        2,
+        1,
+        "an `outlet` belongs to a `box`, and the innermost open construct is the `loop` of line 1",
+    );
+    wrong(
+        "outlet a\nend\n",
+        1,
+        1,
+        "an `outlet` belongs to a `box`, and nothing is open here",
+    );
+    // No refusal: the reader was not asked.
+    let fault = text::make("outlet a\nend\n").expect_err("no box");
+    assert!(!fault.words.contains("refusal"), "{}", fault.words);
+    let many = format!("outlet a\n{}end\n", "function f 1..2\n".repeat(64));
+    wrong(&many, 65, 1, "66 rows: at most 64");
+}
+
+/// Outlets are called by their names, which differ in a box.
+#[test]
+fn names_of_outlets() {
+    let scenario =
+        "box\n  or\n    branch\n      exit to a\n    branch\n      exit to b\n  end or\n";
+    let text = |outlets: &str| format!("{scenario}{outlets}end box\nend\n");
+    wrong(
+        &text("outlet a\noutlet c\n"),
+        6,
+        15,
+        "no outlet `b`: the `box` of line 1 has a, c",
+    );
+    wrong(
+        &text(""),
+        4,
+        15,
+        "no outlet `a`: the `box` of line 1 has none",
+    );
+    wrong(
+        &text("outlet a\noutlet b\n outlet a\n"),
+        10,
+        2,
+        "the `box` of line 1 has an outlet `a` already",
+    );
+    // Other boxes' outlets count neither here nor there.
+    let inner = "box\n  box\n    exit to a\n  outlet b\n    exit to a\n  outlet c\n  end box\n  exit to d\noutlet a\noutlet d\nend box\nend\n";
+    wrong(inner, 3, 13, "no outlet `a`: the `box` of line 2 has b, c");
+}
+
+/// A box with everything in it: the rows' bytes, the numbers of the outlets, the lines as they nest.
+#[test]
+fn shown_boxes() {
+    let text = "loop\n  box pull-down\n    box\n      or\n        branch\n          exit to far\n        branch\n          exit to near\n      end or\n    outlet near\n      function f 1..2\n      exit to cold\n    outlet far\n    end box\n    exit to trip\n  outlet trip\n    or\n      branch\n        exit loop\n      branch\n    end or\n  outlet cold\n  end box\nend loop\nend\n";
+    let parsed = text::parse(text).expect("a right text").plant;
+    assert_eq!(text::show(&parsed, Style::default()), text);
+    let exit = |row: usize| parsed.rows[row].part.clone();
+    assert_eq!(exit(5), Part::ExitTo { outlet: 1 });
+    assert_eq!(exit(7), Part::ExitTo { outlet: 0 });
+    assert_eq!(exit(11), Part::ExitTo { outlet: 1 });
+    assert_eq!(exit(14), Part::ExitTo { outlet: 0 });
+    let file = parsed.file().expect("a file");
+    assert_eq!(file[14..22], [4, 0, 29, 0, 4, 0, 29, 0]);
+    assert_eq!(file[30..36], [6, 0, 31, 0, 1, 0]);
+    let outlet = [4, 0, 21, 0, 4, 0, 18, 0, 8, 0, 16, 0];
+    assert!(file.windows(12).any(|bytes| bytes == outlet));
+    assert!(file.windows(4).any(|bytes| bytes == [4, 0, 30, 0]));
+    assert_eq!(text::make(text), Ok((file.clone(), parsed)));
+    let made_up = Plant::read(&file).expect("accepted");
+    let shown = text::show(&made_up, Style::default());
+    assert!(shown
+        .contains("    outlet outlet-1\n    end box\n    exit to outlet-0\n  outlet outlet-0\n"));
+    assert_eq!(text::make(&shown).map(|(file, _)| file), Ok(file));
+}
+
+/// Where an EXIT may stand, at its line.
+#[test]
+fn refused_exits() {
+    let misplaced = "(refusal 48, EXIT misplaced)";
+    let two = "outlet a\noutlet b\nend box\nend\n";
+    let said = |text: &str, line: usize, words: &str| {
+        wrong(text, line, 1, &format!("{words} {misplaced}"));
+    };
+    said("exit to a\nend\n", 1, "`exit to` stands in no box");
+    said(
+        "or\nbranch\nexit to a\nbranch\nend or\nend\n",
+        3,
+        "`exit to` stands in no box",
+    );
+    said(
+        "box\nexit to a\noutlet a\nexit to a\noutlet b\nend box\nend\n",
+        4,
+        "`exit to` leaves a box out of its scenario, and this one stands behind an `outlet`",
+    );
+    said(
+        &format!("box\nloop\nfunction f 1..2\nexit to a\nend loop\n{two}"),
+        4,
+        "`exit to` stands at the end of a branch or of its scenario, and the innermost open construct is the `loop` of line 2",
+    );
+    said(
+        &format!("box\nrepeat 2\nexit to a\nend repeat\nexit to b\n{two}"),
+        3,
+        "`exit to` stands at the end of a branch or of its scenario, and the innermost open construct is the `repeat` of line 2",
+    );
+    said(
+        &format!("box\nexit to a\nfunction f 1..2\n{two}"),
+        2,
+        "`exit to` is the last row of its branch or scenario, and `function` follows",
+    );
+    said(
+        &format!("box\nor\nbranch\nexit to a\nexit to b\nbranch\nend or\n{two}"),
+        4,
+        "`exit to` is the last row of its branch or scenario, and `exit to` follows",
+    );
+}
+
+/// Boxes that do not nest as they should.
+#[test]
+fn refused_boxes() {
+    wrong(
+        "box\nend\n",
+        2,
+        1,
+        "the innermost open construct is the `box` of line 1 (refusal 7, ",
+    );
+    wrong(
+        "box\nfunction f 1..2\nend box\nend\n",
+        3,
+        1,
+        "`end box` without an outlet: two or more are due (refusal 7, ",
+    );
+    wrong(
+        "box\nexit to a\noutlet a\nend box\nend\n",
+        4,
+        1,
+        "`end box` after one outlet: two or more are due (refusal 7, ",
+    );
+    wrong("loop\nend box\nend\n", 2, 1, "`end box` closes nothing");
+    wrong(
+        "box\nexit to a\noutlet a\nkilling branch\nend box\nend\n",
+        4,
+        1,
+        "a `killing branch` belongs to an `and`, and the innermost open construct is the `box` of line 1: behind its scenario stand outlets, write `outlet` and a name (refusal 7, ",
+    );
+    let two = "outlet a\noutlet b\nend box\nend loop\nend\n";
+    wrong(
+        &format!("loop\nfunction f 1..2\nbox\nor\nbranch\nexit loop\nbranch\nexit to a\nend or\n{two}"),
+        6,
+        1,
+        "the `loop` of line 1 is outside the `box` of line 3, whose scenario this `exit loop` stands in: leave the box with `exit to` first (refusal 8, ",
+    );
+    wrong(
+        "loop\nfunction f 1..2\nbox\nexit to a\noutlet a\nexit loop\noutlet b\nend box\nend loop\nend\n",
+        6,
+        1,
+        "`exit loop` stands at the end of a branch, and the innermost open construct is the `box` of line 3 (refusal 8, ",
+    );
+}
+
+/// Each outlet has one EXIT; told at the box's line, with the lines of what does not match.
+#[test]
+fn refused_outlets() {
+    let unmatched = "(refusal 49, outlets and EXIT rows not one to one)";
+    let said = |text: &str, line: usize, words: &str| {
+        wrong(text, line, 1, &format!("{words} {unmatched}"));
+    };
+    let two = "outlet a\noutlet b\nend box\nend\n";
+    said(
+        &format!("box\nexit to a\n{two}"),
+        1,
+        "no `exit to` in the scenario of this `box` leads to its outlet of line 4: each outlet has one",
+    );
+    let twice = "or\nbranch\nexit to a\nbranch\nexit to b\nbranch\nexit to a\nend or\n";
+    said(
+        &format!("function f 1..2\nbox\n{twice}{two}"),
+        2,
+        "the `exit to` of line 5 and that of line 9 lead to the same outlet, that of line 11: each outlet has one",
+    );
+    // An inner box's EXITs are its own; before a scenario that falls through, and before a loop that spends no time.
+    let inner = format!(
+        "box\nbox\nexit to a\n{}exit to a\n{two}",
+        "outlet a\noutlet b\nend box\n"
+    );
+    said(
+        &inner,
+        1,
+        "no `exit to` in the scenario of this `box` leads to its outlet of line 9: each outlet has one",
+    );
+    said(
+        &format!("loop\nend loop\nbox\n{two}"),
+        3,
+        "no `exit to` in the scenario of this `box` leads to its outlet of line 4: each outlet has one",
+    );
+}
+
+/// A scenario's end is always an EXIT; told at the box's line, with the line behind which it falls through.
+#[test]
+fn refused_scenarios() {
+    let falls = |rows: &str, keyword: &str, line: usize| {
+        let text = format!(
+            "box\n{}\noutlet a\noutlet b\nend box\nend\n",
+            rows.replace(", ", "\n")
+        );
+        let text = text.replace("\ntimed", "\nfunction timed 1..9");
+        let words = format!("the scenario of this `box` comes to its end behind the `{keyword}` of line {line}, and nothing leads from there to an outlet: put an `exit to` there (refusal 50, a scenario falls through)");
+        wrong(&text, 1, 1, &words);
+    };
+    let leaving = "or, branch, exit to a, branch, exit to b, end or";
+    // Behind its last row; the last construct decides alone.
+    falls(&format!("{leaving}, timed"), "function", 8);
+    falls(&format!("repeat 2, {leaving}, end repeat"), "end repeat", 9);
+    // A loop that an LE leaves.
+    let left = format!("loop, timed, or, branch, exit loop, branch, end or, {leaving}, end loop");
+    falls(&left, "end loop", 15);
+    // By one branch of an OR, empty or not.
+    let one_more = "or, branch, exit to a, branch, exit to b, branch";
+    falls(&format!("{one_more}, end or"), "branch", 7);
+    falls(&format!("{one_more}, timed, end or"), "function", 8);
+    // By all branches of an AND, or by one that kills.
+    let all = format!("{leaving}, and, branch, timed, branch, end and");
+    falls(&all, "end and", 12);
+    let killing = format!("and, branch, {leaving}, killing branch, timed, end and");
+    falls(&killing, "function", 11);
+}
+
+/// Scenarios that never come to their end.
+#[test]
+fn right_scenarios() {
+    let made = |rows: &str| {
+        let rows = rows
+            .replace(", ", "\n")
+            .replace("timed", "function timed 1..9");
+        let text = format!("box\n{rows}\noutlet a\noutlet b\nend box\nend\n");
+        let made = text::make(&text);
+        assert!(made.is_ok(), "{text}{made:?}");
+    };
+    let either = "or, branch, exit to a, branch, exit to b, end or";
+    made(either);
+    made("and, branch, exit to a, branch, exit to b, end and");
+    // An AND with a branch that never ends, none that kills, or only such as never do.
+    made(&format!("and, branch, timed, branch, {either}, end and"));
+    made("and, branch, timed, exit to b, killing branch, timed, exit to a, end and");
+    // A loop that no LE leaves, or an inner one only.
+    made(&format!("loop, timed, {either}, end loop"));
+    let inner = "loop, timed, or, branch, exit loop, branch, end or, end loop";
+    made(&format!("loop, {inner}, {either}, end loop"));
+    made(&format!(
+        "or, branch, {either}, branch, end or, loop, timed, end loop"
+    ));
 }
 
 /// A branch that kills and one that is called so.

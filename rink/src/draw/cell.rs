@@ -44,6 +44,7 @@ pub enum Tree {
     Cell(Cell),
     Around(Around),
     Branched(Branched),
+    Boxed(Box<Boxed>),
 }
 
 /// A body with a line back over it.
@@ -64,6 +65,17 @@ pub struct Branched {
     pub close: Cell,
 }
 
+/// A scenario inside a border, and behind it its outlets one under the other.
+#[derive(Clone, PartialEq, Eq, Debug)]
+pub struct Boxed {
+    /// The row that opens it.
+    pub row: usize,
+    pub open: Cell,
+    pub scenario: Vec<Tree>,
+    /// They open with what stands at the border, if anything does.
+    pub outlets: Branched,
+}
+
 /// A branch: what stands at its start, its run, what stands at its end.
 #[derive(Clone, PartialEq, Eq, Debug)]
 pub struct Twig {
@@ -78,13 +90,21 @@ impl Tree {
         match self {
             Tree::Cell(cell) => cell.exit.is_some(),
             Tree::Around(around) => !around.catches && around.body.iter().any(Tree::exits),
-            Tree::Branched(branched) => branched.branches.iter().any(Twig::exits),
+            Tree::Branched(branched) => branched.exits(),
+            // An LE leaves a loop of its own scenario.
+            Tree::Boxed(boxed) => boxed.outlets.exits(),
         }
     }
 }
 
-impl Twig {
+impl Branched {
     pub fn exits(&self) -> bool {
+        self.branches.iter().any(Twig::exits)
+    }
+}
+
+impl Twig {
+    fn exits(&self) -> bool {
         self.run.iter().any(Tree::exits)
     }
 }
@@ -97,4 +117,6 @@ pub trait Cells {
     fn start(&self, row: usize) -> Option<Cell>;
     /// Of a BRANCH, at the end of its branch.
     fn end(&self, row: usize) -> Option<Cell>;
+    /// Of a box, at its border, where the flow comes to its outlets.
+    fn gate(&self, open: usize) -> Option<Cell>;
 }

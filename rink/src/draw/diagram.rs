@@ -5,6 +5,7 @@ use super::page::Page;
 use super::sheet::{Frame, Group, Line, Node, Outline, Point, Sheet, Style};
 use super::text::{name_lines, Words};
 use super::tree;
+use crate::boxes;
 use crate::plant::{Function, Item, Part, Plant, Use};
 use crate::structure;
 use crate::times;
@@ -120,6 +121,10 @@ fn notes(plant: &Plant) -> Vec<String> {
             has(|part| *part == Part::ExitLoop),
             "LE: the innermost LP around it is left; the dashed line goes to behind it.",
         ),
+        (
+            has(|part| *part == Part::Box),
+            "BOX: what is inside the border runs until one of its EXITs is come to. All inside ends then, and the flow goes on at the outlet that the EXIT names.",
+        ),
     ];
     let meant = signs.iter().filter(|(there, _)| *there);
     meant.map(|(_, words)| words.to_string()).collect()
@@ -146,8 +151,10 @@ impl Cells for Blocks<'_> {
                     ..circle
                 }
             }
+            Part::Box | Part::EndBox => self.circle(row, "BOX"),
+            Part::ExitTo { .. } => self.exit(row),
             Part::End => self.end_mark(row),
-            Part::Branch { .. } => return None,
+            Part::Branch { .. } | Part::Outlet => return None,
         })
     }
 
@@ -167,6 +174,21 @@ impl Cells for Blocks<'_> {
         let killer = killers.find(|killer| killer.branch == row)?;
         killer.can_kill(self.plant).then(|| kill(row))
     }
+
+    /// A dot, as where the whole flow begins.
+    fn gate(&self, open: usize) -> Option<Cell> {
+        let dot = Frame::sign(Outline::Dot, DOT, DOT, Vec::new());
+        let cell = boxed(Node::Gate(open), ("data-gate", open), dot);
+        Some(Cell {
+            entry: None,
+            ..cell
+        })
+    }
+}
+
+/// The lines of a name that stands under a sign or in a tag.
+fn caption(name: &str) -> Vec<Words> {
+    name_lines(name, &Words::bold("", 11), CAPTION_ROOM)
 }
 
 fn row_words(row: usize) -> Words {
@@ -247,15 +269,29 @@ impl Blocks<'_> {
     /// The lines of a construct's or branch's name, if it has one.
     fn name(&self, row: usize) -> Vec<Words> {
         let name = self.plant.rows[row].name.iter();
-        let model = Words::bold("", 11);
-        name.flat_map(|name| name_lines(name, &model, CAPTION_ROOM))
-            .collect()
+        name.flat_map(|name| caption(name)).collect()
     }
 
     /// A circle with its row and name under it.
     fn circle(&self, row: usize, label: &str) -> Cell {
+        self.sign(row, label, self.name(row))
+    }
+
+    /// An EXIT, with its outlet: no line goes there.
+    fn exit(&self, row: usize) -> Cell {
+        let outlet = boxes::outlet(self.plant, row);
+        let target = outlet.map(|outlet| format!("to {}", self.plant.row_name(outlet)));
+        let under = target.map_or(Vec::new(), |target| caption(&target));
+        Cell {
+            onward: None,
+            ..self.sign(row, "EXIT", under)
+        }
+    }
+
+    /// A circle with its row and these lines under it.
+    fn sign(&self, row: usize, label: &str, under: Vec<Words>) -> Cell {
         let mut words = vec![row_words(row)];
-        words.extend(self.name(row));
+        words.extend(under);
         let size = if label.len() > 5 { 11 } else { 12 };
         let label = vec![Words::bold(label, size)];
         let circle = Frame::sign(Outline::Circle, CIRCLE, CIRCLE, label);

@@ -3,7 +3,7 @@
 //! Every construct reserves its own lanes: a channel right of its bodies where exits go down, a lane over a body for the line
 //! back, a lane under it for lines that pass it by. So no line ever needs to go through a box.
 
-use super::cell::{Around, Branched, Cell, Tree, Twig};
+use super::cell::{Around, Boxed, Branched, Cell, Tree, Twig};
 
 /// Between two pieces of a run.
 pub const GAP: i32 = 24;
@@ -19,6 +19,8 @@ const BACK_ROOM: i32 = 20;
 /// Left of a run of several lines, for the connectors.
 pub const INDENT: i32 = 18;
 pub const CONNECTOR: i32 = 4;
+/// Between a border and what is inside it.
+const INSIDE: i32 = 12;
 /// A level this close to the middle of a construct is taken for its middle.
 const SNAP: i32 = 12;
 
@@ -38,6 +40,7 @@ pub enum Body<'a> {
     Cell(&'a Cell),
     Around(Box<AroundLaid<'a>>),
     Branched(Box<BranchedLaid<'a>>),
+    Boxed(Box<BoxedLaid<'a>>),
 }
 
 /// A laid run: in at the left at `enter`, out at the right at `leave`.
@@ -90,6 +93,16 @@ pub struct BranchedLaid<'a> {
     /// Where it comes together.
     pub join: i32,
     pub close_left: i32,
+}
+
+pub struct BoxedLaid<'a> {
+    pub boxed: &'a Boxed,
+    pub open_left: i32,
+    pub run: RunLaid<'a>,
+    pub run_left: i32,
+    /// The border's upper side, width and height; its left side is the piece's.
+    pub border: (i32, i32, i32),
+    pub outlets: Piece<'a>,
 }
 
 pub struct TwigLaid<'a> {
@@ -209,6 +222,7 @@ fn piece(tree: &Tree, room: i32) -> Piece<'_> {
         },
         Tree::Around(around) => around_laid(around, room),
         Tree::Branched(branched) => branched_laid(branched, room),
+        Tree::Boxed(boxed) => boxed_laid(boxed, room),
     }
 }
 
@@ -295,7 +309,7 @@ fn branched_laid(branched: &Branched, room: i32) -> Piece<'_> {
     let split = open.width + LANE;
     let start_left = split + HEAD;
     let run_left = start_left + starts.map_or(0, |width| width + HEAD);
-    let exits = branched.branches.iter().any(Twig::exits);
+    let exits = branched.exits();
     let lanes = LANE + i32::from(exits) * LANE;
     let behind = lanes + ends.map_or(0, |width| width + HEAD) + HEAD + close.width;
     let mut twigs: Vec<TwigLaid> = branched
@@ -332,6 +346,35 @@ fn branched_laid(branched: &Branched, room: i32) -> Piece<'_> {
             end_left,
             join,
             close_left,
+        })),
+    }
+}
+
+/// The outlets get the room that the scenario leaves, and at least what they need.
+fn boxed_laid(boxed: &Boxed, room: i32) -> Piece<'_> {
+    let open = &boxed.open;
+    let run_left = INSIDE + open.width + GAP;
+    let least = branched_laid(&boxed.outlets, 0).width;
+    let run = run(&boxed.scenario, room - run_left - INSIDE - least);
+    let width = run_left + run.width + INSIDE;
+    let outlets = branched_laid(&boxed.outlets, room - width);
+    let above = INSIDE + open.axis.max(run.enter);
+    let below = INSIDE + open.below().max(run.height - run.enter);
+    let axis = above.max(outlets.axis);
+    let height = axis + below.max(outlets.height - outlets.axis);
+    Piece {
+        width: width + outlets.width,
+        height,
+        axis,
+        exits: outlets.exits,
+        floor: height + LANE,
+        body: Body::Boxed(Box::new(BoxedLaid {
+            boxed,
+            open_left: INSIDE,
+            run,
+            run_left,
+            border: (axis - above, width, above + below),
+            outlets,
         })),
     }
 }

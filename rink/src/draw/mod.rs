@@ -15,7 +15,7 @@ mod tree;
 
 pub(crate) use text::escaped;
 
-pub use sheet::{Frame, Group, Line, Node, Outline, Placed, Point, Sheet, Style};
+pub use sheet::{Border, Frame, Group, Line, Node, Outline, Placed, Point, Sheet, Style};
 pub use text::Words;
 
 use crate::net::Net;

@@ -41,6 +41,8 @@ impl Stack {
         self.sheet.groups.extend(groups);
         let lines = drawing.lines.iter().map(|line| line.moved(corner));
         self.sheet.lines.extend(lines);
+        let borders = drawing.borders.iter().map(|border| border.moved(corner));
+        self.sheet.borders.extend(borders);
         self.bottom = corner.1 + drawing.height + MARGIN / 2;
         let right = drawing.width + 2 * MARGIN;
         self.sheet.width = self.sheet.width.max(right);

@@ -2,9 +2,10 @@
 
 use super::cell::{Cell, Port};
 use super::layout::{
-    AroundLaid, Body, BranchedLaid, LineLaid, Piece, RunLaid, TwigLaid, BACK, CONNECTOR, GAP, LANE,
+    AroundLaid, Body, BoxedLaid, BranchedLaid, LineLaid, Piece, RunLaid, TwigLaid, BACK, CONNECTOR,
+    GAP, LANE,
 };
-use super::sheet::{Line, Node, Point, Sheet, Style};
+use super::sheet::{Border, Line, Node, Point, Sheet, Style};
 
 /// A line on its way.
 #[derive(Clone)]
@@ -169,6 +170,7 @@ fn draw_piece(piece: &Piece, corner: Point, pens: Vec<Pen>, sheet: &mut Sheet) -
         Body::Cell(cell) => draw_cell(cell, corner, pens, sheet),
         Body::Around(laid) => draw_around(laid, piece, corner, pens, sheet),
         Body::Branched(laid) => draw_branched(laid, piece, corner, pens, sheet),
+        Body::Boxed(laid) => draw_boxed(laid, piece, corner, pens, sheet),
     }
 }
 
@@ -271,6 +273,32 @@ fn draw_branched(
     let closed = draw_cell(&branched.close, close_corner, joined, sheet);
     let onward = closed.onward;
     Sent { onward, exits }
+}
+
+/// No line goes out of the border: the EXITs inside name the outlets.
+fn draw_boxed(
+    laid: &BoxedLaid,
+    piece: &Piece,
+    corner: Point,
+    pens: Vec<Pen>,
+    sheet: &mut Sheet,
+) -> Sent {
+    let axis = corner.1 + piece.axis;
+    let (top, width, height) = laid.border;
+    sheet.borders.push(Border {
+        row: laid.boxed.row,
+        x: corner.0,
+        y: corner.1 + top,
+        width,
+        height,
+    });
+    let open = &laid.boxed.open;
+    let open_corner = (corner.0 + laid.open_left, axis - open.axis);
+    let opened = draw_cell(open, open_corner, pens, sheet);
+    let run_corner = (corner.0 + laid.run_left, axis - laid.run.enter);
+    draw_run(&laid.run, run_corner, opened.onward, sheet);
+    let outlets_corner = (corner.0 + width, axis - laid.outlets.axis);
+    draw_piece(&laid.outlets, outlets_corner, Vec::new(), sheet)
 }
 
 /// What stands at its start, its run, what stands at its end.

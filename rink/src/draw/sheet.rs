@@ -14,6 +14,8 @@ pub enum Node {
     Behind(usize),
     /// The end of the killing branch that this row begins.
     Kill(usize),
+    /// Where the flow comes out of the box that this row opens.
+    Gate(usize),
     /// An item at the row that uses it.
     Item {
         row: usize,
@@ -104,11 +106,23 @@ pub struct Line {
     pub head: bool,
 }
 
+/// The line around the scenario of the box that this row opens.
+#[derive(Clone, Copy, PartialEq, Eq, Debug)]
+pub struct Border {
+    pub row: usize,
+    pub x: i32,
+    pub y: i32,
+    pub width: i32,
+    pub height: i32,
+}
+
 /// A whole drawing.
 #[derive(Clone, PartialEq, Eq, Debug, Default)]
 pub struct Sheet {
     pub width: i32,
     pub height: i32,
+    /// An outer one before those inside it.
+    pub borders: Vec<Border>,
     pub groups: Vec<Group>,
     pub lines: Vec<Line>,
 }
@@ -239,6 +253,16 @@ impl Line {
         Line {
             points: points.map(|(x, y)| (x + by.0, y + by.1)).collect(),
             ..self.clone()
+        }
+    }
+}
+
+impl Border {
+    pub fn moved(&self, by: Point) -> Border {
+        Border {
+            x: self.x + by.0,
+            y: self.y + by.1,
+            ..*self
         }
     }
 }

@@ -1,6 +1,6 @@
 //! A sheet as SVG.
 
-use super::sheet::{Frame, Group, Line, Node, Outline, Point, Sheet, Style};
+use super::sheet::{Border, Frame, Group, Line, Node, Outline, Point, Sheet, Style};
 use super::text::{self, escaped, Words};
 use crate::net::place_range;
 use std::fmt::Write;
@@ -27,6 +27,9 @@ impl Sheet {
         );
         // Half a pixel aside thin lines are sharp, and lie on one another unseen.
         svg.push_str("<g transform=\"translate(0.5 0.5)\">\n");
+        for border in &self.borders {
+            svg.push_str(&border_svg(border));
+        }
         for line in &self.lines {
             svg.push_str(&line_svg(line));
         }
@@ -37,6 +40,17 @@ impl Sheet {
         svg.push_str("</svg>\n");
         svg
     }
+}
+
+fn border_svg(border: &Border) -> String {
+    let Border {
+        row,
+        x,
+        y,
+        width,
+        height,
+    } = border;
+    format!("<rect data-box=\"{row}\" x=\"{x}\" y=\"{y}\" width=\"{width}\" height=\"{height}\" stroke=\"{INK}\" stroke-width=\"1\" fill=\"#fafafa\"/>\n")
 }
 
 /// What a line of a net says about its arc.

@@ -1,6 +1,6 @@
 //! The cells of a plant's rows, as its rows nest.
 
-use super::cell::{Around, Branched, Cell, Cells, Tree, Twig};
+use super::cell::{Around, Boxed, Branched, Cell, Cells, Tree, Twig};
 use super::layout;
 use super::page::{MARGIN, WIDTH};
 use super::route;
@@ -28,13 +28,38 @@ fn tree(plant: &Plant, cells: &impl Cells, node: &Node) -> Option<Tree> {
             branches,
             close,
         } => {
-            let twigs = branches.iter().map(|branch| twig(plant, cells, branch));
-            Some(Tree::Branched(Branched {
-                open: cells.cell(*open).unwrap_or_default(),
-                branches: twigs.collect(),
-                close: cells.cell(*close).unwrap_or_default(),
-            }))
+            let opened = cells.cell(*open);
+            Some(Tree::Branched(branched(
+                plant, cells, opened, branches, *close,
+            )))
         }
+        Node::Boxed {
+            open,
+            scenario,
+            outlets,
+            close,
+        } => Some(Tree::Boxed(Box::new(Boxed {
+            row: *open,
+            open: cells.cell(*open).unwrap_or_default(),
+            scenario: run(plant, cells, scenario),
+            outlets: branched(plant, cells, cells.gate(*open), outlets, *close),
+        }))),
+    }
+}
+
+/// Branches, behind what opens them.
+fn branched(
+    plant: &Plant,
+    cells: &impl Cells,
+    open: Option<Cell>,
+    branches: &[Branch],
+    close: usize,
+) -> Branched {
+    let twigs = branches.iter().map(|branch| twig(plant, cells, branch));
+    Branched {
+        open: open.unwrap_or_default(),
+        branches: twigs.collect(),
+        close: cells.cell(close).unwrap_or_default(),
     }
 }
 

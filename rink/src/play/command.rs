@@ -250,9 +250,10 @@ fn unquoted(text: &str) -> &str {
 }
 
 /// Where a name stands among these: just so, or else but for capitals.
-fn positions(names: &[&str], name: &str) -> Vec<usize> {
+fn positions(names: &[impl AsRef<str>], name: &str) -> Vec<usize> {
     let found = |same: &dyn Fn(&str) -> bool| {
-        let names = names.iter().enumerate().filter(|(_, other)| same(other));
+        let names = names.iter().enumerate();
+        let names = names.filter(|(_, other)| same(other.as_ref()));
         names.map(|(at, _)| at).collect::<Vec<usize>>()
     };
     let exact = found(&|other| other == name);
@@ -271,9 +272,11 @@ fn row_named(plant: &Plant, word: Word) -> Result<usize, Fault> {
 
 /// The same among these rows; `what` says which they are.
 fn row_among(plant: &Plant, rows: Vec<usize>, what: &str, word: Word) -> Result<usize, Fault> {
-    let names = rows.iter().map(|row| &plant.rows[*row]);
-    let names = names.map(|row| row.name.as_deref().unwrap_or(row.part.keyword()));
-    let found = positions(&names.collect::<Vec<&str>>(), unquoted(word.text));
+    let names = rows.iter().map(|&row| {
+        let name = plant.rows[row].name.clone();
+        name.unwrap_or_else(|| plant.keyword(row))
+    });
+    let found = positions(&names.collect::<Vec<String>>(), unquoted(word.text));
     match found.as_slice() {
         [at] => Ok(rows[*at]),
         [] => {

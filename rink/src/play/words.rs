@@ -2,6 +2,7 @@
 
 use super::states::{Activity, DiagramState};
 use super::Game;
+use crate::boxes;
 use crate::plant::{Count, Part, Plant};
 use crate::structure::{branch_rows, branches, killers, owners};
 use crate::times;
@@ -51,7 +52,7 @@ pub fn title_words(plant: &Plant, row: usize) -> String {
     match (&found.part, &found.name) {
         (Part::Function(_), Some(name)) => name.clone(),
         (part, Some(name)) => format!("{} {name}", part.keyword()),
-        (part, None) => part.keyword().to_string(),
+        (_, None) => plant.keyword(row),
     }
 }
 
@@ -137,6 +138,7 @@ pub fn effect_words(game: &Game, made: Move, before: &[u16], after: &[u16]) -> O
         None => own,
         Some(number) => format!("{own}, fires transition {number}"),
     }];
+    words.extend(exit_words(plant, row, before));
     words.extend(kill_words(plant, row, before, after));
     let mut ready = became(before, after, Activity::Ready);
     let end = ready.pop_if(|row| plant.rows[*row].part == Part::End);
@@ -160,6 +162,20 @@ fn became(before: DiagramState, after: DiagramState, activity: Activity) -> Vec<
         .collect()
 }
 
+/// What stood in the box that an EXIT's step leaves.
+fn exit_words(plant: &Plant, stepped: usize, before: DiagramState) -> Option<String> {
+    let boxed = boxes::left(plant, stepped)?;
+    let others = boxed.cleared().filter(|row| *row != stepped);
+    Some(cleared_words(plant, before, others))
+}
+
+/// What of these rows was not idle, and is now.
+fn cleared_words(plant: &Plant, before: DiagramState, rows: impl Iterator<Item = usize>) -> String {
+    let cleared: Vec<usize> = rows.filter(|row| before.busy(*row)).collect();
+    let cleared = few_rows(&cleared, |row| busy_words(plant, before, row));
+    format!("cleared: {cleared}")
+}
+
 /// What a step killed, if a killing branch is done now: the other branches of its AND, with what stood in them.
 fn kill_words(
     plant: &Plant,
@@ -173,13 +189,9 @@ fn kill_words(
     let branches = branches(plant, and).into_iter();
     let branches = branches.map(|branch| branch_rows(plant, branch));
     let others = branches.filter(|rows| !rows.contains(&stepped));
-    let cleared = others.flatten().filter(|row| before.busy(*row));
-    let cleared: Vec<usize> = cleared.collect();
-    let cleared = few_rows(&cleared, |row| busy_words(plant, before, row));
+    let cleared = cleared_words(plant, before, others.flatten());
     let and = row_words(plant, and);
-    Some(format!(
-        "kills the other branches of {and}; cleared: {cleared}"
-    ))
+    Some(format!("kills the other branches of {and}; {cleared}"))
 }
 
 /// What a step does to its own row.
@@ -198,8 +210,16 @@ fn step_words(plant: &Plant, row: usize, before: DiagramState, after: DiagramSta
         Part::EndRepeat | Part::EndLoop => "goes back".to_string(),
         Part::Loop => "a round begins".to_string(),
         Part::ExitLoop => "leaves its loop, all of which goes idle".to_string(),
+        Part::Box => "its scenario begins".to_string(),
+        Part::ExitTo { .. } => left_words(plant, row),
         _ => "passes on".to_string(),
     }
+}
+
+/// The box that an EXIT leaves.
+fn left_words(plant: &Plant, exit: usize) -> String {
+    let open = boxes::left(plant, exit).map(|boxed| row_words(plant, boxed.open));
+    format!("leaves {}", open.unwrap_or("its box".to_string()))
 }
 
 /// Copies of triggers that are listed of many, at most.
@@ -298,6 +318,12 @@ fn not_standing(game: &Game, row: usize) -> String {
                 format!("{name} is never stepped: its and begins it, its last row ends it{others}")
             }
         },
+        Part::Outlet => {
+            let exits =
+                (0..plant.rows.len()).filter(|&exit| boxes::outlet(plant, exit) == Some(row));
+            let exits = rows_words(plant, &exits.collect::<Vec<usize>>());
+            format!("{name} is never stepped: {exits} leads to it")
+        }
         _ => format!("{name} is idle: it is not its turn"),
     }
 }

@@ -59,6 +59,12 @@ fn notes(plant: &Plant, net: &Net) -> Vec<String> {
             "{name}@ and a row: the copy of trigger {name} that the row takes from. {name}@*: all its copies, with an arc to each."
         ));
     }
+    if plant.rows.iter().any(|row| row.part == Part::Box) {
+        notes.push(
+            "A border: the scenario of a box. An EXIT clears all places inside it, gives each IT there its turns back, and marks the first place of its outlet."
+                .to_string(),
+        );
+    }
     if (0..net.transitions.len()).any(|number| killed(plant, net, number).is_some()) {
         notes.push(
             "Red clears: a transition that kills. It clears all places inside its AND, gives each IT there its turns back, and marks all branches as done."
@@ -141,7 +147,7 @@ impl Cells for Marked<'_> {
         }
         let cell = side_by_side(self.columns(row))?;
         Some(match part {
-            Part::EndRepeat | Part::EndLoop | Part::End => Cell {
+            Part::EndRepeat | Part::EndLoop | Part::ExitTo { .. } | Part::End => Cell {
                 onward: None,
                 ..cell
             },
@@ -168,6 +174,11 @@ impl Cells for Marked<'_> {
     fn end(&self, row: usize) -> Option<Cell> {
         let places = self.places(row).into_iter();
         side_by_side(places.map(|place| self.place(place, true)).collect())
+    }
+
+    /// An EXIT's arcs lead to its outlet: nothing stands at the border.
+    fn gate(&self, _open: usize) -> Option<Cell> {
+        None
     }
 }
 
