@@ -1,4 +1,5 @@
 // Reads a diagram on standard input and prints its net, or the refusal: all that matters is in `annex_text`.
+#![tactic(auto)]
 
 // The first 8,192 bytes decide what is printed (`annex-prefix`), and no text is longer than 393,216 bytes (`annex-fits`).
 fn main() {

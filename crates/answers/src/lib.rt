@@ -1,4 +1,6 @@
 // Answers, and parts of a file, as one number of 64 bits, for C and Rust.
+#![tactic(auto)]
+
 ghost use Rattle.std.specs.Prelude.{◌≡◌};
 ghost use Rattle.effbd.specs.Answers.{said, packed};
 ghost use Rattle.effbd.specs.Nesting.{packed_part};

@@ -1,4 +1,6 @@
 // The follower's end of the bus: bytes that came over it are judged, and the telegram that is due is taken.
+#![tactic(auto)]
+
 ghost use Rattle.std.specs.Prelude.{◌≡◌};
 ghost use Rattle.effbd.specs.Answers.{said, afterwards};
 ghost use Rattle.effbd.specs.Firing.{step_net};

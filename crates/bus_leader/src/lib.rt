@@ -1,4 +1,6 @@
 // The leader's end of the bus: a move is offered, made and written as a telegram.
+#![tactic(auto)]
+
 ghost use Rattle.std.specs.Prelude.{◌≡◌, ◌≤◌, length};
 ghost use Rattle.effbd.specs.Answers.{said, returning_zero};
 ghost use Rattle.effbd.specs.Moves.{step_diagram};

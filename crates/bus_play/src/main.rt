@@ -1,5 +1,6 @@
 // Plays a list of calls on a diagram and its net, call by call, and prints what each call was answered, which transition of the annex its step
 // fires, and both ends after it; at the end which telegrams were lost. The first argument names the diagram's file, the second the list's: records as crate calls has them.
+#![tactic(auto)]
 
 mod fired;
 mod lines;

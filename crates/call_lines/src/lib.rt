@@ -1,4 +1,6 @@
 // The lines that are printed of calls, laid into lent bytes: a move that is offered, an answer, both ends.
+#![tactic(auto)]
+
 ghost use Rattle.std.specs.Prelude.{◌≡◌, [], ◌∷◌, ◌++◌};
 ghost use Rattle.effbd.specs.Answers.{refused, said};
 ghost use Rattle.text.specs.Laid.{Laid};

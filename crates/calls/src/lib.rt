@@ -1,4 +1,6 @@
 // Calls on both ends of the bus, given as bytes: one record a call; one call made, or a list of them, by the real leader and follower.
+#![tactic(auto)]
+
 ghost use Rattle.std.specs.Prelude.{◌≡◌, cond, ltb};
 ghost use Rattle.effbd.specs.Answers.{said, afterwards};
 ghost use Rattle.effbd.specs.Records.{length_at};

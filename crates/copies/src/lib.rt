@@ -1,6 +1,8 @@
 // The copies of a diagram's triggers: a count of its own for each row that takes one. Counts them, numbers them behind the items in a table that is
 // wide enough for the rank of every use.
 // Nothing is asked of a caller: past the end a cell is 0, a store changes nothing.
+#![tactic(auto)]
+
 ghost use Rattle.std.specs.Prelude.{◌≡◌, ◌+◌, ◌*◌, take};
 ghost use Rattle.diagram_table.specs.Cells.{rank_cell, uses_of};
 ghost use Rattle.copies.specs.Counting.{receives_in, use_counted, uses_counted, row_counted, rows_counted, copies_numbered, copies_counted};

@@ -1,4 +1,6 @@
 // A diagram as its file says it: the constants of document 01, its table, and the words of its fresh state.
+#![tactic(auto)]
+
 ghost use Rattle.std.specs.Prelude.{◌≡◌};
 ghost use Rattle.diagram.specs.FreshWords.{fresh_put, Freshened};
 

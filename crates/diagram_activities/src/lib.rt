@@ -1,5 +1,7 @@
 // What a move writes of activities: that of one row, that of all BRANCH rows of an AND. Every function is total: past the end a cell is 0, a
 // store changes nothing.
+#![tactic(auto)]
+
 ghost use Rattle.std.specs.Prelude.{◌≡◌};
 ghost use Rattle.diagram_moves.specs.Changes.{row_set, branches_set};
 

@@ -1,4 +1,6 @@
 // Which states are one of a diagram's: the check of a state, refusal 20. Every function is total: what table or state does not hold is read as 0.
+#![tactic(auto)]
+
 ghost use Rattle.std.specs.Prelude.{◌≡◌, ◌&&◌, ◌+◌, ◌*◌, eqb, length};
 ghost use Rattle.diagram_moves.specs.Decisions.{activity_allowed, turns_allowed, clock_allowed, row_allowed, count_allowed, shared_allowed, state_allowed};
 ghost use Rattle.effbd.specs.Ranges.{all_below};

@@ -1,5 +1,7 @@
 // What a move changes in the counts and clocks of a diagram's state: takes, gives and ticks. Crate table_move says which of it a move does.
 // Every function is total: past the end a cell or word is 0, a store changes nothing.
+#![tactic(auto)]
+
 ghost use Rattle.std.specs.Prelude.{◌≡◌, ◌+◌, ◌<◌, length, length as long};
 ghost use Rattle.diagram_table.specs.Cells.{uses_of, uses_in};
 ghost use Rattle.diagram_moves.specs.Decisions.{changed as changing};

@@ -1,5 +1,7 @@
 // What a diagram's move is told before anything is written.
 // A diagram is its table (crate diagram_file). Every function is total: what the table does not hold is read as 0.
+#![tactic(auto)]
+
 ghost use Rattle.std.specs.Prelude.{◌≡◌};
 ghost use Rattle.effbd.specs.Answers.{said};
 ghost use Rattle.diagram_moves.specs.Decisions.{move_verdict};

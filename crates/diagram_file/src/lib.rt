@@ -1,4 +1,6 @@
 // Diagram files: read, accepted or refused, and held as one flat table.
+#![tactic(auto)]
+
 ghost use Rattle.std.specs.Prelude.{◌≡◌, length};
 ghost use Rattle.effbd.specs.Answers.{said};
 ghost use Rattle.effbd.specs.Nesting.{uses_part, part_in};

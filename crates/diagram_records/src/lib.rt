@@ -1,6 +1,8 @@
 // Reads a diagram file's head and items by its tails, into one flat table, and has the rows read behind them (crate row_records): refusals 1 to 6
 // and 43. `entries` is the constant table of kinds (crate kinds), laid out once and lent on: each record's length is looked up in it by the
 // record's own kind.
+#![tactic(auto)]
+
 ghost use Rattle.std.specs.Prelude.{◌≡◌, ◌≤◌, ◌<◌, length};
 ghost use Rattle.effbd.specs.Records.{KindBytes};
 ghost use Rattle.effbd.specs.Diagrams.{most_rows, most_items, head_fault, item_fault};

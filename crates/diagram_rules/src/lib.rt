@@ -1,5 +1,7 @@
 // The rules behind the walk, asked where no row is at fault in it: outlets and EXITs one to one (49), no scenario that falls through (50), no loop
 // that spends no time (45). The first two go by the structure of the rows, which a plant without a box need not have for its verdict.
+#![tactic(auto)]
+
 ghost use Rattle.diagram_rules.specs.Rules.{BoxesRead, RulesRead};
 
 use nesting::Judgement;

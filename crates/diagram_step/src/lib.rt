@@ -1,4 +1,6 @@
 // The diagram's stepper: the file is read once, the state checked, then the move made, or told which transition of the net it fires.
+#![tactic(auto)]
+
 ghost use Rattle.std.specs.Prelude.{◌≡◌, ◌≤◌, length};
 ghost use Rattle.effbd.specs.Answers.{said, returning_zero, afterwards};
 ghost use Rattle.effbd.specs.Moves.{step_diagram, fresh_diagram};

@@ -1,4 +1,6 @@
 // The structure of an accepted diagram's rows, in one pass over the table: each row's from the row before it.
+#![tactic(auto)]
+
 ghost use Rattle.std.specs.Prelude.{◌≡◌, ◌+◌, ◌-◌, ◌≤◌, ◌<◌, length};
 ghost use Rattle.effbd.specs.Diagrams.{most_rows};
 ghost use Rattle.effbd.specs.Moves.{most_word};

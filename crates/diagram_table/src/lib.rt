@@ -1,6 +1,8 @@
 // A diagram's table: its layout, and what its cells, as crate diagram_file fills them, say of a row's uses, of a construct's
 // BRANCH rows and of entering a row; what they say of counts is crate table_counts'.
 // Nothing is asked of a caller: past the table's end a cell is 0.
+#![tactic(auto)]
+
 ghost use Rattle.std.specs.Prelude.{◌≡◌, ◌+◌, ◌<◌, get_or};
 ghost use Rattle.diagram_table.specs.Cells.{kind_in, uses_part_in, uses_bytes, is_branch, kills_in, entered_in};
 

@@ -1,6 +1,8 @@
 // What a move changes in the tokens on a diagram's rows: entering, killing, passing on, the branches of an AND, leaving the rows of a loop or of
 // a box's scenario. Crate table_move says which of it a move does; a row's activity is set by crate diagram_activities. Every function is total:
 // past the end a cell or word is 0, a store changes nothing.
+#![tactic(auto)]
+
 ghost use Rattle.std.specs.Prelude.{◌≡◌, ◌≤◌, length};
 ghost use Rattle.diagram_moves.specs.Changes.{words_cleared, rows_killed, entered, token_passed, branches_entered, rows_left};
 

@@ -1,4 +1,6 @@
 // The uses of a FUNCTION in the file's bytes: what stops its takes or its gives.
+#![tactic(auto)]
+
 ghost use Rattle.std.specs.Prelude.{◌≡◌, true, cond, ◌+◌, ◌<◌, length, get_or, length as long, ltb};
 ghost use Rattle.effbd.specs.Records.{word};
 ghost use Rattle.diagram_table.specs.Cells.{uses_of, uses_in};

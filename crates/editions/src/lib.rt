@@ -1,5 +1,7 @@
 // Runs of telegrams, one after another, converted between the old and the new edition: a run is checked first, so that a refusal has
 // written nothing. Each telegram is read from the rest of the run and written into the rest of the area.
+#![tactic(auto)]
+
 ghost use Rattle.std.specs.Prelude.{◌≡◌, true, take};
 ghost use Rattle.effbd.specs.Answers.{said, is_accepted};
 ghost use Rattle.effbd.specs.Editions.{old_fault, new_fault, upward, downward, stopping, telegrams_up, telegrams_down};

@@ -1,5 +1,6 @@
 // Function flow block diagrams, their nets and the bus between panel and controller: document 01 as definitions (specs/).
 // Of the code there belong to them the answer that every call gives, and the numbers that document 01 fixes, by name.
+#![tactic(auto)]
 
 pub mod limits;
 pub mod moves;

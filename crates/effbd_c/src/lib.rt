@@ -1,5 +1,7 @@
 // The functions that C and Rust programs call. A list is a pointer and its number of elements; an answer is number * 2^32 + value,
 // number 0 where accepted. Each hands its arguments on as they are: what it answers and leaves is what the called function promises.
+#![tactic(auto)]
+
 ghost use Rattle.std.specs.Prelude.{◌≡◌, length};
 ghost use Rattle.effbd.specs.Answers.{returning_zero, afterwards, packed};
 ghost use Rattle.effbd.specs.Moves.{step_diagram, fresh_diagram};

@@ -1,4 +1,6 @@
 // Both ends of the bus before their first call: the net of a file, and both fresh states.
+#![tactic(auto)]
+
 ghost use Rattle.std.specs.Prelude.{◌≡◌, ◌≤◌, length};
 ghost use Rattle.effbd.specs.Answers.{said, returning_zero, afterwards};
 ghost use Rattle.effbd.specs.Nesting.{read_diagram};

@@ -1,5 +1,7 @@
 // The fresh state of a diagram with triggers: the words of its rows and items, and behind them every copy at its trigger's initial count.
 // Nothing is asked of a caller: past the end a cell is 0, a store changes nothing.
+#![tactic(auto)]
+
 ghost use Rattle.std.specs.Prelude.{◌≡◌, ◌+◌, ◌*◌, take};
 ghost use Rattle.words.specs.Stores.{copied};
 ghost use Rattle.fresh_copies.specs.Runs.{run_put, runs_put, fresh_put, FreshMade};

@@ -1,4 +1,6 @@
 // The kinds of records: their names, and the constant table from kind to base length and field count, diagram and net kinds together.
+#![tactic(auto)]
+
 ghost use Rattle.std.specs.Prelude.{◌≡◌, ◌+◌, ◌*◌, ◌<◌, get_or};
 ghost use Rattle.effbd.specs.Records.{KindBytes};
 

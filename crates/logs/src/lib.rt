@@ -1,5 +1,7 @@
 // Logs of moves: setpoints of 4 bytes one after another, made from fresh on a diagram's table. Refusals 40 and 42.
 // A caller walks a log move by move; what the walk has come to is crate logs' `Walk` (specs/Walk).
+#![tactic(auto)]
+
 ghost use Rattle.std.specs.Prelude.{◌≡◌};
 ghost use Rattle.effbd.specs.Answers.{said, returning_zero, afterwards};
 ghost use Rattle.effbd.specs.Logs.{setpoint_at, move_count, log_fault, with_index};

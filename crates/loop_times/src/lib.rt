@@ -1,6 +1,8 @@
 // Loops that spend no time: refusal 45, asked where the nesting is right. One pass over the rows, the last row first. Of the LPs around a row
 // the inner ones close first; so those with no FUNCTION of α at least 1 from that row to their close are the innermost, and how many they
 // are says which they are.
+#![tactic(auto)]
+
 ghost use Rattle.std.specs.Prelude.{◌≡◌, ◌+◌, ◌≤◌, ◌<◌, length, get_or};
 ghost use Rattle.effbd.specs.Ranges.{how_many};
 ghost use Rattle.effbd.specs.Moves.{most_word};

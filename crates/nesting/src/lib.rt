@@ -1,6 +1,8 @@
 // The nesting of a diagram's rows: refusals 7 to 9, 44 and 48. `read_run` reads a run of rows by its constructs, `read_construct` a construct by the
 // runs inside it; they call each other, and the call stack is the stack of what is open. The rows left and the depth left fall together.
 // Nothing is asked of a caller: past the table's end a kind is 0, which no row has.
+#![tactic(auto)]
+
 ghost use Rattle.std.specs.Prelude.{◌≡◌, ◌+◌, ◌≤◌, ◌<◌};
 ghost use Rattle.effbd.specs.Moves.{most_word};
 ghost use Rattle.nesting.specs.Runs.{part_of, kind_in, top_in, first_in, is_and_or, is_branching, run_ends, exit_fits, box_exit_fits, scenario_in, loops_in, inside_in, closes_in, stay_fault, last_fault, killer_fault, branch_fault, open_fault, RunRead, ConstructRead, NestingRead};

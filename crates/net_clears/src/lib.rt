@@ -1,5 +1,7 @@
 // What a transition writes of rows that it clears, from a diagram's table (crate diagram_table): R of an IT open again; a kill, which is one
 // clear range and one walk of gives. Nothing is asked of a caller: any words are a table.
+#![tactic(auto)]
+
 ghost use Rattle.std.specs.Prelude.{◌≡◌, ◌+◌, ◌-◌};
 ghost use Rattle.net_records.specs.Writing.{Wrote, span};
 ghost use Rattle.net_clears.specs.Clearing.{restore as restore_records, revive as revive_records, kill as kill_records};

@@ -1,4 +1,6 @@
 // The counts' places of a net with their fresh marks: the items, and behind these the copies of triggers.
+#![tactic(auto)]
+
 ghost use Rattle.net_records.specs.Writing.{Wrote, runs};
 ghost use Rattle.net_counts.specs.Marks.{item_mark, equal_marks, copy_marks, copies_marks, count_marks};
 

@@ -1,5 +1,7 @@
 // What a transition writes of entering a row, from a diagram's table (crate diagram_table): a give; where that ends a branch that kills, that
 // kill (crate net_clears). Nothing is asked of a caller: any words are a table.
+#![tactic(auto)]
+
 ghost use Rattle.std.specs.Prelude.{◌≡◌};
 ghost use Rattle.net_records.specs.Writing.{Wrote};
 ghost use Rattle.net_entries.specs.Entering.{entry as entry_of, entering as entering_records};

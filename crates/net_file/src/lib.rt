@@ -1,5 +1,7 @@
 // The reader of net files: the head, the places, the transitions with their arcs, each record checked against what is due.
 // Every function lends the rest of the file, starting at a record's end, on to the next; the constant table of kinds is laid out once and lent on.
+#![tactic(auto)]
+
 ghost use Rattle.std.specs.Prelude.{◌≡◌, cond, ◌+◌, ◌-◌, ◌≤◌, eqb, length};
 ghost use Rattle.effbd.specs.Answers.{said};
 ghost use Rattle.effbd.specs.Records.{word, KindBytes};

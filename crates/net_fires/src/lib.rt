@@ -1,4 +1,6 @@
 // Which transition a step fires, on any net file: looked for, as the stepper of nets does.
+#![tactic(auto)]
+
 ghost use Rattle.std.specs.Prelude.{◌≡◌};
 ghost use Rattle.effbd.specs.Answers.{said};
 ghost use Rattle.effbd.specs.Transitions.{transition_net};

@@ -1,4 +1,6 @@
 // The fresh state of a net, on any net file: its marks, then the clocks of its transitions, all 0.
+#![tactic(auto)]
+
 ghost use Rattle.std.specs.Prelude.{◌≡◌, length};
 ghost use Rattle.effbd.specs.Answers.{said, afterwards, returning_zero};
 ghost use Rattle.effbd.specs.Ranges.{tabulate};

@@ -1,4 +1,6 @@
 // A net's head: how many places and how many transitions there are.
+#![tactic(auto)]
+
 ghost use Rattle.std.specs.Prelude.{◌+◌, ◌*◌};
 ghost use Rattle.diagram_table.specs.Cells.{counts_in};
 ghost use Rattle.net_records.specs.Writing.{Wrote};

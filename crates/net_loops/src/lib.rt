@@ -1,5 +1,7 @@
 // The transitions that turn and leave loops and leave boxes: those of an IT open, of an LE and of an EXIT, from a diagram's table (crate diagram_table).
 // Nothing is asked of a caller: any words are a table.
+#![tactic(auto)]
+
 ghost use Rattle.std.specs.Prelude.{◌≡◌, ◌+◌};
 ghost use Rattle.net_records.specs.Writing.{Wrote, span};
 ghost use Rattle.net_clears.specs.Clearing.{restore as restore_records};

@@ -1,4 +1,6 @@
 // The rows' places of a net with their fresh marks; the counts' are crate net_counts', the head is crate net_head's.
+#![tactic(auto)]
+
 ghost use Rattle.std.specs.Prelude.{◌≡◌};
 ghost use Rattle.diagram_table.specs.Cells.{entered_in};
 ghost use Rattle.net_records.specs.Writing.{Wrote, runs};

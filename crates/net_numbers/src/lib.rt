@@ -1,4 +1,6 @@
 // The numbers of a net's transitions, told from the diagram's table alone: the net is not built for them.
+#![tactic(auto)]
+
 ghost use Rattle.std.specs.Prelude.{◌≡◌, ◌*◌, ◌≤◌};
 ghost use Rattle.net_numbers.specs.Numbers.{own_number, branch_number, number_as, first_number_in};
 

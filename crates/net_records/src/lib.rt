@@ -1,6 +1,8 @@
 // The records of a net, each written into the rest of the area after the one before.
 // Every writer takes the area and the offset where its records are due, and answers where the next one is. Nothing is asked of
 // the area: past its end a store changes nothing, so that a writer also measures.
+#![tactic(auto)]
+
 ghost use Rattle.std.specs.Prelude.{◌≡◌, [], ◌∷◌, ◌*◌, ◌≤◌, length};
 ghost use Rattle.std.proofs.lemmas.List.Edits.{sets};
 ghost use Rattle.net_records.specs.Writing.{encode, past as past_of, Wrote};

@@ -1,4 +1,6 @@
 // The transitions of a diagram's rows, from its table (crate diagram_table). Nothing is asked of a caller: any words are a table.
+#![tactic(auto)]
+
 ghost use Rattle.std.specs.Prelude.{◌<◌, ◌≡◌};
 ghost use Rattle.net_records.specs.Writing.{Wrote, runs};
 ghost use Rattle.net_rows.specs.Rows.{token as token_records, branch_place, branch_arc, behind_in, branch_arcs, and_open_records, and_close_records, branch_token, or_close_records, onward as onward_records, back as back_records, row_records, most_row_bytes};

@@ -1,5 +1,7 @@
 // The stepper of nets, on any net file: a state is its marks, then the clocks of its transitions.
 // A move is decided first and written last: what is turned away has written nothing.
+#![tactic(auto)]
+
 ghost use Rattle.std.specs.Prelude.{◌≡◌, ◌++◌, ◌+◌, ◌≤◌, length, take, drop};
 ghost use Rattle.effbd.specs.Answers.{said, afterwards, returning_zero};
 ghost use Rattle.effbd.specs.Nets.{give_arc, most_places};

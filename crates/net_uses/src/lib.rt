@@ -1,5 +1,7 @@
 // The transitions of a FUNCTION, from a diagram's table (crate diagram_table) and the uses in its file's bytes. Nothing is asked of a caller:
 // any words are a table.
+#![tactic(auto)]
+
 ghost use Rattle.std.specs.Prelude.{◌<◌, ◌≡◌, length};
 ghost use Rattle.effbd.specs.Nets.{take_arc, give_arc};
 ghost use Rattle.diagram_table.specs.Cells.{uses_of};

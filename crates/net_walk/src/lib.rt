@@ -1,5 +1,7 @@
 // Walks over the arcs and transitions of a net file, on its bytes. Nothing is asked of the file: what its bytes say, accepted
 // or not, is defined in net_file's specs/Contents.antt.
+#![tactic(auto)]
+
 ghost use Rattle.std.specs.Prelude.{◌≡◌, ◌+◌, ◌-◌, min};
 ghost use Rattle.effbd.specs.Answers.{said};
 ghost use Rattle.effbd.specs.Nets.{arc_at};

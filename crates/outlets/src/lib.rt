@@ -1,5 +1,7 @@
 // Outlets and EXITs: refusal 49, and two cells of each EXIT, asked where the nesting is right and the table has the structure of its rows.
 // Nothing is asked of a caller: past the table's end a cell is 0, and a table of another length stays as it is.
+#![tactic(auto)]
+
 ghost use Rattle.std.specs.Prelude.{◌≡◌, ◌-◌, ◌≤◌, length};
 ghost use Rattle.effbd.specs.Diagrams.{most_rows};
 ghost use Rattle.effbd.specs.Moves.{most_word};

@@ -1,4 +1,6 @@
 // Lists of calls on both ends of the bus, through the real translator, steppers, leader and follower. What `play` promises is demand 3's claim.
+#![tactic(auto)]
+
 ghost use Rattle.std.specs.Prelude.{◌≡◌};
 ghost use Rattle.effbd.specs.Answers.{said, returning_zero, afterwards};
 ghost use Rattle.effbd.specs.Nets.{read_net};

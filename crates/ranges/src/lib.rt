@@ -1,1 +1,2 @@
 // Laws of tests, and of effbd's bounded tests, searches and tables (specs/). There is no code here.
+#![tactic(auto)]

@@ -1,5 +1,7 @@
 // Reads the row records of a diagram file by its tails, into one flat table: refusals 1 to 3, 5, 6 and 43. `entries` is the constant table of kinds
 // (crate kinds), laid out once and lent on: each record's length and fields are looked up in it by the record's own kind.
+#![tactic(auto)]
+
 ghost use Rattle.std.specs.Prelude.{◌≡◌, ◌+◌, ◌-◌, ◌*◌, ◌/◌, ◌≤◌, ◌<◌, length};
 ghost use Rattle.effbd.specs.Records.{word, KindBytes};
 ghost use Rattle.effbd.specs.Diagrams.{most_rows, most_items, uses_at, uses_fine, row_fault};

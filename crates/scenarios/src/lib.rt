@@ -2,6 +2,8 @@
 // construct, `branches_fall` an AND or OR by the runs that are its branches; they call each other, and the rows before fall. Each construct around a row looks at
 // it once at most: rows times depth in all.
 // Nothing is asked of a caller: past the table's end a cell is 0.
+#![tactic(auto)]
+
 ghost use Rattle.std.specs.Prelude.{◌≡◌, ◌≤◌};
 ghost use Rattle.effbd.specs.Moves.{most_word};
 ghost use Rattle.scenarios.specs.Scenarios.{leaves_in, left_in, ends_in, killer_in, with_branch, FallsRead, BranchesRead, OutletRead, ScenarioRead, ScenariosRead};

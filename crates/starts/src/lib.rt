@@ -1,4 +1,6 @@
 // Starts of a FUNCTION row in a log: the log is walked once, and a window over the last hour goes with it. Refusals 40 to 42.
+#![tactic(auto)]
+
 ghost use Rattle.std.specs.Prelude.{◌≡◌, not, ◌+◌, ◌<◌};
 ghost use Rattle.effbd.specs.Answers.{said, is_accepted};
 ghost use Rattle.effbd.specs.Starts.{log_starts};

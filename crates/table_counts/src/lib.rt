@@ -1,5 +1,7 @@
 // What a diagram's table says of counts: the items', the copies of triggers behind them, and those that a use changes.
 // Nothing is asked of a caller: past the table's end a cell is 0.
+#![tactic(auto)]
+
 ghost use Rattle.std.specs.Prelude.{◌≡◌};
 ghost use Rattle.diagram_table.specs.Cells.{shared_in, counts_in, run_first, run_length};
 

@@ -1,4 +1,6 @@
 // A move on a diagram's table: decided, then written; the stores of each kind of row.
+#![tactic(auto)]
+
 ghost use Rattle.std.specs.Prelude.{◌≡◌, true, false, ◌+◌};
 ghost use Rattle.effbd.specs.Answers.{said, returning_zero, afterwards};
 ghost use Rattle.diagram_table.specs.Cells.{branch_in, close_in};

@@ -1,4 +1,6 @@
 // Telegrams of the new and the old edition, in and out of bytes: what both bus ends and the conversion between editions share.
+#![tactic(auto)]
+
 ghost use Rattle.std.specs.Prelude.{◌≡◌};
 ghost use Rattle.effbd.specs.BusEnds.{telegram as telegram_of, is_telegram};
 ghost use Rattle.effbd.specs.Editions.{old_telegram, is_old_telegram};

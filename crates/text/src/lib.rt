@@ -1,5 +1,7 @@
 // Text in lent bytes: letters, numbers in decimal, lines. Each writer lays its bytes from `at` on and returns the position behind them.
 // Past the end of the lent bytes nothing is changed and positions go on, so no writer asks for room and the result is the text's length.
+#![tactic(auto)]
+
 ghost use Rattle.std.specs.Prelude.{◌≡◌, [], ◌∷◌, ◌++◌};
 ghost use Rattle.effbd.specs.Annex.{digits, number as number_text, line};
 ghost use Rattle.text.specs.Laid.{behind as behind_of, Laid};

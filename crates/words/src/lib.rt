@@ -1,5 +1,7 @@
 // Numbers of 16 and 32 bits, little-endian, in and out of bytes, and in and out of the words of a state.
 // Nothing is asked of a caller: past the end a byte or word is 0, a tail is empty, a store changes nothing.
+#![tactic(auto)]
+
 ghost use Rattle.std.specs.Prelude.{◌≡◌, ◌+◌, ◌*◌, ◌<◌, drop, get_or, set};
 ghost use Rattle.effbd.specs.Records.{word as word_in, fault_at};
 ghost use Rattle.words.specs.Stores.{long_in, word_put, long_put, copied};
