@@ -1,0 +1,8 @@
+use mathlib.Core.Path.{sym, ap}
+use Rattle.effbd.specs.Answers.{said}
+use Rattle.effbd.specs.Answers.{packed}
+use borrow.Author.Rules.{rules}
+use Rattle.answers.proofs.pack.Goals as goal
+
+pub returns-in-Refused : goal.returns-in-Refused
+returns-in-Refused c = ap packed (ap said (sym c.answer-in-Refused-1.given.1))

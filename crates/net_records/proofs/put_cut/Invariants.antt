@@ -1,0 +1,16 @@
+use Prim.Native.Nat.{ℕ, ◌-◌, ◌≤◌}
+use mathlib.Core.Path.{◌≡◌, refl, ap, ◌∙◌}
+use mathlib.Core.List.{List}
+use native.Mathlib.Omega.{arith}
+use lib.ListN.{length, take}
+use lib.Seq.{sets, length-sets, take_all}
+use Rattle.net_records.specs.Writing.{encode}
+use Rattle.net_records.proofs.Stores.{word-turn}
+use borrow.Author.Rules.{rules}
+use Rattle.net_records.proofs.put_cut.Given as goal
+
+abbrev pub invariant-loop-i : goal.invariant-loop-i
+invariant-loop-i l = (l.i ≤ length l.fields) × (l.area ≡ sets l.initial.area 0 (encode (take l.i l.fields)))
+
+abbrev pub decreases-loop-i : goal.decreases-loop-i
+decreases-loop-i l = length l.fields - l.i

@@ -1,0 +1,8 @@
+use Rattle.text.specs.LaidLaws.{and_then}
+use Rattle.effbd.specs.Annex.{number}
+use borrow.Author.Rules.{rules}
+use Rattle.text.proofs.put_number.Goals as goal
+
+pub returns : goal.returns
+unfolding number
+returns c = and_then c.put-next.ensures c.put_digits.ensures
