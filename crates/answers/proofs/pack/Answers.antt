@@ -5,4 +5,4 @@ use borrow.Author.Rules.{rules}
 use Rattle.answers.proofs.pack.Goals as goal
 
 pub returns-in-Refused : goal.returns-in-Refused
-returns-in-Refused c = ap packed (ap said (sym c.answer-in-Refused-1.given.1))
+returns-in-Refused c = ap packed (ap said (sym c.in-Refused.is))

@@ -7,7 +7,7 @@ use Rattle.net_records.proofs.add.Goals as goal
 
 pub returns-then-at-area : goal.returns-then-at-area
 returns-then-at-area c = let a = c.args in
-    one a.area.now _ a.at _ a.fields.now (laid-tail (encode a.fields.now) a.area.now c.put_record.new.0 a.at c.put_record.ensures) c.past-next.ensures
+    one a.area.now _ a.at _ a.fields.now (laid-tail (encode a.fields.now) a.area.now c.put_record.new.area a.at c.put_record.ensures) c.past-next.ensures
 
 pub returns : goal.returns
 returns c = let a = c.args in
