@@ -182,9 +182,9 @@ module _ (file : List ℕ) (d : Diagram) (b : are_bytes file ≡ true) (e : read
             not-here y = decide (eqb (station_at b') station) (λ z. clash (and_intro y z) (unfold is_ours in o)) (λ z. z)
 
         module _ (i code argument : ℕ) (tg : Telegram (suc i) station code argument b') where
-          is_ours : is_ours station b' ≡ true
+          ours-is : is_ours station b' ≡ true
           unfolding is_ours
-          is_ours = and_intro tg.is_shaped (eq-eqb (station_at b') station tg.is_station)
+          ours-is = and_intro tg.is_shaped (eq-eqb (station_at b') station tg.is_station)
 
           taking-is : taken net c.follower c.taken station b' ≡ taken_as c.follower c.taken
               (unless (cond (leb (suc i) c.taken) 32 0) c.taken (unless (cond (leb (suc i) (suc c.taken)) 0 33) c.taken (step_net net code argument c.follower)))
@@ -192,7 +192,7 @@ module _ (file : List ℕ) (d : Diagram) (b : are_bytes file ≡ true) (e : read
           taking-is = rw (tg.is_shaped, eq-eqb (station_at b') station tg.is_station, tg.is_number, tg.is_code, tg.is_argument)
 
           not-next : i ≢ p.t → (is_ours station b' && eqb (number_at b') (suc p.t)) ≡ false
-          not-next q = rw (is_ours, tg.is_number, ne_eqb (suc i) (suc p.t) (omega arith))
+          not-next q = rw (ours-is, tg.is_number, ne_eqb (suc i) (suc p.t) (omega arith))
 
           ours-old : i < p.t → One (past d station p (hand b')) (run file net station c (hand b')) (seen file net station c (hand b')) (due d station p (hand b'))
           ours-old l = away 32 c.taken (taking-is ∙ (let k = v.takes in rw (le-leb (suc i) c.taken (omega arith)))) (not-next (omega arith))
@@ -203,7 +203,7 @@ module _ (file : List ℕ) (d : Diagram) (b : are_bytes file ≡ true) (e : read
           raised : i ≡ p.t → i < length p.states → move_words d (move_of code argument) (state_at d station p i) ≡ accepted (state_at d station p (suc i))
               → One (past d station p (hand b')) (run file net station c (hand b')) (seen file net station c (hand b')) (due d station p (hand b'))
           unfolding past run seen due state_at
-          raised q l m = rw (goes, is_ours, tg.is_number, eq-eqb (suc i) (suc p.t) (ap suc q), lt-ltb p.t (suc p.t) (omega arith)) (record {
+          raised q l m = rw (goes, ours-is, tg.is_number, eq-eqb (suc i) (suc p.t) (ap suc q), lt-ltb p.t (suc p.t) (omega arith)) (record {
             keeps = record {
               many = v.many;
               good = v.good;

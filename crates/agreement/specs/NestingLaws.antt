@@ -608,8 +608,10 @@ module _ (d : Diagram) where
     unfolding has
     loop_as [] h = clash h refl
     loop_as (f ∷ fs) h = decide (is_kind d lp_open f.opened)
-        (λ e. rw e (same-eq (kind d f.opened) lp_open e, or_left (has f.opened fs) (only-refl f.opened)))
-        (λ e. let w = loop_as fs (rw e at h) in rw e (w.0, or_right (only (innermost d lp_open fs) f.opened) w.1))
+        (λ e. let i : innermost d lp_open (f ∷ fs) ≡ f.opened = rw e refl in
+        subst (λ o. (kind d o ≡ lp_open) × (has o (f ∷ fs) ≡ true)) (sym i) (same-eq (kind d f.opened) lp_open e, or_left (has f.opened fs) (only-refl f.opened)))
+        (λ e. let w = loop_as fs (rw e at h) in let i : innermost d lp_open (f ∷ fs) ≡ innermost d lp_open fs = rw e refl in
+        subst (λ o. (kind d o ≡ lp_open) × (has o (f ∷ fs) ≡ true)) (sym i) (w.0, or_right (only (innermost d lp_open fs) f.opened) w.1))
 
     -- how many BRANCH rows o has so far, where it is open; behind its first BRANCH, never none
     unfoldable tally : ℕ → List Frame → ℕ
@@ -643,9 +645,13 @@ module _ (d : Diagram) where
     unfolding has tally
     box_as q [] g h = clash h refl
     box_as q (f ∷ fs) g h = decide (in_scenario d f)
-        (λ e. rw (e, only-refl f.opened) (same-eq (kind d f.opened) box_open (and_left (is_kind d box_open f.opened) _ e), eqb-true f.branches 0 (and_right (is_kind d box_open f.opened) _ e), refl))
+        (λ e. let i : innermost_scenario d (f ∷ fs) ≡ f.opened = rw e refl in
+        subst (λ o. (kind d o ≡ box_open) × (tally o (f ∷ fs) ≡ 0) × (has o (f ∷ fs) ≡ true)) (sym i)
+        (rw (only-refl f.opened) (same-eq (kind d f.opened) box_open (and_left (is_kind d box_open f.opened) _ e), eqb-true f.branches 0 (and_right (is_kind d box_open f.opened) _ e), refl)))
         (λ e. let w = box_as f.opened fs g.1 (rw e at h) in let l = has-below f.opened (innermost_scenario d fs) fs g.1 w.2 in
-        rw (e, ne_eqb f.opened (innermost_scenario d fs) (λ z. absurd (omega arith))) (w.0, w.1, w.2))
+        let i : innermost_scenario d (f ∷ fs) ≡ innermost_scenario d fs = rw e refl in
+        subst (λ o. (kind d o ≡ box_open) × (tally o (f ∷ fs) ≡ 0) × (has o (f ∷ fs) ≡ true)) (sym i)
+        (rw (ne_eqb f.opened (innermost_scenario d fs) (λ z. absurd (omega arith))) (w.0, w.1, w.2)))
 
     -- o, no AND, is around a row: an AND around the row is around o, or in it
     left_as : (o Y q : ℕ) (fs : List Frame) → Good q fs → is_kind d and_open o ≡ false → has o fs ≡ true
