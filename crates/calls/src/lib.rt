@@ -15,14 +15,14 @@ pub const OFFER: u16 = 1;
 pub const HAND: u16 = 2;
 
 // How many moves the leader sent and the follower took.
-#[derive(Drop)]
+#[derive(Clone, Copy)]
 pub struct Counts {
     pub sent: u32,
     pub taken: u32,
 }
 
 // A call that was made: what it was answered, and the counts after it.
-#[derive(Drop)]
+#[derive(Clone, Copy)]
 pub struct CallResult {
     pub answer: Answer,
     pub counts: Counts,

@@ -13,7 +13,7 @@ use diagram_table::{CELLS, Part, SOME_TRIGGER};
 use effbd::Answer;
 
 // A refusal's number and value, 0 and 0 for none.
-#[derive(Drop)]
+#[derive(Clone, Copy)]
 pub(crate) struct Refusal {
     pub number: u16,
     pub value: u32,

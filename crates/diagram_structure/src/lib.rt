@@ -12,7 +12,7 @@ use effbd::limits::MOST_ROWS;
 use nesting::Part;
 
 // What a row stands in: the innermost construct's open row and latest BRANCH, and the innermost LP.
-#[derive(Drop)]
+#[derive(Clone, Copy)]
 struct Around {
     pub owner: u16,
     pub latest: u16,

@@ -60,7 +60,7 @@ pub const WIDE: usize = COUNTED + MOST_ROWS as usize * MOST_ITEMS as usize;
 pub const USE_SIZE: usize = 6;
 
 // Where a part of a file starts, and its size.
-#[derive(Drop)]
+#[derive(Clone, Copy)]
 pub struct Part {
     pub start: usize,
     pub size: usize,

@@ -7,7 +7,7 @@ pub mod moves;
 pub mod refusals;
 
 // `said` in specs/Answers.antt states document 01's number and value of each case.
-#[derive(Drop)]
+#[derive(Clone, Copy)]
 pub enum Answer {
     // A result that is no refusal, with the value that the call returns.
     Accepted(u32),

@@ -17,14 +17,14 @@ pub const LEADER_WORDS: usize = limits::MOST_PLACES as usize;
 pub const FOLLOWER_WORDS: usize = limits::MOST_PLACES as usize + limits::MOST_TRANSITIONS as usize;
 
 // How many words the states of both ends have.
-#[derive(Drop)]
+#[derive(Clone, Copy)]
 pub struct StateSizes {
     pub leader: u32,
     pub follower: u32,
 }
 
 // Both ends ready for their first call: the bytes of the net and the words of the states; or the file's refusal.
-#[derive(Drop)]
+#[derive(Clone, Copy)]
 pub struct ReadyResult {
     pub answer: Answer,
     pub net: u32,

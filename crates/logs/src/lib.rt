@@ -31,7 +31,7 @@ pub fn move_count(log: &[u8]) -> usize
 }
 
 // A move of a log: its code, and the row that it steps or the ticks that it waits.
-#[derive(Drop)]
+#[derive(Clone, Copy)]
 pub struct Setpoint {
     pub code: u16,
     pub argument: u16,

@@ -15,7 +15,7 @@ use nesting::Judgement;
 
 // What the rows from one on have shown: how many of the LPs around that row have spent no time so far, and the lowest LP from there on that spends
 // none, or the number of rows.
-#[derive(Drop)]
+#[derive(Clone, Copy)]
 pub(crate) struct Seen {
     pub timeless: u16,
     pub lowest: u16,

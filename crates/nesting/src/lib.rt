@@ -11,7 +11,7 @@ use effbd::limits::{MOST_OPEN, MOST_ROWS};
 use effbd::refusals;
 
 // What a row does to the constructs that are open: adds one, turns the innermost to its next branch, takes it off, or nothing.
-#[derive(Drop)]
+#[derive(Clone, Copy)]
 pub enum Part {
     Opens,
     Turns,
@@ -21,7 +21,7 @@ pub enum Part {
 
 // What is open: how many constructs, the innermost one's open row and number of BRANCH rows so far, whether an LP is among those of the own
 // scenario, and whether some box's scenario is.
-#[derive(Drop)]
+#[derive(Clone, Copy)]
 pub struct Open {
     pub depth: usize,
     pub opened: usize,
@@ -31,7 +31,7 @@ pub struct Open {
 }
 
 // How a run ended: with all rows judged, at a BRANCH of the construct that it stands in, or at its close.
-#[derive(Drop)]
+#[derive(Clone, Copy)]
 pub enum Run {
     Judged(u16, usize),
     Turned(usize),
@@ -39,14 +39,14 @@ pub enum Run {
 }
 
 // How a construct ended: with all rows judged, or at its close.
-#[derive(Drop)]
+#[derive(Clone, Copy)]
 pub enum Construct {
     Judged(u16, usize),
     Closed(usize),
 }
 
 // A refusal's number and row, 0 and 0 for none.
-#[derive(Drop)]
+#[derive(Clone, Copy)]
 pub struct Judgement {
     pub number: u16,
     pub row: usize,

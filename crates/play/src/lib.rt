@@ -13,7 +13,7 @@ use calls::Counts;
 use effbd::{Answer, refusals};
 
 // A list that was played, or the refusal that stood against it.
-#[derive(Drop)]
+#[derive(Clone, Copy)]
 pub struct PlayResult {
     pub answer: Answer,
     pub counts: Counts,

@@ -19,7 +19,7 @@ use effbd::refusals::{BYTES_AFTER_LAST, CUT_SHORT, FIELD_OFF, TRIGGER_OFF};
 const ROWS_FROM: usize = 106;
 
 // Where reading stopped, and the fault of the record there, 0 for none.
-#[derive(Drop)]
+#[derive(Clone, Copy)]
 pub struct Reached {
     pub fault: u16,
     pub at: usize,

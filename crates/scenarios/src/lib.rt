@@ -13,7 +13,7 @@ use effbd::refusals;
 use nesting::{Judgement, Part};
 
 // How the branches of an AND or OR fall through: all of them, some of them, some that kills.
-#[derive(Drop)]
+#[derive(Clone, Copy)]
 pub(crate) struct Branches {
     pub all: bool,
     pub some: bool,

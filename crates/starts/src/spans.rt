@@ -11,7 +11,7 @@ pub(crate) const GAP_BYTES: usize = 43692;
 
 // The log's time and the latest start's; of the starts in the window the first one's time and how many there are; where their gaps begin
 // and end; the most starts of an hour so far and where it begins.
-#[derive(Drop)]
+#[derive(Clone, Copy)]
 pub(crate) struct Window {
     pub time: u32,
     pub latest: u32,
@@ -24,7 +24,7 @@ pub(crate) struct Window {
 }
 
 // A gap, and where the next one stands.
-#[derive(Drop)]
+#[derive(Clone, Copy)]
 pub(crate) struct Gap {
     pub ticks: u32,
     pub end: u32,
