@@ -9,7 +9,7 @@ use effbd::limits::{MOST_ITEMS, MOST_ROWS, PLAIN_PLACES};
 
 // A diagram file: number 0 and the diagram, or the refusal's number and value.
 // Crate diagram_table has the table's layout.
-#[derive(Drop)]
+#[derive(Clone, Copy)]
 pub struct Diagram {
     pub number: u16,
     pub value: u32,
