@@ -20,7 +20,7 @@ use Rattle.ranges.specs.Tests.{decide, and_left, and_right}
 use Rattle.agreement.specs.ByteLaws.{bind_inv, never}
 use Rattle.agreement.specs.Counts.{counts-few}
 use Rattle.agreement.specs.Formed.{marks_fine, transitions_fine, well_formed}
-use Rattle.agreement.specs.WellFormed.{well-made}
+use Rattle.agreement.proofs.WellFormed.{well-made}
 
 pair-short : (letters : List ℕ) (first second : ℕ) → length (line letters (first ∷ second ∷ [])) ≤ length letters + 23
 unfolding numbers

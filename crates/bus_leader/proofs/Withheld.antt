@@ -15,7 +15,7 @@ use Rattle.effbd.specs.Layout.{places}
 use Rattle.effbd.specs.Nets.{most_places}
 use Rattle.effbd.specs.Moves.{move_of, checked_move, step_diagram}
 use Rattle.agreement.specs.AcceptedFiles.{held}
-use Rattle.agreement.specs.WellFormed.{few-places}
+use Rattle.agreement.proofs.WellFormed.{few-places}
 use Rattle.words.specs.Stores.{copied}
 use Rattle.telegrams.proofs.Written.{has_room, telegram-size}
 use Rattle.effbd.specs.BusEnds.{telegram, Offered, turned_away, offered}

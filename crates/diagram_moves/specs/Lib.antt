@@ -1,12 +1,7 @@
 pub mod Decisions
 pub mod Changes
 pub mod Stores
-pub mod RowStores
 pub mod BusyRows
 pub mod UseAmounts
 pub mod StandingCounts
 pub mod UseRuns
-pub mod TokenMoves
-pub mod FunctionMoves
-pub mod MovesAre
-pub mod FileMoves

@@ -15,7 +15,7 @@ use Rattle.diagram_file.specs.Tables.{Parsed}
 use Rattle.diagram.specs.declared.Diagram.{Diagram as Parse}
 use Rattle.diagram_moves.specs.Decisions.{row_allowed, shared_allowed, state_allowed}
 use Rattle.diagram_moves.specs.Changes.{table_move, checked_table_move}
-use Rattle.diagram_moves.specs.FileMoves.{step-refused, fresh-refused}
+use Rattle.diagram_moves.proofs.FileMoves.{step-refused, fresh-refused}
 use Rattle.table_move.proofs.Answered.{Answered, told-refused}
 
 -- the check of a state: on with the move, or 20

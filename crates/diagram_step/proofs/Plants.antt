@@ -20,7 +20,7 @@ use Rattle.fresh_copies.proofs.Freshness.{plain-fresh}
 use Rattle.agreement.specs.AcceptedFiles.{held}
 use Rattle.ranges.specs.RangeLaws.{length-tab}
 use Rattle.diagram_moves.specs.Changes.{fresh_placed}
-use Rattle.diagram_moves.specs.FileMoves.{plant-places, fresh-is}
+use Rattle.diagram_moves.proofs.FileMoves.{plant-places, fresh-is}
 
 -- words that begin with a fresh state are as long as it
 room_of : (d : Diagram) (l : List ℕ) → FreshOf d l → places d ≤ length l

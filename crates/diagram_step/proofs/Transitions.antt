@@ -31,7 +31,7 @@ use Rattle.net_numbers.proofs.FirstNumbers.{first-is}
 use Rattle.diagram.specs.declared.Diagram.{Diagram as Parse}
 use Rattle.diagram_file.specs.Tables.{Parsed}
 use Rattle.diagram_moves.specs.Decisions.{row_allowed, state_allowed}
-use Rattle.diagram_moves.specs.FileMoves.{check-is, transition-refused}
+use Rattle.diagram_moves.proofs.FileMoves.{check-is, transition-refused}
 use Rattle.diagram_step.proofs.Answered.{plain-check}
 use Rattle.diagram_step.specs.Numbers.{Checked, function_number_in}
 

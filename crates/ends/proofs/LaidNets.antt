@@ -22,7 +22,7 @@ use Rattle.effbd.specs.Patterns.{net_of, Translated, translated}
 use Rattle.effbd.specs.History.{net_file_of}
 use Rattle.translate.specs.NetRecords.{net_room}
 use Rattle.agreement.specs.AcceptedFiles.{held}
-use Rattle.agreement.specs.Theorems.{net-well-formed, net-read-back}
+use Rattle.agreement.proofs.Theorems.{net-well-formed, net-read-back}
 use Rattle.diagram_file.specs.Tables.{Parsed}
 use Rattle.diagram_table.specs.Held.{HoldsFile}
 use Rattle.diagram.specs.declared.Diagram.{Diagram as Table}

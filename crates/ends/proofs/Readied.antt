@@ -23,9 +23,9 @@ use Rattle.translate.specs.NetRecords.{net_room}
 use Rattle.ranges.specs.RangeLaws.{length-tab}
 use Rattle.ranges.specs.Tests.{and_left, and_right}
 use Rattle.agreement.specs.AcceptedFiles.{held}
-use Rattle.agreement.specs.WellFormed.{few-places}
+use Rattle.agreement.proofs.WellFormed.{few-places}
 use Rattle.agreement.specs.Formed.{well_formed}
-use Rattle.agreement.specs.Theorems.{net-well-formed}
+use Rattle.agreement.proofs.Theorems.{net-well-formed}
 use Rattle.ends.specs.ReadyEnds.{net_length, NetLaidAs, NetOf, FreshEnds, FreshOf, ReadyAs, leader_room, follower_room}
 use Rattle.ends.proofs.LaidNets.{net-reads, fresh-is, fresh-net-is}
 

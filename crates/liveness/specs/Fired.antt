@@ -23,11 +23,11 @@ use Rattle.effbd.specs.States.{State, state_of}
 use Rattle.ranges.specs.Tests.{and_intro, clash, decide}
 use Rattle.ranges.specs.RangeLaws.{all-elim, least-ext, least-is, least-low, only-refl}
 use Rattle.agreement.specs.Basics.{kind-in, not-kind}
-use Rattle.agreement.specs.Matching.{second-enabled}
+use Rattle.agreement.proofs.Matching.{second-enabled}
 use Rattle.agreement.specs.Named.{enabled, lift, named_image}
-use Rattle.agreement.specs.NetSteps.{all_alike, enabled-alike, net-is, transition-alike}
-use Rattle.agreement.specs.Numbering.{enabled-flat, get_d_map, marks_of, name-at, name_of, nm, none, tr}
-use Rattle.agreement.specs.Tokens.{Real, enabled-no, enabled-yes}
+use Rattle.agreement.proofs.NetSteps.{all_alike, enabled-alike, net-is, transition-alike}
+use Rattle.agreement.proofs.Numbering.{enabled-flat, get_d_map, marks_of, name-at, name_of, nm, none, tr}
+use Rattle.agreement.proofs.Tokens.{Real, enabled-no, enabled-yes}
 
 -- what `lowest_enabled` names is what the step fires
 module _ (n : Behaviour) (r : ℕ) (s : NetState) where

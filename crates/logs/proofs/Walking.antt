@@ -14,8 +14,8 @@ use Rattle.effbd.specs.States.{state_of, fresh_words, state_passes}
 use Rattle.effbd.specs.Logs.{Setpoint, setpoint_at, setpoints, move_count, with_index, made, after, state_from, state_after, played_from, played}
 use Rattle.diagram_table.specs.Held.{HoldsPlant}
 use Rattle.diagram_moves.specs.Changes.{table_move}
-use Rattle.diagram_moves.specs.FunctionMoves.{Small}
-use Rattle.diagram_moves.specs.FileMoves.{log-move-is}
+use Rattle.diagram_moves.proofs.FunctionMoves.{Small}
+use Rattle.diagram_moves.proofs.FileMoves.{log-move-is}
 use Rattle.agreement.specs.ByteLaws.{never}
 use Rattle.log_laws.specs.LogMoves.{no_setpoint, setpoints-many, setpoint-is, played-turn, played-stop, after_next, LogState, log-states}
 use Rattle.logs.specs.Walk.{Walk}

@@ -16,7 +16,7 @@ use Rattle.ranges.specs.Tests.{decide, or_left}
 use Rattle.agreement.specs.AcceptedFiles.{well-nested}
 use Rattle.agreement.specs.Nested.{walk, well_nested}
 use Rattle.agreement.specs.NestingLaws.{Good, good, has, until}
-use Rattle.agreement.specs.Reach.{close-in}
+use Rattle.agreement.proofs.Reach.{close-in}
 use Rattle.agreement.specs.RowFaults.{rows-faultless, rows-faulty}
 use Rattle.nesting.specs.Runs.{Kinds, first_in}
 use Rattle.loop_times.specs.declared.Seen.{Seen}

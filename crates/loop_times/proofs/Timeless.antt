@@ -17,7 +17,7 @@ use Rattle.agreement.specs.Nested.{walk, well_nested}
 use Rattle.agreement.specs.Basics.{same-eq}
 use Rattle.agreement.specs.Structure.{opens}
 use Rattle.agreement.specs.NestingLaws.{Good, good, has, laws, until, owner-top, shutting}
-use Rattle.agreement.specs.Reach.{stands, behind}
+use Rattle.agreement.proofs.Reach.{stands, behind}
 
 module _ (d : Diagram) where
   -- no FUNCTION that spends time stands from row q to the close of o

@@ -15,8 +15,8 @@ use Rattle.ranges.specs.Tests.{decide}
 use Rattle.agreement.specs.AcceptedFiles.{Held}
 use Rattle.agreement.specs.Structure.{Laws}
 use Rattle.agreement.specs.NestingLaws.{laws}
-use Rattle.agreement.specs.Reach.{branch-behind, branch-before, close-in}
-use Rattle.agreement.specs.TokenSteps.{branch-kind}
+use Rattle.agreement.proofs.Reach.{branch-behind, branch-before, close-in}
+use Rattle.agreement.proofs.TokenSteps.{branch-kind}
 use Rattle.diagram_table.specs.Held.{Holds}
 use Rattle.diagram_table.proofs.HeldCells.{kind-cell, first_cell, close-cell, branch-cell}
 use Rattle.net_records.specs.Writing.{Records, runs, span}

@@ -14,7 +14,7 @@ use Rattle.effbd.specs.Layout.{Place, P, Q, R, Count, by_place, places, place_of
 use Rattle.effbd.specs.Patterns.{none, one_at, marks_p, arcs_of}
 use Rattle.ranges.specs.Tests.{decide}
 use Rattle.ranges.specs.RangeLaws.{only-refl}
-use Rattle.agreement.specs.Numbering.{place-P, place-Q, place-R, place-I}
+use Rattle.agreement.proofs.Numbering.{place-P, place-Q, place-R, place-I}
 use Rattle.net_records.specs.Writing.{Records, runs}
 use Rattle.net_records.specs.Records.{arc}
 use Rattle.net_records.proofs.Nets.{arc_record}

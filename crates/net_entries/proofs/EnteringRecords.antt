@@ -13,8 +13,8 @@ use Rattle.effbd.specs.Patterns.{none, one_at, nowhere, clears_rows, restores_r}
 use Rattle.ranges.specs.Tests.{decide}
 use Rattle.agreement.specs.AcceptedFiles.{Held}
 use Rattle.agreement.specs.NestingLaws.{laws}
-use Rattle.agreement.specs.Reach.{entered-in, ends-killer}
-use Rattle.agreement.specs.TokenSteps.{branch-owner}
+use Rattle.agreement.proofs.Reach.{entered-in, ends-killer}
+use Rattle.agreement.proofs.TokenSteps.{branch-owner}
 use Rattle.diagram_table.specs.Cells.{entered_in, kills_in, owner_in}
 use Rattle.diagram_table.specs.Held.{Holds}
 use Rattle.diagram_table.proofs.HeldCells.{owner-cell, entered-cell, kills-cell}

@@ -7,7 +7,7 @@ use native.Mathlib.Numerals.{add-one}
 use Rattle.effbd.specs.Diagrams.{end, Diagram, row_count, kind}
 use Rattle.effbd.specs.States.{entered_row}
 use Rattle.agreement.specs.AcceptedFiles.{Held}
-use Rattle.agreement.specs.Reach.{next-in, entered-in}
+use Rattle.agreement.proofs.Reach.{next-in, entered-in}
 use Rattle.diagram_table.specs.Held.{Holds}
 use Rattle.diagram_table.proofs.HeldCells.{entered-cell}
 use Rattle.net_entries.specs.Entering.{entry}

@@ -15,7 +15,7 @@ use Rattle.effbd.specs.Records.{are_bytes, word}
 use Rattle.effbd.specs.Nets.{Net, Transition, read_net}
 use Rattle.effbd.specs.Firing.{Behaviour, NetState, behaviour_of, covers, effect_of, net_state_of, net_word_count, no_effect, words_of}
 use Rattle.effbd.specs.Transitions.{checked_net_number, lowest_enabled, transition_net}
-use Rattle.agreement.specs.Numbering.{get_d_map}
+use Rattle.agreement.proofs.Numbering.{get_d_map}
 use Rattle.net_file.specs.Contents.{behind_places, transitions_in}
 use Rattle.net_file.proofs.Accepted.{place-count}
 use Rattle.net_file.proofs.Answers.{Read, refused-inv}

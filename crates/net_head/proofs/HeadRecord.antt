@@ -10,8 +10,8 @@ use Rattle.effbd.specs.Nets.{most_places, most_transitions}
 use Rattle.effbd.specs.Patterns.{names, transition_of, net_of}
 use Rattle.agreement.specs.AcceptedFiles.{Held}
 use Rattle.agreement.specs.Counts.{counts-few}
-use Rattle.agreement.specs.Numbering.{length-map}
-use Rattle.agreement.specs.NetSteps.{many-marks}
+use Rattle.agreement.proofs.Numbering.{length-map}
+use Rattle.agreement.proofs.NetSteps.{many-marks}
 use Rattle.diagram_table.specs.Cells.{counts_in}
 use Rattle.diagram_table.specs.Held.{Holds, HoldsCopies}
 use Rattle.net_records.specs.Records.{pair}

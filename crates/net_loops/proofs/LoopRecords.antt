@@ -21,8 +21,8 @@ use Rattle.agreement.specs.Basics.{not-kind}
 use Rattle.agreement.specs.AcceptedFiles.{Held}
 use Rattle.agreement.specs.Structure.{Laws, opens}
 use Rattle.agreement.specs.NestingLaws.{laws}
-use Rattle.agreement.specs.Reach.{beyond, behind-branch, close-in, covered, entered-in, next-in, outside}
-use Rattle.agreement.specs.TokenSteps.{branch_in, branch-kind, branch-owner}
+use Rattle.agreement.proofs.Reach.{beyond, behind-branch, close-in, covered, entered-in, next-in, outside}
+use Rattle.agreement.proofs.TokenSteps.{branch_in, branch-kind, branch-owner}
 use Rattle.diagram_table.specs.Cells.{entered_in}
 use Rattle.diagram_table.specs.Held.{Holds}
 use Rattle.diagram_table.proofs.HeldCells.{in_rows, kind-cell, owner-cell, first_cell, close-cell, entered-cell}

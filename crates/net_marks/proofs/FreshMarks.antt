@@ -10,7 +10,7 @@ use Rattle.effbd.specs.Layout.{places, place_of}
 use Rattle.effbd.specs.States.{entered, entered_row}
 use Rattle.effbd.specs.Patterns.{fresh_mark, net_of}
 use Rattle.agreement.specs.AcceptedFiles.{Held}
-use Rattle.agreement.specs.Reach.{quiet-start}
+use Rattle.agreement.proofs.Reach.{quiet-start}
 use Rattle.diagram_table.specs.Cells.{entered_in}
 use Rattle.diagram_table.specs.Held.{Holds, HoldsCopies}
 use Rattle.diagram_table.proofs.HeldCells.{in_rows, kind-cell, entered-cell}

@@ -18,7 +18,7 @@ use Rattle.agreement.specs.Basics.{eq-same}
 use Rattle.agreement.specs.Nested.{walk, well_nested}
 use Rattle.agreement.specs.Structure.{opens}
 use Rattle.agreement.specs.NestingLaws.{Good, branched, good, has, absent, gone, laws}
-use Rattle.agreement.specs.Reach.{branch-opens, branch-before}
+use Rattle.agreement.proofs.Reach.{branch-opens, branch-before}
 
 module _ (d : Diagram) (acc : well_nested d ≡ true) where
   -- behind a BRANCH of an AND, entering the next row changes the BRANCH, or that row, which then is no BRANCH

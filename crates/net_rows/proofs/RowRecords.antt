@@ -18,8 +18,8 @@ use Rattle.agreement.specs.Basics.{same-eq, not-kind}
 use Rattle.agreement.specs.AcceptedFiles.{Held}
 use Rattle.agreement.specs.Structure.{Laws, opens}
 use Rattle.agreement.specs.NestingLaws.{laws}
-use Rattle.agreement.specs.Reach.{close-in, next-in}
-use Rattle.agreement.specs.Reach.{behind-branch as unkilled}
+use Rattle.agreement.proofs.Reach.{close-in, next-in}
+use Rattle.agreement.proofs.Reach.{behind-branch as unkilled}
 use Rattle.diagram_table.specs.Cells.{close_in, is_branch}
 use Rattle.diagram_table.specs.Held.{Holds, HoldsUses, HoldsCopies, HoldsRanks}
 use Rattle.diagram_table.proofs.HeldCells.{kind-cell, owner-cell, owner-kind, close-cell, branch-cell}

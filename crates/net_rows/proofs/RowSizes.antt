@@ -19,8 +19,8 @@ use Rattle.ranges.specs.Tests.{decide}
 use Rattle.agreement.specs.Basics.{not-kind}
 use Rattle.agreement.specs.AcceptedFiles.{Held}
 use Rattle.agreement.specs.NestingLaws.{laws}
-use Rattle.agreement.specs.Reach.{close-in, next-in, killer-around}
-use Rattle.agreement.specs.TokenSteps.{branch-kind, branch-owner}
+use Rattle.agreement.proofs.Reach.{close-in, next-in, killer-around}
+use Rattle.agreement.proofs.TokenSteps.{branch-kind, branch-owner}
 use Rattle.diagram_table.specs.Cells.{kind_in, owner_in, close_in, is_branch, kills_in, entered_in}
 use Rattle.diagram_table.specs.Held.{Holds, HoldsUses, HoldsCopies, HoldsRanks}
 use Rattle.diagram_table.proofs.HeldCells.{in_rows, kind-cell, owner-cell, close-cell}

@@ -16,7 +16,7 @@ use Rattle.effbd.specs.Moves.{step_row, wait_ticks, no_move, move_of}
 use Rattle.effbd.specs.Nets.{Transition, take_arc, give_arc}
 use Rattle.effbd.specs.Firing.{Effect, no_effect, Behaviour, NetState, effect_of, covers, taken_and_cleared, fired_state, overflows, fire, fire_lowest, lets_pass, ticked_state, net_wait, net_move, net_words_outcome}
 use Rattle.agreement.specs.Formed.{arcs_fine}
-use Rattle.agreement.specs.Numbering.{get_d_map}
+use Rattle.agreement.proofs.Numbering.{get_d_map}
 use Rattle.net_walk.specs.Walked.{covered, applied, reduced, sums, stands, lowest}
 use Rattle.net_walk.proofs.Effects.{Words, reduced-is, reduced-length}
 use Rattle.net_walk.proofs.Rising.{enabled-is, sums-is, given_is, reduced-words}

@@ -13,7 +13,7 @@ use Rattle.effbd.specs.Nets.{take_arc, give_arc}
 use Rattle.effbd.specs.Patterns.{none, one_at, nowhere, at_once, clears_rows, restores_r, patterns_as}
 use Rattle.agreement.specs.Basics.{not-kind}
 use Rattle.agreement.specs.AcceptedFiles.{Held}
-use Rattle.agreement.specs.Reach.{next-in}
+use Rattle.agreement.proofs.Reach.{next-in}
 use Rattle.diagram_table.specs.Cells.{uses_in}
 use Rattle.diagram_table.specs.Held.{Holds, HoldsUses, HoldsCopies, HoldsRanks}
 use Rattle.diagram_table.proofs.HeldCells.{in_rows, first_cell}

@@ -7,7 +7,7 @@ use Rattle.effbd.specs.Diagrams.{Diagram}
 use Rattle.effbd.specs.Nesting.{read_diagram}
 use Rattle.effbd.specs.BusEnds.{offered, taken}
 use Rattle.effbd.specs.History.{Call, offer, hand, Ends, after_offer, after_hand, run, MayBeHanded, Demand3}
-use Rattle.agreement.specs.Theorems.{demand-3 as claimed}
+use Rattle.agreement.proofs.Theorems.{demand-3 as claimed}
 
 -- an offer of a list is the leader's call on the leader's own state and count, bytes handed over are the follower's
 pub one-offer : (file net : List ℕ) (station : ℕ) (e : Ends) (code argument : ℕ) (area : List ℕ)

@@ -21,9 +21,10 @@ use Rattle.agreement.specs.ByteLaws.{word_fits}
 use Rattle.diagram_table.specs.Cells.{kind_in}
 use Rattle.diagram_table.specs.Held.{HoldsPlant}
 use Rattle.diagram_moves.specs.Changes.{table_move}
-use Rattle.diagram_moves.specs.FunctionMoves.{Small}
+use Rattle.diagram_moves.proofs.FunctionMoves.{Small}
 use Rattle.log_laws.specs.LogMoves.{no_setpoint, setpoints-many, setpoint-is}
-use Rattle.log_laws.specs.SpanWalk.{reach, better, Walked, walk_start, walk_turn}
+use Rattle.log_laws.specs.SpanWalk.{reach, better, Walked}
+use Rattle.log_laws.proofs.SpanWalk.{walk_start, walk_turn}
 use Rattle.logs.specs.Walk.{Walk}
 use Rattle.logs.proofs.Walking.{told-made, walk_begins, walk-on, walk-stops, move-made}
 use Rattle.starts.specs.Gaps.{starts_in}

@@ -1,4 +1,4 @@
-use Rattle.diagram_moves.specs.RowStores.{all_more, all-less}
+use Rattle.diagram_moves.proofs.RowStores.{all_more, all-less}
 use Rattle.diagram_moves.specs.Decisions.{row_allowed}
 use Rattle.ranges.specs.RangeLaws.{all-fail}
 use Rattle.effbd.specs.Ranges.{all_below}

@@ -3,7 +3,7 @@ use Prim.Native.Nat.{◌≤◌, ◌-◌}
 use mathlib.Core.Path.{◌≡◌, refl, sym, ◌∙◌}
 use native.Mathlib.Omega.{arith}
 use Rattle.diagram_moves.specs.Changes.{count_turn, fold}
-use Rattle.diagram_moves.specs.RowStores.{fold_more, fold_end}
+use Rattle.diagram_moves.proofs.RowStores.{fold_more, fold_end}
 use Rattle.diagram_moves.specs.Decisions.{standing}
 use Rattle.diagram_moves.specs.StandingCounts.{count-stands, turns-standing}
 use lib.ListN.{length}

@@ -2,9 +2,9 @@ use native.Mathlib.Omega.{arith}
 use Prim.Native.Nat.{◌≤◌, ◌-◌}
 use mathlib.Core.Path.{◌≡◌, refl, ◌∙◌}
 use lib.ListN.{length}
-use Rattle.diagram_moves.specs.RowStores.{fold_more, fold_end}
+use Rattle.diagram_moves.proofs.RowStores.{fold_more, fold_end}
 use Rattle.diagram_moves.specs.Changes.{tick_turn, fold}
-use Rattle.diagram_moves.specs.BusyRows.{busy-next, tick-past}
+use Rattle.diagram_moves.proofs.BusyRows.{busy-next, tick-past}
 use borrow.Author.Rules.{rules}
 use Rattle.diagram_counts.proofs.pass_ticks.Statement.{statement}
 use Rattle.diagram_counts.proofs.pass_ticks.Tie as tie

@@ -1,7 +1,7 @@
 use Rattle.diagram_step.proofs.Plants.{plain-table}
 use Rattle.diagram_step.proofs.Answered.{step-turned}
 use Rattle.table_move.proofs.Answered.{answered-as}
-use Rattle.diagram_moves.specs.FileMoves.{step_is}
+use Rattle.diagram_moves.proofs.FileMoves.{step_is}
 use Rattle.agreement.specs.ByteLaws.{bytes-are}
 use native.Mathlib.Omega.{arith}
 use mathlib.Core.Path.{refl, sym}

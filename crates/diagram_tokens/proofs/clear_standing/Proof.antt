@@ -1,4 +1,4 @@
-use Rattle.diagram_moves.specs.RowStores.{fold_more, start_none, start-turn, start-end}
+use Rattle.diagram_moves.proofs.RowStores.{fold_more, start_none, start-turn, start-end}
 use Rattle.diagram_moves.specs.Changes.{clear_word, words_cleared, fold, starting_at}
 use lib.ListN.{length, length-set}
 use native.Mathlib.Omega.{arith}

@@ -1,4 +1,4 @@
-use Rattle.diagram_moves.specs.RowStores.{cleared-short}
+use Rattle.diagram_moves.proofs.RowStores.{cleared-short}
 use native.Mathlib.Omega.{arith}
 use mathlib.Core.Path.{◌∙◌}
 use borrow.Author.Rules.{rules}

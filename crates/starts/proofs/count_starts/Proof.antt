@@ -7,7 +7,7 @@ use Rattle.starts.proofs.Told.{told-stopped, told-stood}
 use Rattle.starts.proofs.CountTurns.{count-stops, count-turning, count-on}
 use Rattle.starts.proofs.MoveTurns.{stands}
 use Rattle.starts.specs.Counting.{Counting}
-use Rattle.diagram_moves.specs.FunctionMoves.{Small}
+use Rattle.diagram_moves.proofs.FunctionMoves.{Small}
 use borrow.Author.Rules.{rules}
 use Rattle.starts.proofs.count_starts.Statement.{statement}
 use Rattle.starts.proofs.count_starts.Tie as tie

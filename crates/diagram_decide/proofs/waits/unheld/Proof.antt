@@ -5,8 +5,8 @@ use mathlib.Core.Bool.{true, not}
 use Rattle.effbd.specs.Ranges.{all_below}
 use Rattle.ranges.specs.RangeLaws.{all-fail}
 use Rattle.diagram_moves.specs.Decisions.{row_free}
-use Rattle.diagram_moves.specs.BusyRows.{busy-next, free-past}
-use Rattle.diagram_moves.specs.RowStores.{all_more, all-less}
+use Rattle.diagram_moves.proofs.BusyRows.{busy-next, free-past}
+use Rattle.diagram_moves.proofs.RowStores.{all_more, all-less}
 use borrow.Author.Rules.{rules}
 use Rattle.diagram_decide.proofs.waits.unheld.Statement.{statement}
 use Rattle.diagram_decide.proofs.waits.unheld.Tie as tie

@@ -1,6 +1,7 @@
 use mathlib.Core.Path.{sym, ◌∙◌}
 use Prim.Native.Nat.{◌-◌}
-use Rattle.diagram_moves.specs.BusyRows.{Idle, idle-one, busy-found, busy-none}
+use Rattle.diagram_moves.specs.BusyRows.{Idle}
+use Rattle.diagram_moves.proofs.BusyRows.{idle-one, busy-found, busy-none}
 use borrow.Author.Rules.{rules}
 use Rattle.diagram_state.proofs.cells.next_busy.Statement.{statement}
 use Rattle.diagram_state.proofs.cells.next_busy.Tie as tie

@@ -1,7 +1,8 @@
 use borrow.Author.Tests.{eqb-true, not-false}
 use mathlib.Core.Path.{sym, ◌∙◌}
 use Prim.Native.Nat.{◌-◌, ◌<◌}
-use Rattle.diagram_moves.specs.BusyRows.{Idle, idle-none, idle-four}
+use Rattle.diagram_moves.specs.BusyRows.{Idle}
+use Rattle.diagram_moves.proofs.BusyRows.{idle-none, idle-four}
 use borrow.Author.Rules.{rules}
 use Rattle.diagram_state.proofs.cells.skip_idle.Statement.{statement}
 use Rattle.diagram_state.proofs.cells.skip_idle.Tie as tie

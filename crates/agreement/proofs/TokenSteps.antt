@@ -18,11 +18,11 @@ use Rattle.effbd.specs.Answers.{accepted, refused}
 use Rattle.ranges.specs.Tests.{and_intro, and_left, and_right, clash, cond_same, decide, not-false, not-true, or-false-left, or-false-right}
 use Rattle.ranges.specs.RangeLaws.{all-elim, all-find, only-refl}
 use Rattle.agreement.specs.Basics.{kind-in, not-kind, same-eq}
-use Rattle.agreement.specs.Invariant.{Inv, Sound, inv-idle, sound-idle, sound-inv}
-use Rattle.agreement.specs.Matching.{Agree, Passing, goes, passing-fires, stays}
+use Rattle.agreement.proofs.Invariant.{Inv, Sound, inv-idle, sound-idle, sound-inv}
+use Rattle.agreement.proofs.Matching.{Agree, Passing, goes, passing-fires, stays}
 use Rattle.agreement.specs.Named.{named_image, named_step_at}
 use Rattle.agreement.specs.Structure.{Fine, Laws, Par, side, opens}
-use Rattle.agreement.specs.Tokens.{enabled-yes}
+use Rattle.agreement.proofs.Tokens.{enabled-yes}
 
 -- of a row that is active after some became idle
 pub still-active : (b : Bool) (a : ℕ) → cond b 0 a ≢ 0 → (b ≡ false) × (a ≢ 0)

@@ -19,12 +19,12 @@ use Rattle.effbd.specs.States.{State, enter, entered, entered_row, killed, make_
 use Rattle.ranges.specs.Tests.{clash, decide}
 use Rattle.ranges.specs.RangeLaws.{only-refl}
 use Rattle.agreement.specs.Basics.{kind-in, not-kind}
-use Rattle.agreement.specs.Invariant.{Inv, Sound, inv-idle, inv-with, sound-idle, sound-inv}
-use Rattle.agreement.specs.Matching.{Agree, Passing, Valid, goes, passing-fires, stays}
+use Rattle.agreement.proofs.Invariant.{Inv, Sound, inv-idle, inv-with, sound-idle, sound-inv}
+use Rattle.agreement.proofs.Matching.{Agree, Passing, Valid, goes, passing-fires, stays}
 use Rattle.agreement.specs.Named.{named_fire, named_image, named_step_at}
 use Rattle.agreement.specs.Structure.{Laws, side}
-use Rattle.agreement.specs.TokenSteps.{agree-leave, branch-kind, branch-owner, live-zero, sound-enter, sound-one, after-close, taken-P, taken-clock}
-use Rattle.agreement.specs.Tokens.{Real, enabled-yes}
+use Rattle.agreement.proofs.TokenSteps.{agree-leave, branch-kind, branch-owner, live-zero, sound-enter, sound-one, after-close, taken-P, taken-clock}
+use Rattle.agreement.proofs.Tokens.{Real, enabled-yes}
 
 module _ (d : Diagram) (L : Laws d) where
   module _ (r : ℕ) (s : State) (i : Inv d s) (k : kind d r ≡ it_open) where

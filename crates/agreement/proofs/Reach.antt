@@ -18,7 +18,7 @@ use Rattle.ranges.specs.RangeLaws.{least-found, only-refl}
 use Rattle.agreement.specs.Basics.{kind-in, not-kind, same-eq, eq-same}
 use Rattle.agreement.specs.Nested.{may_stand, walk, well_nested}
 use Rattle.agreement.specs.Structure.{opens, Laws}
-use Rattle.agreement.specs.TokenSteps.{branch_in, branch-kind, branch-owner}
+use Rattle.agreement.proofs.TokenSteps.{branch_in, branch-kind, branch-owner}
 use Rattle.agreement.specs.NestingLaws.{Good, branched, good, has-below, laws, ruled, has, absent, gone, Top, shutting, top-by, owner-top, until}
 
 module _ (d : Diagram) (acc : well_nested d ≡ true) where

@@ -10,7 +10,7 @@ use Rattle.ranges.specs.Tests.{and_intro, clash, decide, or_left, or_right}
 use Rattle.ranges.specs.RangeLaws.{all-intro}
 use Rattle.agreement.specs.Basics.{eq-same, not-kind}
 use Rattle.agreement.specs.Counts.{most-passes}
-use Rattle.agreement.specs.Matching.{Valid}
+use Rattle.agreement.proofs.Matching.{Valid}
 
 module _ (d : Diagram) (s : State) (v : Valid d s) (q : ℕ) where
   no2 : {k : Kind} → kind d q ≡ k → same_kind k function ≡ false → s.activity q ≢ 2

@@ -24,7 +24,7 @@ use Rattle.ranges.specs.RangeLaws.{all-intro, all-elim, all-ext, all-fail, all-f
 use Rattle.agreement.specs.Basics.{kind-in, kind-past, not-kind, same-eq}
 use Rattle.agreement.specs.Structure.{opens, Laws}
 use Rattle.agreement.specs.NestingLaws.{laws}
-use Rattle.agreement.specs.TokenSteps.{branch-kind, branch-owner}
+use Rattle.agreement.proofs.TokenSteps.{branch-kind, branch-owner}
 use Rattle.agreement.specs.AcceptedFiles.{Held}
 use Rattle.agreement.specs.Sources.{item_in, item-shared, known, numbers}
 use Rattle.agreement.specs.Sources.{number_of as tally_number}
@@ -34,10 +34,10 @@ use Rattle.words.proofs.PlainSums.{whole_sum}
 use Rattle.diagram_moves.specs.Decisions.{activity_allowed, turns_allowed, clock_allowed, row_allowed, count_allowed, shared_allowed, state_allowed, and_done, ready_verdict, branch_verdict, close_verdict, row_verdict, function_holds, row_holds, row_free, wait_verdict, move_verdict}
 use Rattle.diagram_moves.specs.Changes.{fold, row_set, tick_turn, token_passed, branches_set, branches_entered, it_open_change, loop_exit_change, box_exit_change, entered, row_change, move_change, outcome_of, table_move, checked_table_move}
 use Rattle.diagram_moves.specs.Stores.{Reads, like, reads-words, words-read, set-turns}
-use Rattle.diagram_moves.specs.RowStores.{tick-fold}
-use Rattle.agreement.specs.Reach.{next-in, close-in, opened-by, and-closed}
-use Rattle.diagram_moves.specs.TokenMoves.{number_is, idle-reads, enter-by, enter-reads, pass-reads, ready-is, all-done-is, set-branches, open-branches, leave-reads}
-use Rattle.diagram_moves.specs.FunctionMoves.{Small, SmallCounts, small-counts, enough-is, function-is}
+use Rattle.diagram_moves.proofs.RowStores.{tick-fold}
+use Rattle.agreement.proofs.Reach.{next-in, close-in, opened-by, and-closed}
+use Rattle.diagram_moves.proofs.TokenMoves.{number_is, idle-reads, enter-by, enter-reads, pass-reads, ready-is, all-done-is, set-branches, open-branches, leave-reads}
+use Rattle.diagram_moves.proofs.FunctionMoves.{Small, SmallCounts, small-counts, enough-is, function-is}
 
 or_nil : (e : Bool) → e ≡ e || false
 or_nil true = refl

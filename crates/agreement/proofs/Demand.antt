@@ -25,7 +25,7 @@ use Rattle.effbd.specs.States.{fresh_words}
 use Rattle.agreement.specs.AcceptedFiles.{Held, held}
 use Rattle.ranges.specs.Tests.{and_intro, clash, decide}
 use Rattle.agreement.specs.Telegrams.{Telegram, telegram-back}
-use Rattle.agreement.specs.Reached.{fresh-good, fresh-net, file-step, after-move, Good, net-step, same_at}
+use Rattle.agreement.proofs.Reached.{fresh-good, fresh-net, file-step, after-move, Good, net-step, same_at}
 
 module _ (file : List ℕ) (d : Diagram) (b : are_bytes file ≡ true) (e : read_diagram file ≡ accepted d) where
   abbrev h : Held d

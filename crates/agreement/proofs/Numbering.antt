@@ -22,8 +22,8 @@ use Rattle.ranges.specs.Tests.{and_intro, and_left, and_right, clash, decide, no
 use Rattle.ranges.specs.RangeLaws.{all-elim, all-intro, only-refl, least-ext, all-ext, get_d-tab, length-tab, tab-ext}
 use Rattle.agreement.specs.Basics.{kind-past}
 use Rattle.agreement.specs.Named.{NamedState, after, all_places, behaviour, enabled, flat_net, lift, named_fire, named_lets, named_step, named_step_at, named_tick, named_wait, lowest_over}
-use Rattle.agreement.specs.Matching.{RowPlace}
-use Rattle.agreement.specs.Tokens.{Real, places-elim, places-intro}
+use Rattle.agreement.proofs.Matching.{RowPlace}
+use Rattle.agreement.proofs.Tokens.{Real, places-elim, places-intro}
 
 pub length-map : {A B : Type 0} (f : A → B) (l : List A) → length (map f l) ≡ length l
 length-map f [] = refl

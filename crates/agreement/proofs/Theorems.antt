@@ -19,13 +19,13 @@ use Rattle.agreement.specs.Refusals.{net_number, net_value}
 use Rattle.agreement.specs.Formed.{well_formed}
 use Rattle.agreement.specs.Named.{moves_from}
 use Rattle.agreement.specs.AcceptedFiles.{held}
-use Rattle.agreement.specs.StateCheck.{valid-proper}
-use Rattle.agreement.specs.StateWords.{Kept}
+use Rattle.agreement.proofs.StateCheck.{valid-proper}
+use Rattle.agreement.proofs.StateWords.{Kept}
 use Rattle.agreement.specs.NetFiles.{NetBack, read_back as net_read_back, net-back as net_is_encoding}
-use Rattle.agreement.specs.WellFormed.{well-made}
+use Rattle.agreement.proofs.WellFormed.{well-made}
 use Rattle.agreement.specs.Telegrams.{Telegram, telegram-back as telegram_reads_back}
-use Rattle.agreement.specs.Reached.{Good, fresh-good, fresh-net, reached-good, file-step, net-step, same_at, after-move, refuses, net-follows}
-use Rattle.agreement.specs.Demand.{whole}
+use Rattle.agreement.proofs.Reached.{Good, fresh-good, fresh-net, reached-good, file-step, net-step, same_at, after-move, refuses, net-follows}
+use Rattle.agreement.proofs.Demand.{whole}
 
 -- the words of a diagram's state after a list of moves from fresh, where a refused move leaves the state
 abbrev pub reached : Diagram → List Move → List ℕ

@@ -7,7 +7,7 @@ use Rattle.effbd.specs.Records.{are_bytes}
 use Rattle.effbd.specs.BusEnds.{most_count}
 use Rattle.effbd.specs.Editions.{upward, downward, fitting, stopping, Upped, upped_as, telegrams_up, Downed, downed_as, telegrams_down}
 use Rattle.agreement.specs.ByteLaws.{never}
-use Rattle.edition_laws.specs.RoundTrips.{up-then-down, given_back, down-then-up}
+use Rattle.edition_laws.proofs.RoundTrips.{up-then-down, given_back, down-then-up}
 
 -- a value below the largest is the number itself
 pub below : (m n : ℕ) → stopping m ≡ n → n < most_count → m ≡ n

@@ -20,8 +20,8 @@ use Rattle.ranges.specs.RangeLaws.{length-tab}
 use Rattle.agreement.specs.AcceptedFiles.{held}
 use Rattle.diagram_table.specs.Cells.{counts_in}
 use Rattle.diagram_moves.specs.Changes.{table_move, checked_table_move, fresh_placed}
-use Rattle.diagram_moves.specs.FunctionMoves.{Small}
-use Rattle.diagram_moves.specs.MovesAre.{allowed-is, made-is, move-is}
+use Rattle.diagram_moves.proofs.FunctionMoves.{Small}
+use Rattle.diagram_moves.proofs.MovesAre.{allowed-is, made-is, move-is}
 use Rattle.diagram_moves.specs.Decisions.{state_allowed}
 
 -- a refused file turns every call away with its own number and value

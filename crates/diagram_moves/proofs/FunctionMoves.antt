@@ -23,7 +23,7 @@ use Rattle.diagram_moves.specs.Decisions.{exceeds, changed, blocked_item, start_
 use Rattle.diagram_moves.specs.Changes.{row_set, counts_changed, token_passed, function_change, outcome_of}
 use Rattle.diagram_moves.specs.Stores.{Reads, like, reads-words, set-row}
 use Rattle.diagram_moves.specs.UseRuns.{blocked-is, counts-read, lowest-all, lowest-same, use-runs}
-use Rattle.diagram_moves.specs.TokenMoves.{pass-reads}
+use Rattle.diagram_moves.proofs.TokenMoves.{pass-reads}
 
 pub flip : (x w : ℕ) → leb w x ≡ not (ltb x w)
 flip x w = decide (ltb x w) (λ e. let z = ltb-true x w e in rw e (lt-leb w x z)) (λ e. let z = ltb-false x w e in rw e (le-leb w x z))

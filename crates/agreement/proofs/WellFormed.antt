@@ -22,7 +22,7 @@ use Rattle.ranges.specs.Tests.{and_intro, and_left, and_right, decide}
 use Rattle.ranges.specs.RangeLaws.{length-tab}
 use Rattle.agreement.specs.Formed.{arcs_fine, marks_fine, transitions_fine, well_formed}
 use Rattle.agreement.specs.Arcs.{arcs-made, later, ranges-made}
-use Rattle.agreement.specs.NetSteps.{many-marks}
+use Rattle.agreement.proofs.NetSteps.{many-marks}
 
 map-append : {A B : Type 0} (f : A → B) (a b : List A) → map f (a ++ b) ≡ map f a ++ map f b
 map-append f [] b = refl

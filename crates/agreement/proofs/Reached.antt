@@ -20,13 +20,13 @@ use Rattle.agreement.specs.AcceptedFiles.{Held, held}
 use Rattle.ranges.specs.Tests.{decide}
 use Rattle.ranges.specs.RangeLaws.{length-tab}
 use Rattle.agreement.specs.ByteLaws.{never}
-use Rattle.agreement.specs.Moves.{Words, row_asked}
+use Rattle.agreement.proofs.Moves.{Words, row_asked}
 use Rattle.agreement.specs.Named.{behaviour, flat_net, named_fresh, moves_from}
 use Rattle.agreement.specs.NetFiles.{read_back}
-use Rattle.agreement.specs.NetSteps.{many-marks, table-steps}
-use Rattle.agreement.specs.StateCheck.{valid-proper}
-use Rattle.agreement.specs.StateWords.{Kept, start-image, start-kept, WordsAgree, words-agree}
-use Rattle.agreement.specs.WellFormed.{well-made}
+use Rattle.agreement.proofs.NetSteps.{many-marks, table-steps}
+use Rattle.agreement.proofs.StateCheck.{valid-proper}
+use Rattle.agreement.proofs.StateWords.{Kept, start-image, start-kept, WordsAgree, words-agree}
+use Rattle.agreement.proofs.WellFormed.{well-made}
 use Rattle.agreement.specs.Refusals.{net_number, net_value}
 
 zeros : {A B : Type 0} (f : A → B) (xs : List A) → tabulate {A = ℕ} (length (map f xs)) (λ x. 0) ≡ map (λ (x : A). 0) xs

@@ -20,13 +20,13 @@ use Rattle.ranges.specs.RangeLaws.{all-elim, all-find, only-refl, least-past}
 use Rattle.agreement.specs.Basics.{kind-in, not-kind}
 use Rattle.agreement.specs.Counts.{most-given}
 use Rattle.agreement.specs.Refusals.{lowest_count}
-use Rattle.agreement.specs.Invariant.{Inv, Sound, inv-idle, inv-with, sound-idle, sound-inv}
-use Rattle.agreement.specs.Matching.{Agree, Passing, Valid, early, fired, full, goes, passing-fires, stays, RowPlace, ready-le, bit_le, marks-fit-row, clock-kept}
+use Rattle.agreement.proofs.Invariant.{Inv, Sound, inv-idle, inv-with, sound-idle, sound-inv}
+use Rattle.agreement.proofs.Matching.{Agree, Passing, Valid, early, fired, full, goes, passing-fires, stays, RowPlace, ready-le, bit_le, marks-fit-row, clock-kept}
 use Rattle.agreement.specs.Named.{after, enabled, named_fire, named_image, named_step_at, lowest_over}
 use Rattle.agreement.specs.Structure.{Laws}
-use Rattle.agreement.specs.TokenSteps.{live-zero, sound-enter, sound-one}
-use Rattle.agreement.specs.Tokens.{Real, enabled-yes}
-use Rattle.agreement.specs.Numbering.{place-row, place-I}
+use Rattle.agreement.proofs.TokenSteps.{live-zero, sound-enter, sound-one}
+use Rattle.agreement.proofs.Tokens.{Real, enabled-yes}
+use Rattle.agreement.proofs.Numbering.{place-row, place-I}
 
 -- what may be cleared before something is added
 either-le : (b : Bool) (m n : ℕ) → m + n ≤ 65535 → cond b 0 m + n ≤ 65535

@@ -21,12 +21,12 @@ use Rattle.effbd.specs.States.{State}
 use Rattle.ranges.specs.Tests.{and_intro, and_left, and_right, clash, decide, not-false, not-true, or_left, or_right, or_split}
 use Rattle.ranges.specs.RangeLaws.{all-elim, all-fail, all-find, all-intro, only-refl}
 use Rattle.agreement.specs.Basics.{kind-in, not-kind, same-eq}
-use Rattle.agreement.specs.Invariant.{Inv}
-use Rattle.agreement.specs.Matching.{Agree, Valid, second-enabled}
+use Rattle.agreement.proofs.Invariant.{Inv}
+use Rattle.agreement.proofs.Matching.{Agree, Valid, second-enabled}
 use Rattle.agreement.specs.Named.{NamedState, enabled, named_image, named_lets, named_tick, named_wait}
 use Rattle.agreement.specs.Structure.{Laws}
-use Rattle.agreement.specs.TokenSteps.{branch_in, branch-kind, live-zero}
-use Rattle.agreement.specs.Tokens.{Real, enabled-yes, places-elim}
+use Rattle.agreement.proofs.TokenSteps.{branch_in, branch-kind, live-zero}
+use Rattle.agreement.proofs.Tokens.{Real, enabled-yes, places-elim}
 
 module _ (d : Diagram) where
   module _ (L : Laws d) (n : ℕ) (some : 0 < n) (s : State) (i : Inv d s) where

@@ -15,13 +15,13 @@ use Rattle.effbd.specs.Ranges.{tabulate}
 use Rattle.effbd.specs.States.{State, fresh, state_of, state_words}
 use Rattle.ranges.specs.Tests.{decide}
 use Rattle.ranges.specs.RangeLaws.{get_d-tab, tab-ext, length-tab}
-use Rattle.agreement.specs.Invariant.{Inv}
-use Rattle.agreement.specs.Matching.{Agree, Valid}
-use Rattle.agreement.specs.Moves.{Words, fresh-image, fresh-inv, moves-agree, row_asked}
+use Rattle.agreement.proofs.Invariant.{Inv}
+use Rattle.agreement.proofs.Matching.{Agree, Valid}
+use Rattle.agreement.proofs.Moves.{Words, fresh-image, fresh-inv, moves-agree, row_asked}
 use Rattle.agreement.specs.Named.{NamedState, behaviour, flat_net, named_fresh, named_image, named_move}
 use Rattle.agreement.specs.Nested.{well_nested}
-use Rattle.agreement.specs.Numbering.{none, ans, map-tab, name-at, place-I, place-P, place-Q, place-R, place-real, step-flat, wait-flat}
-use Rattle.agreement.specs.Tokens.{Real}
+use Rattle.agreement.proofs.Numbering.{none, ans, map-tab, name-at, place-I, place-P, place-Q, place-R, place-real, step-flat, wait-flat}
+use Rattle.agreement.proofs.Tokens.{Real}
 use Rattle.agreement.specs.Refusals.{net_number, net_value}
 
 module _ (d : Diagram) where

@@ -21,13 +21,13 @@ use Rattle.ranges.specs.RangeLaws.{all-intro, all-elim, all-fail, all-find}
 use Rattle.agreement.specs.Basics.{eq-same, not-kind, kind-in}
 use Rattle.agreement.specs.Nested.{well_nested}
 use Rattle.agreement.specs.NestingLaws.{laws}
-use Rattle.agreement.specs.TokenSteps.{branch-kind}
+use Rattle.agreement.proofs.TokenSteps.{branch-kind}
 use Rattle.diagram_table.specs.Cells.{kind_in, branch_in}
 use Rattle.diagram_moves.specs.Decisions.{done_back, branches_done, ready_verdict}
 use Rattle.diagram_moves.specs.Changes.{row_set, words_cleared, rows_cleared, branches_back, branches_set, rows_killed, entered, token_passed, branches_entered, rows_left, outcome_of}
 use Rattle.diagram_moves.specs.Stores.{Reads, like, reads-words, set-row}
-use Rattle.diagram_moves.specs.RowStores.{cleared-reads}
-use Rattle.agreement.specs.Reach.{next-in, close-in, entered-in, ends-killer, behind-branch, last-branch, next-branch, last-own, next-own}
+use Rattle.diagram_moves.proofs.RowStores.{cleared-reads}
+use Rattle.agreement.proofs.Reach.{next-in, close-in, entered-in, ends-killer, behind-branch, last-branch, next-branch, last-own, next-own}
 
 -- what all numbers from n on pass, all below n decide
 all-cut : (n N : ℕ) (f : ℕ → Bool) → n ≤ N → ((i : ℕ) → n ≤ i → i < N → f i ≡ true) → all_below n f ≡ all_below N f

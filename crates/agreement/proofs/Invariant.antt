@@ -10,7 +10,7 @@ use Rattle.effbd.specs.States.{State, activate, clear_rows, make_idle}
 use Rattle.ranges.specs.Tests.{clash, decide}
 use Rattle.agreement.specs.Basics.{eq-same, same-eq}
 use Rattle.agreement.specs.Counts.{most_of}
-use Rattle.agreement.specs.Matching.{Valid}
+use Rattle.agreement.proofs.Matching.{Valid}
 use Rattle.agreement.specs.Structure.{Fine, Par, par-irr, par-sym}
 
 module _ (d : Diagram) where

@@ -15,17 +15,17 @@ use Rattle.effbd.specs.States.{State, activate, entered, entered_row, fresh, kil
 use Rattle.ranges.specs.Tests.{clash, cond_same, decide}
 use Rattle.agreement.specs.Basics.{kind-in, not-kind, same-eq}
 use Rattle.agreement.specs.Counts.{most-initial}
-use Rattle.agreement.specs.FunctionSteps.{agree-fun}
-use Rattle.agreement.specs.Invariant.{Inv, sound-inv}
-use Rattle.agreement.specs.LoopSteps.{agree-exit, agree-it, agree-le}
-use Rattle.agreement.specs.Matching.{Agree}
+use Rattle.agreement.proofs.FunctionSteps.{agree-fun}
+use Rattle.agreement.proofs.Invariant.{Inv, sound-inv}
+use Rattle.agreement.proofs.LoopSteps.{agree-exit, agree-it, agree-le}
+use Rattle.agreement.proofs.Matching.{Agree}
 use Rattle.agreement.specs.Named.{named_fresh, named_image, named_move, named_step, named_step_at}
 use Rattle.agreement.specs.Nested.{well_nested}
 use Rattle.agreement.specs.NestingLaws.{laws}
 use Rattle.agreement.specs.Structure.{Laws}
-use Rattle.agreement.specs.TokenSteps.{agree-and, agree-close, agree_on, agree-one, sound-enter, sound-one}
-use Rattle.agreement.specs.Tokens.{cleared-marks}
-use Rattle.agreement.specs.Waits.{waits-agree}
+use Rattle.agreement.proofs.TokenSteps.{agree-and, agree-close, agree_on, agree-one, sound-enter, sound-one}
+use Rattle.agreement.proofs.Tokens.{cleared-marks}
+use Rattle.agreement.proofs.Waits.{waits-agree}
 
 module _ (d : Diagram) (L : Laws d) (r : ℕ) (s : State) (i : Inv d s) where
   -- a row that hands its token to the next, or back to its open row

@@ -1,0 +1,17 @@
+pub mod Tokens
+pub mod Matching
+pub mod Invariant
+pub mod TokenSteps
+pub mod FunctionSteps
+pub mod LoopSteps
+pub mod Waits
+pub mod Numbering
+pub mod StateCheck
+pub mod StateWords
+pub mod Moves
+pub mod NetSteps
+pub mod WellFormed
+pub mod Reached
+pub mod Demand
+pub mod Reach
+pub mod Theorems

@@ -1,0 +1,3 @@
+pub mod RoundTrips
+pub mod Calls
+pub mod Offers
