@@ -5,7 +5,7 @@
 mod fired;
 mod lines;
 
-ghost use Rattle.std.specs.Prelude.{◌≤◌, length};
+ghost use Rattle.std.specs.Prelude.{◌≤◌, IfOk, length};
 ghost use Rattle.effbd.specs.Answers.{said};
 ghost use Rattle.effbd.specs.Moves.{most_word};
 ghost use Rattle.ends.specs.ReadyEnds.{leader_room, follower_room};
@@ -17,20 +17,23 @@ ghost use Rattle.call_lines.specs.Lines.{call_fires, line_text};
 use calls::{CallResult, Counts};
 use effbd::Answer;
 use ends::StateSizes;
-use libc::STDOUT_FILENO;
+use std::env::FillError;
+use std::io::Read;
+use std::rt::{Env, Files};
+use std::{fs, io};
 
 // The station of both ends.
 const STATION: u16 = 7;
 
 // A call that was made, and how long its line is.
-#[derive(Drop)]
+#[derive(Clone, Copy)]
 struct Shown {
     result: CallResult,
     size: usize,
 }
 
 // A list that was played: the counts after it, and how many bytes at its end are no call.
-#[derive(Drop)]
+#[derive(Clone, Copy)]
 struct Ended {
     counts: Counts,
     left_over: usize,
@@ -66,6 +69,7 @@ fn play_call(
 
 // Makes one call and prints its line.
 fn show_call(
+    rt: &impl Print,
     file: &[u8],
     net: &[u8],
     leader: &mut [u16],
@@ -73,7 +77,7 @@ fn show_call(
     station: u16,
     counts: Counts,
     call: &mut [u8],
-) -> Counts
+) -> io::Result<Counts>
     requires leader_len_bound { length leader.old ≤ leader_room }
     requires follower_len_bound { length follower.old ≤ follower_room }
     requires call_len_bound { length call.old ≤ most_word }
@@ -83,54 +87,55 @@ fn show_call(
         &mut text, file, net, leader, follower, station, counts, call,
     );
     let size = shown.size;
-    io::write_all(STDOUT_FILENO, &text[..size]);
-    shown.result.counts
+    rt.write_all(&text[..size])?;
+    Ok(shown.result.counts)
 }
 
 // Reads the next record of a list, as far as the list goes; how many bytes were read.
-fn read_record(list: i32, call: &mut [u8]) -> usize
+fn read_record(list: &mut impl Read, call: &mut [u8]) -> io::Result<usize>
     requires { most_word ≤ length call.old }
-    ensures { result ≤ most_word }
+    ensures { IfOk result (λ n. n ≤ most_word) }
 {
-    let head = io::read_full(list, &mut call[0..4]);
+    let head = reading::read_full(list, &mut call[0..4])?;
     if head < 4 {
-        return head;
+        return Ok(head);
     }
     let size = words::word(call, 0) as usize;
     if size < 4 {
-        return head;
+        return Ok(head);
     }
-    let body = io::read_full(list, &mut call[4..size]);
-    4 + body
+    let body = reading::read_full(list, &mut call[4..size])?;
+    Ok(4 + body)
 }
 
 // Makes the calls of a list in turn, until no whole call is left.
 fn show_calls(
-    list: i32,
+    rt: &impl Print,
+    list: &mut impl Read,
     file: &[u8],
     net: &[u8],
     leader: &mut [u16],
     follower: &mut [u16],
     station: u16,
     call: &mut [u8],
-) -> Ended
+) -> io::Result<Ended>
     requires leader_len_bound { length leader.old ≤ leader_room }
     requires follower_len_bound { length follower.old ≤ follower_room }
     requires most_word_in_bounds { most_word ≤ length call.old }
 {
     let mut counts = Counts { sent: 0, taken: 0 };
     // A proved loop has to end, and nothing says that a file does: a number of calls that no list reaches.
-    let mut left = u64::MAX;
-    while left > 0 {
-        let read = read_record(list, call);
+    for _ in 0..u64::MAX {
+        let read = read_record(list, call)?;
         let size = calls::call_length(&call[0..read]);
         if size == 0 {
-            return Ended {
+            return Ok(Ended {
                 counts: counts,
                 left_over: read,
-            };
+            });
         }
-        let after = show_call(
+        counts = show_call(
+            rt,
             file,
             net,
             leader,
@@ -138,18 +143,16 @@ fn show_calls(
             station,
             counts,
             &mut call[0..size],
-        );
-        counts = after;
-        left -= 1;
+        )?;
     }
-    Ended {
+    Ok(Ended {
         counts: counts,
         left_over: 0,
-    }
+    })
 }
 
 // Prints what is played.
-fn show_head(bytes: usize, station: u16, states: StateSizes)
+fn show_head(rt: &impl Print, bytes: usize, station: u16, states: StateSizes) -> io::Result<()>
     requires { bytes ≤ 8192 }
 {
     let mut text = [0u8; 128];
@@ -160,29 +163,29 @@ fn show_head(bytes: usize, station: u16, states: StateSizes)
         states.leader,
         states.follower,
     );
-    io::write_all(STDOUT_FILENO, &text[..size]);
+    rt.write_all(&text[..size])
 }
 
 // Prints a file's refusal, in the way of the annex.
-fn show_refusal(number: u16, value: u32) {
+fn show_refusal(rt: &impl Print, number: u16, value: u32) -> io::Result<()> {
     let mut text = [0u8; 32];
     let size = text::put_line(&mut text, 0, b"refused", number as u32, value);
-    io::write_all(STDOUT_FILENO, &text[..size]);
+    rt.write_all(&text[..size])
 }
 
 // Prints how the list ended.
-fn show_end(ended: Ended) {
+fn show_end(rt: &impl Print, ended: Ended) -> io::Result<()> {
     if ended.left_over > 0 {
-        io::write_all(STDOUT_FILENO, b"here stands no whole call\n");
+        rt.write_all(b"here stands no whole call\n")?;
     }
     let mut text = [0u8; 128];
     let counts = ended.counts;
     let size = call_lines::put_closing(&mut text, counts);
-    io::write_all(STDOUT_FILENO, &text[..size]);
+    rt.write_all(&text[..size])
 }
 
 // Plays a list on a diagram's file, and prints it.
-fn show_list(list: i32, file: &[u8], station: u16)
+fn show_list(rt: &impl Print, list: &mut impl Read, file: &[u8], station: u16) -> io::Result<()>
     requires { length file.now ≤ 8192 }
 {
     let mut net = [0u8; ends::NET_BYTES];
@@ -191,12 +194,13 @@ fn show_list(list: i32, file: &[u8], station: u16)
     let ready = ends::ready(file, &mut net, &mut leader, &mut follower);
     let answer = ready.answer;
     match answer {
-        Answer::Refused(number, value) => show_refusal(number, value),
+        Answer::Refused(number, value) => show_refusal(rt, number, value),
         Answer::Accepted(_) => {
             let states = ready.states;
-            show_head(file.len(), station, states);
+            show_head(rt, file.len(), station, states)?;
             let mut call = [0u8; 65536];
             let ended = show_calls(
+                rt,
                 list,
                 file,
                 &net[..ready.net as usize],
@@ -204,40 +208,51 @@ fn show_list(list: i32, file: &[u8], station: u16)
                 &mut follower[..states.follower as usize],
                 station,
                 &mut call,
-            );
-            show_end(ended);
+            )?;
+            show_end(rt, ended)
         }
     }
 }
 
-// Opens the file that an argument names; where that fails, -1, and standard error says why.
-fn open_named(i: usize) -> i32 {
-    let mut path = io::buffer();
-    let size = os::arg(i, &mut path);
-    if os::errno() != 0 {
-        os::fail(b"bus_play DIAGRAM CALLS");
-        return -1;
+// Opens the file that an argument names; where that fails, nothing, and standard error says why.
+fn open_named<R: Env + Files + Eprint>(rt: &R, i: usize) -> io::Result<Option<R::File>> {
+    let mut bytes = [0u8; 4096];
+    let size = match rt.arg(i, &mut bytes) {
+        Ok(size) => size,
+        Err(error) => {
+            let said = match error {
+                FillError::NotPresent => "Invalid argument",
+                FillError::TooLong => "File name too long",
+            };
+            eprintln!(rt; "bus_play DIAGRAM CALLS: {said}")?;
+            return Ok(None);
+        }
+    };
+    let path = match str::from_utf8(&bytes[..size]) {
+        Ok(path) => path,
+        Err(error) => {
+            eprintln!(rt; "bus_play DIAGRAM CALLS: {error}")?;
+            return Ok(None);
+        }
+    };
+    match fs::open(rt, path) {
+        Ok(file) => Ok(Some(file)),
+        Err(error) => {
+            eprintln!(rt; "{path}: {error}")?;
+            Ok(None)
+        }
     }
-    let opened = os::open_read(&path[..size]);
-    if opened < 0 {
-        os::fail(&path[..size]);
-    }
-    opened
 }
 
 // The first 8,192 bytes of a file decide whether it is a diagram, which has at most 6,762.
-fn main() {
-    let diagram = open_named(1);
-    if diagram < 0 {
-        return;
-    }
-    let list = open_named(2);
-    if list < 0 {
-        return;
-    }
+fn main(rt: HostRuntime) -> io::Result<()> {
+    let Some(mut diagram) = open_named(&rt, 1)? else {
+        return Ok(());
+    };
+    let Some(mut list) = open_named(&rt, 2)? else {
+        return Ok(());
+    };
     let mut file = [0u8; 8192];
-    let size = io::read_full(diagram, &mut file);
-    show_list(list, &file[..size], STATION);
-    libc::close(list);
-    libc::close(diagram);
+    let size = reading::read_full(&mut diagram, &mut file)?;
+    show_list(&rt, &mut list, &file[..size], STATION)
 }
