@@ -1,12 +1,12 @@
 #!/bin/sh
-# Runs the proved annex program (target/bin/annex, or the first argument) and compares what it prints with the text
+# Runs the proved annex program (crates/annex/out/annex, or the first argument) and compares what it prints with the text
 # that the plain Rust model expects: on every shipped example, on each followed by more bytes than any diagram file has,
 # and on 3,000 generated files, some of them with nets that are longer than the program's area. Prints one line, and of each difference the
 # file whole; exit status 1 on any.
 set -eu
 cd "$(dirname "$0")/.."
-program=${1:-target/bin/annex}
-[ -x "$program" ] || { echo "annex.sh: no program at $program: run rt check annex first"; exit 1; }
+program=${1:-crates/annex/out/annex}
+[ -x "$program" ] || { echo "annex.sh: no program at $program: run rt ci, or rt run in crates/annex, first"; exit 1; }
 
 folder=$(mktemp -d)
 trap 'rm -rf "$folder"' EXIT

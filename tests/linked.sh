@@ -4,10 +4,10 @@
 # made first, unless LIBRARY=made says that it is.
 set -euo pipefail
 cd "$(dirname "$0")/.."
-[ "${LIBRARY:-}" = made ] || rt staticlib effbd_c > /dev/null
+[ "${LIBRARY:-}" = made ] || (cd crates/effbd_c && rt lib > /dev/null)
 program=$(mktemp)
 trap 'rm -f "$program"' EXIT
-linked() { gcc -O2 -Wall -Wextra -Werror -o "$program" "$1" target/staticlib/libeffbd_c.a; }
+linked() { gcc -O2 -Wall -Wextra -Werror -o "$program" "$1" crates/effbd_c/out/libeffbd_c.a; }
 linked bindings/c/example.c
 "$program" | diff bindings/c/example.txt -
 linked tests/lent.c

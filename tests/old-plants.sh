@@ -1,7 +1,7 @@
 #!/usr/bin/env bash
 # Old plants must not get slower: their calls' times with the library of an earlier landing beside those with this one, in one run.
 #     bash tests/old-plants.sh OLD/libeffbd_c.a
-# OLD is made by `rt staticlib effbd_c` in a worktree of that landing; this one's by the same here. A process lays its stack where it likes,
+# OLD is made by `rt lib` in crates/effbd_c of a clone of that landing; this one's by the same here. A process lays its stack where it likes,
 # the linker lays functions one behind the other, and small plants feel both: both orders of the libraries are linked, and the least of several
 # processes counts.
 set -euo pipefail
@@ -12,8 +12,8 @@ trap 'rm -rf "$made"' EXIT
 nm --defined-only --extern-only --format=posix "$1" 2>/dev/null | awk 'NF > 2 { print $1, "old_" $1 }' | sort -u > "$made/names"
 objcopy --redefine-syms="$made/names" "$1" "$made/old.a"
 linked() { gcc -O2 -Wall -Wextra -Werror -o "$made/$1" tests/old-plants.c "$2" "$3"; }
-linked first target/staticlib/libeffbd_c.a "$made/old.a"
-linked last "$made/old.a" target/staticlib/libeffbd_c.a
+linked first crates/effbd_c/out/libeffbd_c.a "$made/old.a"
+linked last "$made/old.a" crates/effbd_c/out/libeffbd_c.a
 for _ in 1 2 3 4 5; do "$made/first"; "$made/last"; done | awk -F '\t' '
     !($1 in before) { order[++lines] = $1; before[$1] = $2; now[$1] = $3 }
     { if ($2 < before[$1]) before[$1] = $2; if ($3 < now[$1]) now[$1] = $3 }

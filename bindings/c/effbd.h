@@ -1,6 +1,6 @@
 /* Flow diagrams, their nets, both bus ends, runs of telegrams and logs: the proved functions, for C.
  *
- * Link target/staticlib/libeffbd_c.a, which `rt staticlib effbd_c` writes (x86-64). bindings/c/example.c has a whole program.
+ * Link crates/effbd_c/out/libeffbd_c.a, which `rt lib` writes in crates/effbd_c (x86-64). bindings/c/example.c has a whole program.
  *
  * Lists. A list is a pointer and its number of ELEMENTS: bytes of files, areas, telegrams and logs, 16-bit words of states (aligned as
  * uint16_t). Any bytes, words and numbers may be given. An empty list may be (NULL, 0): nothing is read or written through its pointer. A

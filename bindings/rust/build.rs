@@ -1,4 +1,4 @@
-//! Links the static library that `rt staticlib effbd_c` writes.
+//! Links the static library that `rt lib` writes in crates/effbd_c.
 
 use std::env;
 use std::path::Path;
@@ -6,14 +6,17 @@ use std::path::Path;
 fn main() {
     let package = env::var("CARGO_MANIFEST_DIR").expect("cargo names the package's folder");
     let root = Path::new(&package).join("../..");
-    let folder = root.join("target/staticlib");
+    let folder = root.join("crates/effbd_c/out");
     let library = folder.join("libeffbd_c.a");
     // A file that is missing counts as changed: the next build looks again.
     println!("cargo::rerun-if-changed={}", library.display());
     if !library.is_file() {
         println!(
-            "cargo::error=no target/staticlib/libeffbd_c.a: run `rt staticlib effbd_c` in the repository root, {}",
-            root.canonicalize().unwrap_or(root).display()
+            "cargo::error=no crates/effbd_c/out/libeffbd_c.a: run `rt lib` in {}",
+            root.join("crates/effbd_c")
+                .canonicalize()
+                .unwrap_or(root)
+                .display()
         );
         return;
     }

@@ -17,12 +17,17 @@ fn root() -> PathBuf {
 
 /// What the proved annex program prints of a file.
 fn printed(file: &[u8]) -> String {
-    let program = root().join("target/bin/annex");
+    let program = root().join("crates/annex/out/annex");
     let mut child = Command::new(&program)
         .stdin(Stdio::piped())
         .stdout(Stdio::piped())
         .spawn()
-        .unwrap_or_else(|fault| panic!("{}: {fault}: run rt check annex", program.display()));
+        .unwrap_or_else(|fault| {
+            panic!(
+                "{}: {fault}: run rt ci, or rt run in crates/annex",
+                program.display()
+            )
+        });
     let mut pipe = child.stdin.take().expect("a pipe");
     pipe.write_all(file).expect("it reads all");
     drop(pipe);
