@@ -21,7 +21,7 @@ pub enum Part {
 
 // What is open: how many constructs, the innermost one's open row and number of BRANCH rows so far, whether an LP is among those of the own
 // scenario, and whether some box's scenario is.
-#[derive(Drop)]
+#[derive(Clone, Copy)]
 pub struct Open {
     pub depth: usize,
     pub opened: usize,
