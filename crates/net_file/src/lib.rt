@@ -17,7 +17,7 @@ use kinds::{CLEAR, GIVE, NET_HEAD, PLACE, TAKE, TRANSITION};
 
 // What is due next behind the places: so many transitions; arcs from kind `kind` on, those of that kind with places from `from` on;
 // the label that stood last.
-#[derive(Drop)]
+#[derive(Clone, Copy)]
 pub struct Due {
     pub transitions: u16,
     pub kind: u16,
