@@ -20,7 +20,7 @@ use net_walk::{HEAD_LENGTH, PLACE_LENGTH, TRANSITION_LENGTH};
 const SMALL_PLACES: usize = PLAIN_PLACES as usize;
 
 // How clocks are renewed: transition number j fired, or so many ticks passed.
-#[derive(Drop)]
+#[derive(Clone, Copy)]
 pub enum Renewal {
     Fired(u16),
     Waited(u16),
