@@ -1,0 +1,11 @@
+use lib.ListN.{length}
+use mathlib.Core.Path.{◌≡◌}
+use Rattle.net_walk.specs.Walked.{covered}
+use Rattle.net_file.specs.Contents.{arcs_in}
+use Rattle.net_walk.proofs.covers.Given as goal
+
+abbrev pub invariant-loop-rest : goal.invariant-loop-rest
+invariant-loop-rest l = covered (arcs_in l.rest) l.marks ≡ covered (arcs_in l.arcs) l.marks
+
+abbrev pub decreases-loop-rest : goal.decreases-loop-rest
+decreases-loop-rest l = length l.rest
