@@ -10,7 +10,6 @@ use borrow.Author.Tests.{ltb-true, ltb-false}
 use Rattle.effbd.specs.Answers.{accepted}
 use Rattle.effbd.specs.Records.{are_bytes}
 use Rattle.effbd.specs.Diagrams.{Diagram, Item, function, row_count, item_total, is_trigger, row, is_kind, no_item}
-use Rattle.effbd.specs.Counts.{copies}
 use Rattle.effbd.specs.Nesting.{Part, read_diagram, uses_part, uses_part_of}
 use Rattle.ranges.specs.Tests.{decide, clash}
 use Rattle.agreement.specs.AcceptedFiles.{Held, held}

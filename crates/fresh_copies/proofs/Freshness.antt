@@ -12,7 +12,7 @@ use borrow.Author.Tests.{ltb-true, ltb-false, eqb-true, eqb-false, le-ltb}
 use Rattle.effbd.specs.Diagrams.{Diagram, row_count, item_total, item, is_trigger}
 use Rattle.effbd.specs.Counts.{copy, copies, copies_of, count_total, tally, initial_count}
 use Rattle.effbd.specs.Layout.{places, place_of}
-use Rattle.effbd.specs.States.{state_words, fresh, fresh_words}
+use Rattle.effbd.specs.States.{state_words, fresh_words}
 use Rattle.effbd.specs.Nets.{most_places}
 use Rattle.ranges.specs.Tests.{decide}
 use Rattle.ranges.specs.RangeLaws.{length-tab, get_d-tab}

@@ -152,9 +152,9 @@ module _ (r at : ℕ) (l t : List ℕ) (h : r < most_rows) (n : length t ≡ cel
         (λ q. let ne : i ≢ r = eqb-false i r q in fill-other c i g (omega arith) ∙ f.cell c g i (omega arith));
   }
 
-pub row_fine : (items : ℕ) (t l : List ℕ) → table_fault items t l ≡ 0 → row_fault items l ≡ 0
+pub row_is_fine : (items : ℕ) (t l : List ℕ) → table_fault items t l ≡ 0 → row_fault items l ≡ 0
 unfolding table_fault
-row_fine items t l e = (else-none (row_fault items l) _ e).0
+row_is_fine items t l e = (else-none (row_fault items l) _ e).0
 
 -- the loop over rows
 module _ (from : ℕ) (start : List ℕ) (items i at : ℕ) (rest t₀ t : List ℕ) (s : RowsState from start items i rest at t₀ t) where
