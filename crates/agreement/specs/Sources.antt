@@ -1,7 +1,7 @@
 -- Which count a row takes an item from, and which it gives to, by number: what all counts say of a FUNCTION's takes and gives is what its items say.
 -- A stage between the definitions and code that goes through a row's uses.
 use Prim.Native.Nat.{ℕ, zero, suc, ◌+◌, ◌≤◌, ◌<◌, zero-le}
-use Rattle.std.specs.Prelude.{◌≡◌, ◌≢◌, Bool, false, ◌&&◌, ◌||◌, ltb, eqb}
+use Rattle.std.specs.Prelude.{◌≡◌, ◌≢◌, Bool, false, ◌||◌, eqb}
 use Rattle.std.proofs.Math.Path.{refl, sym, ap, subst}
 use Rattle.std.proofs.Common.{◌∙◌, length-append}
 use Rattle.std.proofs.Math.Bool.{true, not, cond}
@@ -10,7 +10,7 @@ use native.Mathlib.Omega.{arith}
 use Rattle.std.proofs.Math.ListN.{length, get_or, get_or-append}
 use Rattle.std.proofs.Math.Seq.{get_or-append-add}
 use Rattle.std.proofs.Math.Dec.{leb}
-use borrow.Author.Tests.{ltb-true, ltb-false, eqb-true, eqb-false, le-leb, ne_eqb}
+use borrow.Author.Tests.{eqb-true, eqb-false, le-leb, ne_eqb}
 use Rattle.effbd.specs.Ranges.{all_below, least, only, tabulate}
 use Rattle.effbd.specs.Diagrams.{Diagram, end, function, is_kind, is_trigger, item_total, kind, row, row_count}
 use Rattle.effbd.specs.Counts.{Tally, copies, copies_of, copy, count_total, give_of, gives, gives_as, item_of, receives, shared, take_of, takes, takes_as, tallies, tally}

@@ -1,7 +1,7 @@
 -- The layout of a diagram's table: a cell for each row in each column, then cells for each item, then, where an item is a trigger, one for each
 -- use; and what they say of a row's uses, of the counts that a use changes, of a construct's BRANCH rows and of entering a row. Past the
 -- table's end a cell is 0. Assumes nothing.
-use Rattle.std.specs.Prelude.{ℕ, ◌+◌, ◌*◌, ◌/◌, Bool, cond, ◌&&◌, List, [], length, get_or, take, leb, eqb}
+use Rattle.std.specs.Prelude.{ℕ, ◌+◌, ◌*◌, ◌/◌, Bool, cond, ◌&&◌, List, [], length, get_or, leb, eqb}
 use Rattle.effbd.specs.Diagrams.{most_rows, most_items, Use, uses_at}
 use Rattle.effbd.specs.Nesting.{Part, part_in}
 

@@ -9,7 +9,7 @@ use Rattle.effbd.specs.BusEnds.{telegram, number_at, station_at, most_count, off
 use Rattle.effbd.specs.Moves.{step_diagram}
 use Rattle.effbd.specs.History.{Call, offer, hand, Ends, fresh_ends, after_offer, run, run_all, ends_of, net_file_of}
 use Rattle.effbd.specs.Logs.{Setpoint}
-use Rattle.effbd.specs.Editions.{upward, downward}
+use Rattle.effbd.specs.Editions.{upward}
 use Rattle.edition_laws.specs.Runs.{new_run, old_run, new-sized}
 use Rattle.edition_laws.proofs.RoundTrips.{up_run, down_run, run-station}
 use Rattle.edition_laws.specs.Offers.{telegrams_of, in_row, Sent, Unharmed}

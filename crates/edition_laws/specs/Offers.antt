@@ -1,16 +1,11 @@
 -- The telegrams of a leader's accepted offers, one after another, go down and up unharmed: all of them, and any stretch of them.
-use Rattle.std.specs.Prelude.{ℕ, zero, suc, ◌+◌, ◌≤◌, ◌<◌, ◌≡◌, refl, Bool, true, false, cond, length, take, drop, leb, ltb}
-use Rattle.std.proofs.Common.{sym, ◌∙◌, ap, ap₂, length-append, length-take, length-drop, take_at, ltb-true}
+use Rattle.std.specs.Prelude.{ℕ, suc, ◌≤◌, ◌<◌, ◌≡◌, length}
 use mathlib.Core.List.{List, [], ◌∷◌, ◌++◌}
-use native.Mathlib.Omega.{arith}
-use Rattle.effbd.specs.Answers.{Outcome, accepted, refused}
-use Rattle.effbd.specs.Diagrams.{Diagram}
-use Rattle.effbd.specs.BusEnds.{telegram, number_at, station_at, most_count, offered, offered_as, turned_away, telegram_length}
-use Rattle.effbd.specs.Moves.{step_diagram}
-use Rattle.effbd.specs.History.{Call, offer, hand, Ends, fresh_ends, after_offer, run, run_all, ends_of, net_file_of}
+use Rattle.effbd.specs.Answers.{accepted}
+use Rattle.effbd.specs.BusEnds.{telegram, number_at, station_at, most_count}
+use Rattle.effbd.specs.History.{Ends}
 use Rattle.effbd.specs.Logs.{Setpoint}
 use Rattle.effbd.specs.Editions.{upward, downward}
-use Rattle.edition_laws.specs.Runs.{new_run, old_run, new-sized}
 
 -- the telegrams of moves, numbered upward, each by itself; and telegrams one after another
 abbrev pub telegrams_of : (station number : ℕ) → List Setpoint → List (List ℕ)

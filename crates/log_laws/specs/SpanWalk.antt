@@ -1,12 +1,8 @@
 -- One reading of a log with two positions finds the busiest hour: the front position goes from start to start, the back position follows
 -- it to the first start less than an hour before. What is kept: the starts between them, the most so far and where.
-use Rattle.std.specs.Prelude.{ℕ, suc, ◌+◌, ◌≤◌, ◌<◌, ◌≡◌, refl, true, false, cond, List, [], ◌∷◌, ◌++◌, length, get_or, leb, ltb, eqb}
-use Rattle.std.proofs.Common.{sym, ◌∙◌, ap, ap₂, subst, append_assoc, append-nil, arith, length-append, get_or-append-add, eqb-true, ltb-true, ltb-false, leb-true, leb-false}
-use Rattle.std.proofs.Math.ListN.{get_or-append}
-use Rattle.std.proofs.lemmas.Bool.{eqb-false}
-use Rattle.effbd.specs.Starts.{hour, fall_in, Busiest, busiest_from, busiest}
-use Rattle.ranges.specs.Tests.{decide}
-use Rattle.log_laws.specs.Spans.{Rising, rising-at, each-cons, each_append, span-in, span-high, fall-append, fall-most, fall-none, fall-all, Among, Most, by-starts, busiest-is, most-one}
+use Rattle.std.specs.Prelude.{ℕ, ◌+◌, ◌≤◌, ◌<◌, ◌≡◌, true, false, cond, List, [], ◌∷◌, ◌++◌, length, get_or, leb, ltb}
+use Rattle.effbd.specs.Starts.{hour, Busiest}
+use Rattle.log_laws.specs.Spans.{Rising, Most}
 
 -- of the starts between the positions those that a span with time t has
 abbrev pub reach : ℕ → List ℕ → List ℕ

@@ -1,16 +1,16 @@
 -- What an answer of the call says: the file is accepted, its log stands, and the most starts of the row in any hour, with the earliest start that
 -- such an hour begins with, are the numbers told.
-use Rattle.std.specs.Prelude.{ℕ, ◌≡◌, refl, true, false, cond, ◌&&◌}
-use Rattle.std.proofs.Common.{sym, ◌∙◌, ap, ap₂, arith}
+use Rattle.std.specs.Prelude.{ℕ, ◌≡◌, refl, true, cond, ◌&&◌}
+use Rattle.std.proofs.Common.{arith}
 use Rattle.std.proofs.Math.Path.{subst}
 use mathlib.Core.List.{List}
 use Rattle.std.proofs.Math.Dec.{eqb}
 use borrow.Author.Tests.{eqb-true}
-use Rattle.effbd.specs.Answers.{Outcome, accepted, refused, is_accepted, afterwards, unless, and_then}
+use Rattle.effbd.specs.Answers.{Outcome, accepted, refused, is_accepted, afterwards}
 use Rattle.effbd.specs.Diagrams.{Diagram, function, is_kind}
 use Rattle.effbd.specs.Nesting.{read_diagram}
 use Rattle.effbd.specs.Logs.{Setpoint, log_fault, made, after, played}
-use Rattle.effbd.specs.Starts.{Start, activity, is_step, is_start, starts, times_of, Busiest, busiest, starts_of, starts_told_as, log_starts}
+use Rattle.effbd.specs.Starts.{Start, activity, is_step, is_start, starts, times_of, busiest, starts_of, starts_told_as, log_starts}
 use Rattle.ranges.specs.Tests.{and_left, and_right}
 use Rattle.agreement.specs.ByteLaws.{never, next-inv, bind_inv}
 use Rattle.log_laws.specs.Spans.{Most, log-busiest}

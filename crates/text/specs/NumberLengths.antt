@@ -1,5 +1,5 @@
 -- How long a number is in decimal.
-use Rattle.std.specs.Prelude.{ℕ, zero, suc, ◌+◌, ◌/◌, ◌%◌, ◌≤◌, List, [], ◌∷◌, length, ltb}
+use Rattle.std.specs.Prelude.{ℕ, zero, suc, ◌+◌, ◌/◌, ◌%◌, ◌≤◌, [], ◌∷◌, length, ltb}
 use Rattle.std.proofs.Common.{arith, length-append}
 use Rattle.effbd.specs.Annex.{digits, number}
 use Rattle.ranges.specs.Tests.{decide}

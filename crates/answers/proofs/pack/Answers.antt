@@ -1,7 +1,6 @@
 use mathlib.Core.Path.{sym, ap}
 use Rattle.effbd.specs.Answers.{said}
 use Rattle.effbd.specs.Answers.{packed}
-use borrow.Author.Rules.{rules}
 use Rattle.answers.proofs.pack.Goals as goal
 
 pub returns-in-Refused : goal.returns-in-Refused

@@ -2,7 +2,6 @@ use mathlib.Core.Path.{sym, ◌∙◌, ap}
 use Rattle.effbd.specs.Answers.{said}
 use Rattle.effbd.specs.Firing.{step_net}
 use Rattle.bus_follower.proofs.Taken.{counted-accepted, counted-refused}
-use borrow.Author.Rules.{rules}
 use Rattle.bus_follower.proofs.follow.Goals as goal
 
 pub returns-in-Accepted : goal.returns-in-Accepted

@@ -1,9 +1,7 @@
 use Prim.Native.Nat.{ℕ}
 use mathlib.Core.Path.{sym, ◌∙◌, ap}
-use borrow.Author.Tests.{not-true, not-false}
 use Rattle.effbd.specs.Answers.{accepted, refused}
 use Rattle.bus_follower.proofs.Judged.{no-telegram, other-station, at-or-below, too_far, is-due}
-use borrow.Author.Rules.{rules}
 use Rattle.bus_follower.proofs.judge.Goals as goal
 
 pub returns-then-not-is_telegram : goal.returns-then-not-is_telegram

@@ -2,7 +2,6 @@ use mathlib.Core.Path.{sym, ◌∙◌, ap}
 use Rattle.effbd.specs.Answers.{said}
 use Rattle.effbd.specs.BusEnds.{Taken}
 use Rattle.bus_follower.proofs.Taken.{take-refused, take_by}
-use borrow.Author.Rules.{rules}
 use Rattle.bus_follower.proofs.take.Goals as goal
 
 pub returns-in-Refused : goal.returns-in-Refused

@@ -1,6 +1,5 @@
 use Rattle.diagram_table.specs.Cells.{entered_in}
 use borrow.Author.Tests.{eq-eqb, ne_eqb}
-use borrow.Author.Rules.{rules}
 use Rattle.diagram_table.proofs.entered_row.Goals as goal
 
 pub returns-then-kind-eq-AND_OPEN : goal.returns-then-kind-eq-AND_OPEN

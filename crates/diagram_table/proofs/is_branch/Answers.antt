@@ -1,6 +1,5 @@
 use Rattle.diagram_table.specs.Cells.{is_branch}
 use borrow.Author.Tests.{eq-eqb, ne_eqb}
-use borrow.Author.Rules.{rules}
 use Rattle.diagram_table.proofs.is_branch.Goals as goal
 
 pub returns-then-kind-ne-BRANCH : goal.returns-then-kind-ne-BRANCH

@@ -1,5 +1,4 @@
 use Rattle.diagram_table.proofs.UsesCut.{uses-there, uses-missing}
-use borrow.Author.Rules.{rules}
 use Rattle.diagram_table.proofs.uses.Goals as goal
 
 pub returns-then-end-file : goal.returns-then-end-file

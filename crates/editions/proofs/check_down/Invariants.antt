@@ -1,11 +1,8 @@
-use Prim.Native.Nat.{ℕ, ◌+◌, ◌≤◌}
-use mathlib.Core.Path.{◌≡◌, refl, ◌∙◌, ap, ap₂}
-use native.Mathlib.Omega.{arith}
-use lib.ListN.{length, length-drop}
+use Prim.Native.Nat.{◌+◌, ◌≤◌}
+use mathlib.Core.Path.{◌≡◌}
+use lib.ListN.{length}
 use Rattle.effbd.specs.Editions.{new_fault, old_of, convert_from, telegram_count, downward}
 use Rattle.editions.specs.Checks.{checked}
-use Rattle.editions.proofs.Turns.{counts-14, check-begun, check-again, check-off, check_done}
-use borrow.Author.Rules.{rules}
 use Rattle.editions.proofs.check_down.Given as goal
 
 abbrev pub invariant-loop-rest : goal.invariant-loop-rest

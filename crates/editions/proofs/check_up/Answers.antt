@@ -1,11 +1,10 @@
-use Prim.Native.Nat.{◌+◌, ◌≤◌}
-use mathlib.Core.Path.{◌≡◌, refl, ◌∙◌, ap}
+use Prim.Native.Nat.{◌+◌}
+use mathlib.Core.Path.{refl, ◌∙◌, ap}
 use native.Mathlib.Omega.{arith}
 use lib.ListN.{length, length-drop}
-use Rattle.effbd.specs.Editions.{old_fault, new_of, convert_from, telegram_count, upward}
+use Rattle.effbd.specs.Editions.{old_fault, new_of, upward}
 use Rattle.editions.specs.Checks.{checked}
 use Rattle.editions.proofs.Turns.{counts-8, check-begun, check-again, check-off, check_done}
-use borrow.Author.Rules.{rules}
 use Rattle.editions.proofs.check_up.Goals as goal
 
 pub loop-rest-init : goal.loop-rest-init

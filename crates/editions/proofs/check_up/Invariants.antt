@@ -1,11 +1,8 @@
 use Prim.Native.Nat.{◌+◌, ◌≤◌}
-use mathlib.Core.Path.{◌≡◌, refl, ◌∙◌, ap}
-use native.Mathlib.Omega.{arith}
-use lib.ListN.{length, length-drop}
+use mathlib.Core.Path.{◌≡◌}
+use lib.ListN.{length}
 use Rattle.effbd.specs.Editions.{old_fault, new_of, convert_from, telegram_count, upward}
 use Rattle.editions.specs.Checks.{checked}
-use Rattle.editions.proofs.Turns.{counts-8, check-begun, check-again, check-off, check_done}
-use borrow.Author.Rules.{rules}
 use Rattle.editions.proofs.check_up.Given as goal
 
 abbrev pub invariant-loop-rest : goal.invariant-loop-rest

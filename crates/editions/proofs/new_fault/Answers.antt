@@ -1,7 +1,5 @@
 use mathlib.Core.Path.{sym, ◌∙◌}
-use borrow.Author.Tests.{not-true, not-false}
 use Rattle.editions.proofs.Faults.{new-30, new-46, new-47, new_none}
-use borrow.Author.Rules.{rules}
 use Rattle.editions.proofs.new_fault.Goals as goal
 
 pub returns-then-not-is_telegram : goal.returns-then-not-is_telegram

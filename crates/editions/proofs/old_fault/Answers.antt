@@ -1,7 +1,5 @@
 use mathlib.Core.Path.{sym, ◌∙◌}
-use borrow.Author.Tests.{not-true, not-false}
 use Rattle.editions.proofs.Faults.{old-30, old-46, old-none}
-use borrow.Author.Rules.{rules}
 use Rattle.editions.proofs.old_fault.Goals as goal
 
 pub returns-then-not-is_old_telegram : goal.returns-then-not-is_old_telegram

@@ -1,7 +1,6 @@
 use mathlib.Core.Path.{refl, sym, ◌∙◌, ap}
 use Rattle.effbd.specs.Answers.{said}
 use Rattle.editions.proofs.Calls.{down-refused, down-short, down_fits, down-done}
-use borrow.Author.Rules.{rules}
 use Rattle.editions.proofs.telegrams_down.Goals as goal
 
 pub returns-then-area-size : goal.returns-then-area-size

@@ -1,4 +1,4 @@
-use Prim.Native.Nat.{ℕ, suc}
+use Prim.Native.Nat.{suc}
 use mathlib.Core.Path.{refl, sym, ◌∙◌, ap}
 use native.Mathlib.Omega.{arith}
 use lib.ListN.{length, length-drop}
@@ -6,7 +6,7 @@ use Rattle.effbd.specs.BusEnds.{station_at, number_at}
 use Rattle.effbd.specs.Editions.{new_fault, old_of, downward}
 use Rattle.edition_laws.specs.Runs.{new-whole}
 use Rattle.editions.proofs.Faults.{made-old, old-of}
-use Rattle.editions.proofs.Turns.{counts-14, Underway, begun, next, same_length as same-length-kept, turn, ended}
+use Rattle.editions.proofs.Turns.{counts-14, begun, next, same_length as same-length-kept, turn, ended}
 use Rattle.editions.proofs.Calls.{down-ready, down-area}
 use borrow.Author.Rules.{rules}
 use Rattle.editions.proofs.write_down.Goals as goal

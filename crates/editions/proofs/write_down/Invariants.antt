@@ -1,14 +1,11 @@
-use Prim.Native.Nat.{ℕ, suc}
-use mathlib.Core.Path.{refl, sym, ◌∙◌, ap}
-use native.Mathlib.Omega.{arith}
-use lib.ListN.{length, length-drop}
-use Rattle.effbd.specs.BusEnds.{station_at, number_at}
+use Prim.Native.Nat.{ℕ}
+use mathlib.Core.Path.{refl}
+use lib.ListN.{length}
+use Rattle.effbd.specs.BusEnds.{station_at}
 use Rattle.effbd.specs.Editions.{new_fault, old_of, downward}
 use Rattle.edition_laws.specs.Runs.{new-whole}
-use Rattle.editions.proofs.Faults.{made-old, old-of}
-use Rattle.editions.proofs.Turns.{counts-14, Underway, begun, next, same_length as same-length-kept, turn, ended}
-use Rattle.editions.proofs.Calls.{down-ready, down-area}
-use borrow.Author.Rules.{rules}
+use Rattle.editions.proofs.Faults.{made-old}
+use Rattle.editions.proofs.Turns.{counts-14, Underway}
 use Rattle.editions.proofs.write_down.Given as goal
 
 abbrev pub invariant-loop-rest : goal.invariant-loop-rest

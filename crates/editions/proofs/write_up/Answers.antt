@@ -5,7 +5,7 @@ use lib.ListN.{length, length-drop}
 use Rattle.effbd.specs.Editions.{old_fault, new_of, convert_from, telegram_count, upward}
 use Rattle.edition_laws.specs.Runs.{old-whole, old-fine-are}
 use Rattle.editions.proofs.Faults.{made-new, new-of}
-use Rattle.editions.proofs.Turns.{counts-8, Underway, begun, next, same_length as same-length-kept, turn, ended}
+use Rattle.editions.proofs.Turns.{counts-8, begun, next, same_length as same-length-kept, turn, ended}
 use Rattle.editions.proofs.Calls.{up-ready, up-area}
 use borrow.Author.Rules.{rules}
 use Rattle.editions.proofs.write_up.Goals as goal

@@ -1,13 +1,10 @@
-use Prim.Native.Nat.{ℕ, ◌+◌}
-use mathlib.Core.Path.{◌≡◌, refl, sym, ◌∙◌, ap}
-use native.Mathlib.Omega.{arith}
-use lib.ListN.{length, length-drop}
-use Rattle.effbd.specs.Editions.{old_fault, new_of, convert_from, telegram_count, upward}
-use Rattle.edition_laws.specs.Runs.{old-whole, old-fine-are}
-use Rattle.editions.proofs.Faults.{made-new, new-of}
-use Rattle.editions.proofs.Turns.{counts-8, Underway, begun, next, same_length as same-length-kept, turn, ended}
-use Rattle.editions.proofs.Calls.{up-ready, up-area}
-use borrow.Author.Rules.{rules}
+use Prim.Native.Nat.{◌+◌}
+use mathlib.Core.Path.{refl}
+use lib.ListN.{length}
+use Rattle.effbd.specs.Editions.{old_fault, new_of, upward}
+use Rattle.edition_laws.specs.Runs.{old-whole}
+use Rattle.editions.proofs.Faults.{made-new}
+use Rattle.editions.proofs.Turns.{counts-8, Underway}
 use Rattle.editions.proofs.write_up.Given as goal
 
 abbrev pub invariant-loop-rest : goal.invariant-loop-rest

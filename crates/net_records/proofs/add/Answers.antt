@@ -2,7 +2,6 @@ use mathlib.Core.Path.{sym}
 use native.Mathlib.Omega.{arith}
 use Rattle.net_records.specs.Writing.{encode}
 use Rattle.net_records.proofs.Stores.{laid-tail, laid_out, one}
-use borrow.Author.Rules.{rules}
 use Rattle.net_records.proofs.add.Goals as goal
 
 pub returns-then-at-area : goal.returns-then-at-area

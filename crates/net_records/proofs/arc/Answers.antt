@@ -2,7 +2,6 @@ use borrow.Author.Tests.{eq-eqb, ne_eqb}
 use mathlib.Core.List.{[]}
 use Rattle.net_records.specs.Records.{arc}
 use Rattle.net_records.proofs.Writing.{still, yes, no}
-use borrow.Author.Rules.{rules}
 use Rattle.net_records.proofs.arc.Goals as goal
 
 pub returns-then-weight-eq0 : goal.returns-then-weight-eq0

@@ -1,5 +1,4 @@
 use Rattle.net_records.specs.Records.{mark}
-use borrow.Author.Rules.{rules}
 use Rattle.net_records.proofs.mark.Goals as goal
 
 pub returns : goal.returns

@@ -1,5 +1,4 @@
 use Rattle.net_records.specs.Records.{pair}
-use borrow.Author.Rules.{rules}
 use Rattle.net_records.proofs.pair.Goals as goal
 
 pub returns : goal.returns

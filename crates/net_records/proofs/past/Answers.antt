@@ -1,6 +1,5 @@
 use borrow.Author.Tests.{le-leb, lt-leb}
 use Rattle.net_records.specs.Writing.{past}
-use borrow.Author.Rules.{rules}
 use Rattle.net_records.proofs.past.Goals as goal
 
 pub returns-then-at-le-OFFSET_LIMIT : goal.returns-then-at-le-OFFSET_LIMIT

@@ -1,12 +1,8 @@
-use Prim.Native.Nat.{ℕ, ◌-◌, ◌≤◌}
-use mathlib.Core.Path.{◌≡◌, refl, ap, ◌∙◌}
-use mathlib.Core.List.{List}
-use native.Mathlib.Omega.{arith}
+use Prim.Native.Nat.{◌-◌, ◌≤◌}
+use mathlib.Core.Path.{◌≡◌}
 use lib.ListN.{length, take}
-use lib.Seq.{sets, length-sets, take_all}
+use lib.Seq.{sets}
 use Rattle.net_records.specs.Writing.{encode}
-use Rattle.net_records.proofs.Stores.{word-turn}
-use borrow.Author.Rules.{rules}
 use Rattle.net_records.proofs.put_cut.Given as goal
 
 abbrev pub invariant-loop-i : goal.invariant-loop-i

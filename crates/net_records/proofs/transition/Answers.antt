@@ -1,5 +1,4 @@
 use Rattle.net_records.specs.Records.{transition}
-use borrow.Author.Rules.{rules}
 use Rattle.net_records.proofs.transition.Goals as goal
 
 pub returns : goal.returns

@@ -1,6 +1,5 @@
 use borrow.Author.Tests.{eq-eqb, ne_eqb}
 use Rattle.diagram_table.specs.Cells.{counts_in}
-use borrow.Author.Rules.{rules}
 use Rattle.table_counts.proofs.count_total.Goals as goal
 
 pub returns-then-cell-eq0 : goal.returns-then-cell-eq0

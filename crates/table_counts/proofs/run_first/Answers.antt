@@ -1,7 +1,6 @@
 use native.Mathlib.Omega.{arith}
 use borrow.Author.Tests.{eq-eqb, ne_eqb}
 use Rattle.diagram_table.specs.Cells.{run_first}
-use borrow.Author.Rules.{rules}
 use Rattle.table_counts.proofs.run_first.Goals as goal
 
 pub returns-then-cell-eq0 : goal.returns-then-cell-eq0

@@ -1,7 +1,5 @@
-use Rattle.ranges.specs.Tests.{not-true, not-false}
 use borrow.Author.Tests.{eq-eqb, ne_eqb}
 use Rattle.diagram_table.specs.Cells.{run_length}
-use borrow.Author.Rules.{rules}
 use Rattle.table_counts.proofs.run_length.Goals as goal
 
 pub returns-then-not-giving : goal.returns-then-not-giving

@@ -2,7 +2,6 @@ use Prim.Native.Nat.{ℕ}
 use mathlib.Core.Path.{sym, ◌∙◌, ap}
 use lib.Dec.{eqb}
 use Rattle.telegrams.proofs.Formed.{size-off, length-off, kind-tells}
-use borrow.Author.Rules.{rules}
 use Rattle.telegrams.proofs.has_form.Goals as goal
 
 pub returns-then-bytes-length : goal.returns-then-bytes-length

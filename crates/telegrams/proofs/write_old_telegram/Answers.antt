@@ -1,6 +1,5 @@
 use Rattle.effbd.specs.Editions.{old_telegram}
 use Rattle.telegrams.proofs.Written.{no_room, old-size, old-stored-is}
-use borrow.Author.Rules.{rules}
 use Rattle.telegrams.proofs.write_old_telegram.Goals as goal
 
 pub returns-then-area : goal.returns-then-area

@@ -1,6 +1,5 @@
 use Rattle.effbd.specs.BusEnds.{telegram}
 use Rattle.telegrams.proofs.Written.{no_room, telegram-size, stored_is}
-use borrow.Author.Rules.{rules}
 use Rattle.telegrams.proofs.write_telegram.Goals as goal
 
 pub returns-then-area : goal.returns-then-area

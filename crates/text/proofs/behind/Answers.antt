@@ -1,5 +1,4 @@
 use borrow.Author.Tests.{lt-ltb, le-ltb}
-use borrow.Author.Rules.{rules}
 use Rattle.text.specs.Laid.{behind}
 use Rattle.text.proofs.behind.Goals as goal
 

@@ -1,5 +1,4 @@
 use Rattle.text.specs.LaidLaws.{one}
-use borrow.Author.Rules.{rules}
 use Rattle.text.proofs.put.Goals as goal
 
 pub returns : goal.returns

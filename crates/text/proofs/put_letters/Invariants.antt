@@ -1,10 +1,5 @@
-use mathlib.Core.Path.{refl}
-use Rattle.text.specs.LaidLaws.{laid-length, still}
-use Rattle.text.proofs.LettersAndDigits.{letter, all-letters}
 use Prim.Native.Nat.{◌≤◌, ◌-◌}
 use lib.ListN.{length, take}
-use borrow.Author.Rules.{rules}
-use native.Mathlib.Omega.{arith}
 use Rattle.text.specs.Laid.{Laid}
 use Rattle.text.proofs.put_letters.Given as goal
 

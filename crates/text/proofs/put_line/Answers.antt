@@ -1,6 +1,5 @@
 use Rattle.text.specs.LaidLaws.{and_then, same}
 use Rattle.text.proofs.LettersAndDigits.{line_of}
-use borrow.Author.Rules.{rules}
 use Rattle.text.proofs.put_line.Goals as goal
 
 pub returns : goal.returns

@@ -1,5 +1,4 @@
 use Rattle.text.specs.LaidLaws.{and_then}
-use borrow.Author.Rules.{rules}
 use Rattle.text.proofs.put_named.Goals as goal
 
 pub returns : goal.returns

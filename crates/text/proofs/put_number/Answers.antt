@@ -1,6 +1,5 @@
 use Rattle.text.specs.LaidLaws.{and_then}
 use Rattle.effbd.specs.Annex.{number}
-use borrow.Author.Rules.{rules}
 use Rattle.text.proofs.put_number.Goals as goal
 
 pub returns : goal.returns

@@ -1,6 +1,5 @@
 use Rattle.words.specs.Sums.{added}
 use borrow.Author.Tests.{lt-ltb, le-ltb}
-use borrow.Author.Rules.{rules}
 use Rattle.words.proofs.added.Goals as goal
 
 pub returns-then-more-number : goal.returns-then-more-number

@@ -1,5 +1,4 @@
 use Rattle.words.proofs.Ends.{long-out}
-use borrow.Author.Rules.{rules}
 use Rattle.words.proofs.long.Goals as goal
 
 pub returns : goal.returns

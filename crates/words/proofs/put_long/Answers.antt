@@ -3,7 +3,6 @@ use mathlib.Core.Path.{◌∙◌, ap}
 use mathlib.Core.List.{List}
 use Rattle.words.specs.Stores.{word_put}
 use Rattle.words.proofs.Ends.{long-put-out}
-use borrow.Author.Rules.{rules}
 use Rattle.words.proofs.put_long.Goals as goal
 
 pub returns-then-at-area : goal.returns-then-at-area

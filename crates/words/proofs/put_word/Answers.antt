@@ -3,7 +3,6 @@ use mathlib.Core.Path.{◌∙◌, ap}
 use mathlib.Core.List.{List}
 use lib.ListN.{set}
 use Rattle.words.proofs.Ends.{word-put-out}
-use borrow.Author.Rules.{rules}
 use Rattle.words.proofs.put_word.Goals as goal
 
 pub returns-then-at-area : goal.returns-then-at-area

@@ -1,6 +1,5 @@
 use borrow.Author.Tests.{lt-ltb, le-ltb}
 use Rattle.effbd.specs.Records.{fault_at}
-use borrow.Author.Rules.{rules}
 use Rattle.words.proofs.record_fault.Goals as goal
 
 pub returns-then-bytes-lt4 : goal.returns-then-bytes-lt4

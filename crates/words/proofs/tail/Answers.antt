@@ -4,7 +4,6 @@ use lib.Seq.{take_all}
 use lib.ListN.{length, drop, length-drop, drop_of_length-le}
 use mathlib.Core.Path.{sym}
 use Prim.Native.Nat.{◌-◌, ◌≤◌}
-use borrow.Author.Rules.{rules}
 use Rattle.words.proofs.tail.Goals as goal
 
 pub returns-then-n-bytes : goal.returns-then-n-bytes
