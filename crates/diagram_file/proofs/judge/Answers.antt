@@ -1,7 +1,5 @@
 use native.Mathlib.Omega.{arith}
 use Rattle.diagram_file.proofs.Promises.{refused-records, refused-nesting, ready, judged-rules}
-use native.Mathlib.Omega.{arith}
-use Rattle.diagram_file.proofs.Promises.{refused-records, refused-nesting, ready, judged-rules}
 use Rattle.diagram_file.proofs.judge.Goals as goal
 
 pub overflow_cast-result : goal.overflow_cast-result
