@@ -24,7 +24,7 @@ use Rattle.row_records.specs.Rows.{use_fits, triggers_fit, trigger_fault, table_
 use Rattle.diagram_records.specs.Reading.{ItemsRead, record_rows, record_items, read_records, TabledUses, Recorded}
 use Rattle.ranges.specs.Outcomes.{unless-refused, unless-then, and_then-twice}
 use Rattle.row_records.proofs.Fields.{function-base, function-behind}
-use Rattle.row_records.proofs.RowsRead.{row-whole, of-kind, row_fine}
+use Rattle.row_records.proofs.RowsRead.{row-whole, of-kind, row_is_fine}
 
 -- n records that were read: their values, their faults, the rest
 pub record Many (A : Type 0) (fault : List ℕ → ℕ) (value : List ℕ → A) (n : ℕ) (start : List ℕ) (g : Got (List A)) : Type 0 where
@@ -196,13 +196,13 @@ module _ (items at : ℕ) (file l : List ℕ) (clean : row_fault items l ≡ 0) 
   unfolding uses_from
   row-offset = decide (eqb (kind_at l) 16) (λ e. rw (eqb-true (kind_at l) 16 e, function-behind)) (λ e. rw e)
 
-  row_count : column at 4 l ≡ cond (eqb (kind_at l) 16) ((length_at l - 8) / 6) 0
+  row_number_of : column at 4 l ≡ cond (eqb (kind_at l) 16) ((length_at l - 8) / 6) 0
   unfolding column
-  row_count = decide (eqb (kind_at l) 16) (λ e. rw (eqb-true (kind_at l) 16 e, function-base)) (λ e. rw e)
+  row_number_of = decide (eqb (kind_at l) 16) (λ e. rw (eqb-true (kind_at l) 16 e, function-base)) (λ e. rw e)
 
   row-uses : drop at file ≡ l → uses_at (column at 4 l) (drop (column at 3 l) file) ≡ (row_at l).uses
   unfolding column row_at
-  row-uses e = ap₂ (λ (u o : ℕ). uses_at u (drop o file)) row_count row-offset ∙ go (eqb (kind_at l) 16)
+  row-uses e = ap₂ (λ (u o : ℕ). uses_at u (drop o file)) row_number_of row-offset ∙ go (eqb (kind_at l) 16)
     where
       go : (b : Bool) → uses_at (cond b ((length_at l - 8) / 6) 0) (drop (cond b (at + 8) 0) file) ≡ cond b (uses_at ((length_at l - 8) / 6) (drop 8 l)) []
       go true = ap (uses_at ((length_at l - 8) / 6)) (sym (drop-drop 8 at file) ∙ ap (drop 8) e)
@@ -210,7 +210,7 @@ module _ (items at : ℕ) (file l : List ℕ) (clean : row_fault items l ≡ 0) 
 
   row-size : (6 * column at 4 l ≡ cond (eqb (kind_at l) 16) (length_at l - 8) 0) × (at + length l ≤ length file → column at 3 l + 6 * column at 4 l ≤ length file)
   unfolding column row_right
-  row-size = rw (row-offset, row_count) (go (eqb (kind_at l) 16) (row-whole items l clean).is_right (row-whole items l clean).whole)
+  row-size = rw (row-offset, row_number_of) (go (eqb (kind_at l) 16) (row-whole items l clean).is_right (row-whole items l clean).whole)
     where
       go : (b : Bool) → cond b (leb 8 (length_at l) && (eqb ((length_at l - 8) % 6) 0 && leb ((length_at l - 8) / 6) items)) (eqb (length_at l) (length_of (kind_at l))) ≡ true
           → length_at l ≤ length l → (6 * cond b ((length_at l - 8) / 6) 0 ≡ cond b (length_at l - 8) 0)
@@ -376,7 +376,7 @@ module _ (file t : List ℕ) (r : Reached) (k : head_fault file ≡ 0) (i : Item
 
       fine : (p : ℕ) → p < row_count dia → row_fault (word file 8) (from p) ≡ 0
       unfolding dia from rows_fault
-      fine p g = row_fine (word file 8) t (skip p start) (rws.held.clean p (let n = rws.held.many in omega arith))
+      fine p g = row_is_fine (word file 8) t (skip p start) (rws.held.clean p (let n = rws.held.many in omega arith))
 
       is_function : (p : ℕ) → p < row_count dia → eqb (kind_at (from p)) 16 ≡ is_kind dia function p
       is_function p g = row-function (word file 8) 0 file (from p) (fine p g) ∙ ap (λ (x : Row). same_kind x.kind function) (sym (each p g))
