@@ -149,24 +149,24 @@ module _ (d : Diagram) (rows items : ℕ) (table file : List ℕ) (h : Holds d r
       (λ z. rw z (spared-is r (owner d r) (let b = h.owner_low r in omega arith) (not-kind d r e end refl) (unkilled d held.acc r e)))
       (λ z. rw z (unfold all_patterns in refl)))
 
-  row_is : (k : Kind) (r : ℕ) → r < row_count d → kind d r ≡ k → row_as table file rows r (number_of k) ≡ all_patterns d r (patterns_as d k r)
+  row_is_of : (k : Kind) (r : ℕ) → r < row_count d → kind d r ≡ k → row_as table file rows r (number_of k) ≡ all_patterns d r (patterns_as d k r)
   unfolding row_as
-  row_is function r l e = function-is d rows items table file h u copied ranked held r l e
-  row_is and_open r l e = and-open-is r l e
-  row_is branch r l e = branch-is r l e
-  row_is and_close r l e = and-close-is r l e
-  row_is or_open r l e = unfold all_patterns in refl
-  row_is or_close r l e = or-close-is r l (not-kind d r e end refl)
-  row_is it_open r l e = it-open-is d rows items table h held r l e
-  row_is it_close r l e = back_is r l
-  row_is lp_open r l e = onward-is r l e
-  row_is lp_close r l e = back_is r l
-  row_is loop_exit r l e = loop-exit-is d rows items table h held r l e
-  row_is end r l e = unfold all_patterns in refl
-  row_is box_open r l e = or-close-is r l (not-kind d r e end refl)
-  row_is box_close r l e = or-close-is r l (not-kind d r e end refl)
-  row_is box_exit r l e = box-exit-is d rows items table h held r l e
+  row_is_of function r l e = function-is d rows items table file h u copied ranked held r l e
+  row_is_of and_open r l e = and-open-is r l e
+  row_is_of branch r l e = branch-is r l e
+  row_is_of and_close r l e = and-close-is r l e
+  row_is_of or_open r l e = unfold all_patterns in refl
+  row_is_of or_close r l e = or-close-is r l (not-kind d r e end refl)
+  row_is_of it_open r l e = it-open-is d rows items table h held r l e
+  row_is_of it_close r l e = back_is r l
+  row_is_of lp_open r l e = onward-is r l e
+  row_is_of lp_close r l e = back_is r l
+  row_is_of loop_exit r l e = loop-exit-is d rows items table h held r l e
+  row_is_of end r l e = unfold all_patterns in refl
+  row_is_of box_open r l e = or-close-is r l (not-kind d r e end refl)
+  row_is_of box_close r l e = or-close-is r l (not-kind d r e end refl)
+  row_is_of box_exit r l e = box-exit-is d rows items table h held r l e
 
   pub row_is : (r : ℕ) → r < row_count d → row_records table file rows r ≡ all_patterns d r (patterns_as d (kind d r) r)
   unfolding row_records
-  row_is r l = ap (row_as table file rows r) (kind-cell d rows items table h r l) ∙ row_is (kind d r) r l refl
+  row_is r l = ap (row_as table file rows r) (kind-cell d rows items table h r l) ∙ row_is_of (kind d r) r l refl

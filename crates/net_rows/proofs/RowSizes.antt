@@ -186,35 +186,35 @@ module _ (d : Diagram) (rows items : ℕ) (table file : List ℕ) (h : Holds d r
   unfolding or_close_records
   onward-small r n = other (omega arith) (transition-small r 0 0 then arc-small take_arc (3 * r) 1 then next_small r n)
 
-  row_small : (k : Kind) (r : ℕ) → r < row_count d → kind d r ≡ k → Small (row_as table file rows r (number_of k)) most
+  row_small_of : (k : Kind) (r : ℕ) → r < row_count d → kind d r ≡ k → Small (row_as table file rows r (number_of k)) most
   unfolding row_as and_open_records and_close_records branch_token or_token or_close_records onward back it_open_records it_over loop_exit_records exit_turn box_exit_records
-  row_small function r l e = unfold most in working rows items (count_total d) (function-small r l e)
-  row_small and_open r l e = other (omega arith) (transition-small r 0 0 then arc-small take_arc (3 * r) 1 then branches-small table file rows r give_arc (rw (close-cell d rows items table h r l) (h.close_low r)))
-  row_small branch r l e = other (omega arith) (either (eqb (kind_in table (owner_in table r)) (number_of or_open)) (token-small r _ _) (more zero-le none-small))
-  row_small and_close r l e = rw (owner-cell d rows items table h r l, add-one r, append_assoc) (other (omega arith) (transition-small r 0 0 then close-all r l e))
-  row_small or_open r l e = other zero-le none-small
-  row_small or_close r l e = onward-small r (not-kind d r e end refl)
-  row_small it_open r l e = let b = close-in d held.acc r (rw e) in
+  row_small_of function r l e = unfold most in working rows items (count_total d) (function-small r l e)
+  row_small_of and_open r l e = other (omega arith) (transition-small r 0 0 then arc-small take_arc (3 * r) 1 then branches-small table file rows r give_arc (rw (close-cell d rows items table h r l) (h.close_low r)))
+  row_small_of branch r l e = other (omega arith) (either (eqb (kind_in table (owner_in table r)) (number_of or_open)) (token-small r _ _) (more zero-le none-small))
+  row_small_of and_close r l e = rw (owner-cell d rows items table h r l, add-one r, append_assoc) (other (omega arith) (transition-small r 0 0 then close-all r l e))
+  row_small_of or_open r l e = other zero-le none-small
+  row_small_of or_close r l e = onward-small r (not-kind d r e end refl)
+  row_small_of it_open r l e = let b = close-in d held.acc r (rw e) in
       rw (close-cell d rows items table h r l, add-one (close d r)) (other (omega arith) (turn_small r _ _ _ _
       then when (kills_in table (entered_in table (suc (close d r)))) (λ k. more {n = 50 + 8 * rows} (omega arith) (kill-turn-small table file rows r _ _ (kill-low (suc (close d r)) b k))) (more (omega arith) (turn_small r _ _ _ _))))
-  row_small it_close r l e = other (omega arith) (token-small r _ _)
-  row_small lp_open r l e = other (omega arith) (token-small r _ _)
-  row_small lp_close r l e = other (omega arith) (token-small r _ _)
-  row_small loop_exit r l e =
+  row_small_of it_close r l e = other (omega arith) (token-small r _ _)
+  row_small_of lp_open r l e = other (omega arith) (token-small r _ _)
+  row_small_of lp_close r l e = other (omega arith) (token-small r _ _)
+  row_small_of loop_exit r l e =
       let a = h.loop_low r in
       let c = close-in d held.acc (loop d r) (rw ((laws d held.acc).looped r e).0) in
       let b = h.records.rows_are in
       rw (h.loops r (in_rows d rows items table h r l) (rw e), close-cell d rows items table h (loop d r) (omega arith), add-one (close d (loop d r)))
       (other (omega arith) (when (kills_in table (entered_in table (suc (close d (loop d r))))) (λ k. more {n = 42 + 8 * rows} (omega arith) (kill-turn-small table file rows r _ _ (kill-low (suc (close d (loop d r))) c k)))
       (exit_small table file rows r (loop d r) (close d (loop d r)) _ (omega arith))))
-  row_small end r l e = other zero-le none-small
-  row_small box_open r l e = onward-small r (not-kind d r e end refl)
-  row_small box_close r l e = onward-small r (not-kind d r e end refl)
-  row_small box_exit r l e =
+  row_small_of end r l e = other zero-le none-small
+  row_small_of box_open r l e = onward-small r (not-kind d r e end refl)
+  row_small_of box_close r l e = onward-small r (not-kind d r e end refl)
+  row_small_of box_exit r l e =
       let c = last-in d rows items table h held (box d r) in
       let b = h.records.rows_are in
       rw (h.scenario_lasts r (in_rows d rows items table h r l) (rw e)) (other (omega arith) (exit_small table file rows r _ _ _ (omega arith)))
 
   pub row_small : (r : ℕ) → r < row_count d → Small (row_records table file rows r) (most_row_bytes rows items (count_total d))
   unfolding row_records most
-  row_small r l = rw (kind-cell d rows items table h r l) (row_small (kind d r) r l refl)
+  row_small r l = rw (kind-cell d rows items table h r l) (row_small_of (kind d r) r l refl)
