@@ -2,7 +2,7 @@ use borrow.Author.Rules.{rules}
 use mathlib.Core.Path.{refl, sym, ◌∙◌}
 use native.Mathlib.Omega.{arith}
 use Rattle.diagram_moves.specs.Changes.{count_turn}
-use Rattle.diagram_moves.specs.RowStores.{fold_more, fold_end}
+use Rattle.diagram_moves.proofs.RowStores.{fold_more, fold_end}
 use Rattle.diagram_moves.specs.Decisions.{standing}
 use Rattle.diagram_moves.specs.StandingCounts.{count-stands, turns-standing}
 use Rattle.diagram_counts.proofs.change_run.Goals as goal

@@ -1,8 +1,8 @@
 use native.Mathlib.Omega.{arith}
 use mathlib.Core.Path.{refl, ◌∙◌}
-use Rattle.diagram_moves.specs.RowStores.{fold_more, fold_end}
+use Rattle.diagram_moves.proofs.RowStores.{fold_more, fold_end}
 use Rattle.diagram_moves.specs.Changes.{tick_turn}
-use Rattle.diagram_moves.specs.BusyRows.{busy-next, tick-past}
+use Rattle.diagram_moves.proofs.BusyRows.{busy-next, tick-past}
 use borrow.Author.Rules.{rules}
 use Rattle.diagram_counts.proofs.pass_ticks.Goals as goal
 
