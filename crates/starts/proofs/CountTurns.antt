@@ -15,7 +15,7 @@ use Rattle.effbd.specs.Records.{are_bytes}
 use Rattle.effbd.specs.Diagrams.{Diagram}
 use Rattle.effbd.specs.States.{fresh_words}
 use Rattle.effbd.specs.Logs.{Setpoint, setpoint_at, setpoints, move_count, most_moves, ticks, with_index, after, played}
-use Rattle.effbd.specs.Starts.{activity, is_step, is_start, starts_from, starts, times_of, Busiest}
+use Rattle.effbd.specs.Starts.{activity, is_step, is_start, starts_from, times_of, Busiest}
 use Rattle.ranges.specs.Tests.{decide, and_left, and_right}
 use Rattle.agreement.specs.ByteLaws.{word_fits}
 use Rattle.diagram_table.specs.Cells.{kind_in}
@@ -28,7 +28,7 @@ use Rattle.log_laws.proofs.SpanWalk.{walk_start, walk_turn}
 use Rattle.logs.specs.Walk.{Walk}
 use Rattle.logs.proofs.Walking.{told-made, walk_begins, walk-on, walk-stops, move-made}
 use Rattle.starts.specs.Gaps.{starts_in}
-use Rattle.starts.specs.Windows.{in_window, best_of, Held, Counted}
+use Rattle.starts.specs.Windows.{in_window, best_of, Counted}
 use Rattle.starts.specs.declared.spans.Window.{Window}
 use Rattle.starts.specs.Faults.{starts_fault}
 use Rattle.starts.specs.Counting.{gap_bytes, no_gaps, no_window, waited, runs, Turning, Turned, Spaced, Counting}

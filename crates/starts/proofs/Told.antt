@@ -1,5 +1,5 @@
 -- What the call answers, and what it leaves in the number lent for t: at a file's refusal, at 40 and 41, at 42, and where the log stood.
-use Prim.Native.Nat.{ℕ, zero, suc, ◌+◌, ◌%◌, ◌≤◌}
+use Prim.Native.Nat.{ℕ, zero, suc, ◌%◌, ◌≤◌}
 use mathlib.Core.Path.{◌≡◌, refl, sym, ◌∙◌, ap, ap₂, subst}
 use mathlib.Core.Logic.{◌≢◌}
 use mathlib.Core.Bool.{Bool, true, false, not, cond, ◌&&◌}
@@ -9,7 +9,7 @@ use lib.ListN.{length, drop, drop_of_length-le}
 use lib.Dec.{leb, ltb, eqb}
 use borrow.Author.Tests.{eqb-true, ne_eqb, leb-true, ltb-true, ltb-false}
 use Rattle.effbd.specs.Answers.{Outcome, accepted, refused, is_accepted, unless, and_then, refusal_number, refusal_value}
-use Rattle.effbd.specs.Diagrams.{Diagram, function, end, row, kind, is_kind}
+use Rattle.effbd.specs.Diagrams.{Diagram, function, row, is_kind}
 use Rattle.effbd.specs.Nesting.{read_diagram}
 use Rattle.effbd.specs.States.{fresh_words}
 use Rattle.effbd.specs.Logs.{Setpoint, setpoints, move_count, most_moves, log_fault, played}

@@ -1,6 +1,6 @@
 -- What the walk through a log keeps, with the window over its starts: how far it has come, which starts are behind it, and that the bytes of
 -- gaps suffice. Assumes nothing.
-use Rattle.std.specs.Prelude.{ℕ, ◌+◌, ◌-◌, ◌*◌, ◌≤◌, ◌<◌, ◌≡◌, ◌≢◌, Bool, true, false, not, cond, ◌&&◌, List, ◌++◌, length, drop, replicate, eqb}
+use Rattle.std.specs.Prelude.{ℕ, ◌+◌, ◌*◌, ◌≤◌, ◌<◌, ◌≡◌, ◌≢◌, Bool, true, false, not, cond, ◌&&◌, List, ◌++◌, length, drop, replicate, eqb}
 use Rattle.effbd.specs.States.{fresh_words}
 use Rattle.effbd.specs.Logs.{setpoints, move_count, most_moves}
 use Rattle.effbd.specs.Starts.{activity, starts_from, starts, times_of}
