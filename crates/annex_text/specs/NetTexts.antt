@@ -1,6 +1,6 @@
 -- The text that is read off a net's bytes is the text of the net; a translation's answer, printed, is the annex text.
 use Prim.Native.Nat.{ℕ, zero, suc, ◌+◌, ◌*◌, ◌/◌, ◌%◌, ◌≤◌}
-use Rattle.std.specs.Prelude.{◌≢◌, ◌≡◌, Bool, cond, length, take, drop, ltb, eqb}
+use Rattle.std.specs.Prelude.{◌≢◌, ◌≡◌, Bool, cond, length, drop, ltb, eqb}
 use Rattle.std.proofs.Math.Path.{refl}
 use Rattle.std.proofs.Common.{sym, ◌∙◌, ap, arith, drop-drop}
 use mathlib.Core.List.{List, [], ◌∷◌, ◌++◌, map, append_assoc}
