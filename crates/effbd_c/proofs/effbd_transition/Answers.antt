@@ -1,0 +1,6 @@
+use mathlib.Core.Path.{◌∙◌, ap}
+use Rattle.effbd.specs.Answers.{packed}
+use Rattle.effbd_c.proofs.effbd_transition.Goals as goal
+
+pub returns : goal.returns
+returns c = c.pack.ensures ∙ ap packed c.transition.ensures
