@@ -136,7 +136,7 @@ fn put_words(text: &mut [u8], at: usize, state: &[u16]) -> usize
 
 // Both ends: moves sent and taken, the words of both states.
 fn put_ends(text: &mut [u8], at: usize, counts: Counts, leader: &[u16], follower: &[u16]) -> usize
-    ensures { Laid text.old at text.new result (ends_text (record { leader = leader.entry.now; sent = counts.sent; follower = follower.now; taken = counts.taken })) }
+    ensures { Laid text.old at text.new result (ends_text (record { leader = leader.now; sent = counts.sent; follower = follower.now; taken = counts.taken })) }
 {
     let behind_sent = text::put_named(text, at, b"sent", counts.sent);
     let behind_taken = text::put_named(text, behind_sent, b" taken", counts.taken);
@@ -154,7 +154,7 @@ pub fn put_ends_column(
     leader: &[u16],
     follower: &[u16],
 ) -> usize
-    ensures { Laid text.old at text.new result (spaces (gap at 70) ++ ends_text (record { leader = leader.entry.now; sent = counts.sent; follower = follower.now; taken = counts.taken }) ++ (10 ∷ [])) }
+    ensures { Laid text.old at text.new result (spaces (gap at 70) ++ ends_text (record { leader = leader.now; sent = counts.sent; follower = follower.now; taken = counts.taken }) ++ (10 ∷ [])) }
 {
     let column = put_spaces(text, at, gap_to(at, ENDS_COLUMN));
     let end = put_ends(text, column, counts, leader, follower);

@@ -25,10 +25,10 @@ module _ (file net : List ℕ) (station : ℕ) where
   live-seen e (offer code argument area) = refl
   live-seen e (hand bytes) = refl
 
-  pub live_all : (xs : List Call) (e : Ends) → live_of (run_all file net station e xs) ≡ live_all file net station (live_of e) xs
+  pub live-run-all : (xs : List Call) (e : Ends) → live_of (run_all file net station e xs) ≡ live_all file net station (live_of e) xs
   unfolding run_all live_all
-  live_all [] e = refl
-  live_all (x ∷ xs) e = live_all xs (run file net station e x) ∙ ap (λ (v : Live). live_all file net station v xs) (live-run e x)
+  live-run-all [] e = refl
+  live-run-all (x ∷ xs) e = live-run-all xs (run file net station e x) ∙ ap (λ (v : Live). live_all file net station v xs) (live-run e x)
 
   pub live-seen-all : (xs : List Call) (e : Ends) → seen_all file net station e xs ≡ live_seen_all file net station (live_of e) xs
   unfolding seen_all live_seen_all

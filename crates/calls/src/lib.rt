@@ -85,7 +85,7 @@ pub fn make_call(
     counts: Counts,
     call: &mut [u8],
 ) -> CallResult
-    ensures { Called file.now net.now station (record { leader = leader.entry.now; sent = counts.sent; follower = follower.old; taken = counts.taken }) call.old leader.exit.now follower.new call.new (said result.answer) result.counts.sent result.counts.taken }
+    ensures { Called file.now net.now station (record { leader = leader.old; sent = counts.sent; follower = follower.old; taken = counts.taken }) call.old leader.new follower.new call.new (said result.answer) result.counts.sent result.counts.taken }
 {
     let sent = counts.sent;
     let taken = counts.taken;
@@ -129,7 +129,7 @@ pub fn make_calls(
     station: u16,
     calls: &mut [u8],
 ) -> Counts
-    ensures { AllCalled file.now net.now station (record { leader = leader.entry.now; sent = 0; follower = follower.old; taken = 0 }) calls.old leader.exit.now follower.new calls.new result.sent result.taken }
+    ensures { AllCalled file.now net.now station (record { leader = leader.old; sent = 0; follower = follower.old; taken = 0 }) calls.old leader.new follower.new calls.new result.sent result.taken }
 {
     let mut sent: u32 = 0;
     let mut taken: u32 = 0;

@@ -1,0 +1,7 @@
+use Rattle.call_lines.specs.Lines.{head_text}
+use Rattle.text.specs.LaidLaws.{and_then}
+use Rattle.call_lines.proofs.put_head.Goals as goal
+
+pub returns : goal.returns
+unfolding head_text
+returns c = and_then (and_then (and_then (and_then c.put_named-behind_bytes.ensures c.put_named-behind_station.ensures) c.put_named-behind_leader.ensures) c.put_named-behind_follower.ensures) c.put.ensures
