@@ -23,7 +23,7 @@ use Rattle.calls.specs.CallList.{calls_of, list_after}
 use Rattle.ends.specs.ReadyEnds.{net_length, NetOf}
 use Rattle.calls.specs.LiveEnds.{Live, AllCalled}
 use Rattle.play.specs.Played.{as_long, playable, Played, PlayedAs}
-use Rattle.calls.proofs.Lists.{live_all, live-seen-all}
+use Rattle.calls.proofs.Lists.{live-run-all, live-seen-all}
 use Rattle.ends.proofs.LaidNets.{net-reads, fresh-is, fresh-net-is}
 
 -- a state's length
@@ -68,9 +68,9 @@ file-refused file number value e leader follower = go (read_diagram file) e
     go (refused n v) f = let a : n ≡ number = cc in let b : v ≡ value = cc in ap₂ refused a b
 
 module _ (file net : List ℕ) (n : NetOf file net) (bytes : are_bytes file ≡ true) where
-  as_long : (follower : List ℕ) (b : Bool) → b ≡ as_long (read_net net) (length follower) → eqb (length follower) (net_word_count (net_of n.diagram)) ≡ b
+  as_long-is : (follower : List ℕ) (b : Bool) → b ≡ as_long (read_net net) (length follower) → eqb (length follower) (net_word_count (net_of n.diagram)) ≡ b
   unfolding as_long
-  as_long follower b e = sym (e ∙ ap (λ (o : Outcome Net). as_long o (length follower)) (net-reads file net n bytes))
+  as_long-is follower b e = sym (e ∙ ap (λ (o : Outcome Net). as_long o (length follower)) (net-reads file net n bytes))
 
   playable-is : (leader follower : List ℕ) (a b : Bool) → eqb (length leader) (places n.diagram) ≡ a → eqb (length follower) (net_word_count (net_of n.diagram)) ≡ b
       → playable file leader follower ≡ cond (a && b) (accepted n.diagram) (refused 20 0)
@@ -81,7 +81,7 @@ module _ (file net : List ℕ) (n : NetOf file net) (bytes : are_bytes file ≡ 
   -- the follower's state has another length
   pub follower-off : (leader follower : List ℕ) → false ≡ as_long (read_net net) (length follower) → playable file leader follower ≡ refused 20 0
   follower-off leader follower e = decide (eqb (length leader) (places n.diagram))
-      (λ t. playable-is leader follower true false t (as_long follower false e)) (λ t. playable-is leader follower false false t (as_long follower false e))
+      (λ t. playable-is leader follower true false t (as_long-is follower false e)) (λ t. playable-is leader follower false false t (as_long-is follower false e))
 
   -- the leader's state has another length
   pub leader-off : (leader follower leader' : List ℕ) (number value : ℕ) → true ≡ as_long (read_net net) (length follower)
@@ -90,7 +90,7 @@ module _ (file net : List ℕ) (n : NetOf file net) (bytes : are_bytes file ≡ 
   leader-off leader follower leader' number value e r l = decide (eqb (length leader) (places n.diagram))
       (λ t. let z : refused number value ≡ accepted 0 = r ∙ ap returning_zero (fresh-is file net n bytes leader true t) in absurd (let y : ◌≡◌ {A = ℕ} 0 1 = cc in omega arith))
       (λ t. let z : refused number value ≡ refused 20 0 = r ∙ ap returning_zero (fresh-is file net n bytes leader false t) in let a : 20 ≡ number = cc in let b : 0 ≡ value = cc in
-      (playable-is leader follower false true t (as_long follower true e) ∙ ap₂ refused a b, l ∙ ap (afterwards leader) (fresh-is file net n bytes leader false t)))
+      (playable-is leader follower false true t (as_long-is follower true e) ∙ ap₂ refused a b, l ∙ ap (afterwards leader) (fresh-is file net n bytes leader false t)))
 
   all-played : (station : ℕ) (calls leader' follower' calls' : List ℕ) (sent took : ℕ)
       → AllCalled file (net_file_of n.diagram) station (record { leader = fresh_words n.diagram; sent = 0; follower = fresh_net_words (net_of n.diagram); taken = 0 }) calls leader' follower' calls' sent took
@@ -98,7 +98,7 @@ module _ (file net : List ℕ) (n : NetOf file net) (bytes : are_bytes file ≡ 
   unfolding fresh_ends
   all-played station calls leader' follower' calls' sent took c =
       let d = n.diagram in
-      let e = c.live ∙ sym (live_all file (net_file_of d) station (calls_of calls) (fresh_ends d)) in record {
+      let e = c.live ∙ sym (live-run-all file (net_file_of d) station (calls_of calls) (fresh_ends d)) in record {
         leader-holds = ap (λ (v : Live). v.leader) e;
         sent_is = ap (λ (v : Live). v.sent) e;
         follower-holds = ap (λ (v : Live). v.follower) e;
@@ -113,7 +113,7 @@ module _ (file net : List ℕ) (n : NetOf file net) (bytes : are_bytes file ≡ 
       → AllCalled file net station (record { leader = fresh; sent = 0; follower = afterwards follower (fresh_net net follower); taken = 0 }) calls leader' follower' calls' sent took
       → (accepted 0 ≡ returning_zero (playable file leader follower)) × PlayedAs (playable file leader follower) file station calls leader follower calls' leader' follower' sent took
   both-fresh station leader follower fresh calls leader' follower' calls' sent took value e r l c = decide (eqb (length leader) (places n.diagram))
-      (λ t. let p = as_long follower true e in played (playable file leader follower) n.diagram (playable-is leader follower true true t p) file station calls leader follower calls' leader' follower' sent took
+      (λ t. let p = as_long-is follower true e in played (playable file leader follower) n.diagram (playable-is leader follower true true t p) file station calls leader follower calls' leader' follower' sent took
       (all-played station calls leader' follower' calls' sent took
       (subst (λ (x : List ℕ). AllCalled file x station (record { leader = fresh_words n.diagram; sent = 0; follower = fresh_net_words (net_of n.diagram); taken = 0 }) calls leader' follower' calls' sent took) n.is
       (subst (λ (x : List ℕ). AllCalled file net station (record { leader = fresh_words n.diagram; sent = 0; follower = x; taken = 0 }) calls leader' follower' calls' sent took)

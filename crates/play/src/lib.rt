@@ -28,7 +28,7 @@ fn start(
     station: u16,
     calls: &mut [u8],
 ) -> Counts
-    ensures { AllCalled file.now net.now station (record { leader = leader.entry.now; sent = 0; follower = afterwards follower.old (fresh_net net.now follower.old); taken = 0 }) calls.old leader.exit.now follower.new calls.new result.sent result.taken }
+    ensures { AllCalled file.now net.now station (record { leader = leader.old; sent = 0; follower = afterwards follower.old (fresh_net net.now follower.old); taken = 0 }) calls.old leader.new follower.new calls.new result.sent result.taken }
 {
     net_fresh::fresh(net, follower);
     calls::make_calls(file, net, leader, follower, station, calls)
