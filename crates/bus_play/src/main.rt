@@ -51,8 +51,8 @@ fn play_call(
     call: &mut [u8],
 ) -> Shown
     requires { length call.old ≤ most_word }
-    ensures called { Called file.now net.now station (record { leader = leader.entry.now; sent = counts.sent; follower = follower.old; taken = counts.taken }) call.old leader.exit.now follower.new call.new (said result.result.answer) result.result.counts.sent result.result.counts.taken }
-    ensures laid { Laid text.old 0 text.new result.size (line_text (call_of call.old) (live_answer file.now net.now station (record { leader = leader.entry.now; sent = counts.sent; follower = follower.old; taken = counts.taken }) (call_of call.old)) (call_fires file.now net.now leader.entry.now follower.old (call_of call.old)) (live_after file.now net.now station (record { leader = leader.entry.now; sent = counts.sent; follower = follower.old; taken = counts.taken }) (call_of call.old))) }
+    ensures called { Called file.now net.now station (record { leader = leader.old; sent = counts.sent; follower = follower.old; taken = counts.taken }) call.old leader.new follower.new call.new (said result.result.answer) result.result.counts.sent result.result.counts.taken }
+    ensures laid { Laid text.old 0 text.new result.size (line_text (call_of call.old) (live_answer file.now net.now station (record { leader = leader.old; sent = counts.sent; follower = follower.old; taken = counts.taken }) (call_of call.old)) (call_fires file.now net.now leader.old follower.old (call_of call.old)) (live_after file.now net.now station (record { leader = leader.old; sent = counts.sent; follower = follower.old; taken = counts.taken }) (call_of call.old))) }
 {
     let behind_call = lines::put_call(text, 0, call);
     let fires = fired::by_call(file, net, leader, follower, call);
