@@ -11,14 +11,15 @@ import re
 import subprocess
 
 WHOLE = {
-    "agreement": """Tokens Matching Invariant TokenSteps FunctionSteps LoopSteps Waits Numbering StateCheck StateWords Moves NetSteps WellFormed Reached Demand
-        Reach Theorems""".split(),
-    "edition_laws": ["RoundTrips", "Calls"],
+    "agreement": """Matching Invariant TokenSteps FunctionSteps LoopSteps Waits Numbering StateCheck StateWords Moves NetSteps WellFormed Reached Demand
+        Reach""".split(),
+    "edition_laws": ["Calls"],
     "diagram_moves": ["RowStores", "TokenMoves", "FunctionMoves", "MovesAre", "FileMoves"],
 }
 SPLIT = {
+    "agreement": {"Tokens": ["Real"], "Theorems": ["reached", "AgreeAt"]},
     "log_laws": {"SpanWalk": "reach Walk better turn walk no_walk Walked".split()},
-    "edition_laws": {"Offers": "telegrams_of in_row Sent Unharmed".split()},
+    "edition_laws": {"Offers": "telegrams_of in_row Sent Unharmed".split(), "RoundTrips": "Numbered UpParts DownParts GivenBack".split()},
     "diagram_moves": {"BusyRows": "Idle four_sum".split()},
 }
 
@@ -34,7 +35,7 @@ def parted(text):
                 lines = [f"{it[1]}Rattle.{crate}.{side}.{m}.{{{', '.join(some)}}}{it[3]}" for side, some in (("specs", kept), ("proofs", gone)) if some]
                 return "\n".join(lines)
 
-            text = re.sub(r"(?m)^((?:ghost )?use )Rattle\.%s\.specs\.%s\.\{([^}]*)\}(;?)" % (crate, m), part, text)
+            text = re.sub(r"(?m)^((?:ghost )?use )Rattle\.%s\.(?:specs|proofs)\.%s\.\{([^}]*)\}(;?)" % (crate, m), part, text)
     return text
 
 

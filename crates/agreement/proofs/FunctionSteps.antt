@@ -25,7 +25,8 @@ use Rattle.agreement.proofs.Matching.{Agree, Passing, Valid, early, fired, full,
 use Rattle.agreement.specs.Named.{after, enabled, named_fire, named_image, named_step_at, lowest_over}
 use Rattle.agreement.specs.Structure.{Laws}
 use Rattle.agreement.proofs.TokenSteps.{live-zero, sound-enter, sound-one}
-use Rattle.agreement.proofs.Tokens.{Real, enabled-yes}
+use Rattle.agreement.specs.Tokens.{Real}
+use Rattle.agreement.proofs.Tokens.{enabled-yes}
 use Rattle.agreement.proofs.Numbering.{place-row, place-I}
 
 -- what may be cleared before something is added

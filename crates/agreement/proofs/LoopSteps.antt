@@ -24,7 +24,8 @@ use Rattle.agreement.proofs.Matching.{Agree, Passing, Valid, goes, passing-fires
 use Rattle.agreement.specs.Named.{named_fire, named_image, named_step_at}
 use Rattle.agreement.specs.Structure.{Laws, side}
 use Rattle.agreement.proofs.TokenSteps.{agree-leave, branch-kind, branch-owner, live-zero, sound-enter, sound-one, after-close, taken-P, taken-clock}
-use Rattle.agreement.proofs.Tokens.{Real, enabled-yes}
+use Rattle.agreement.specs.Tokens.{Real}
+use Rattle.agreement.proofs.Tokens.{enabled-yes}
 
 module _ (d : Diagram) (L : Laws d) where
   module _ (r : ℕ) (s : State) (i : Inv d s) (k : kind d r ≡ it_open) where

@@ -18,7 +18,8 @@ use Rattle.agreement.specs.Basics.{kind-in, same-eq}
 use Rattle.agreement.specs.Counts.{most-le, most_of}
 use Rattle.agreement.specs.Refusals.{net_number, net_value}
 use Rattle.agreement.specs.Named.{lowest_over, NamedState, after, all_places, enabled, named_fire, named_image, named_step_at}
-use Rattle.agreement.proofs.Tokens.{Real, cleared-marks, enabled-no, enabled-yes, kept-marks, places-elim, places-intro}
+use Rattle.agreement.specs.Tokens.{Real}
+use Rattle.agreement.proofs.Tokens.{cleared-marks, enabled-no, enabled-yes, kept-marks, places-elim, places-intro}
 
 pub bit_le : (b : Bool) → cond b 1 0 ≤ 1
 bit_le true = omega arith

@@ -23,7 +23,8 @@ use Rattle.ranges.specs.RangeLaws.{all-elim, all-intro, only-refl, least-ext, al
 use Rattle.agreement.specs.Basics.{kind-past}
 use Rattle.agreement.specs.Named.{NamedState, after, all_places, behaviour, enabled, flat_net, lift, named_fire, named_lets, named_step, named_step_at, named_tick, named_wait, lowest_over}
 use Rattle.agreement.proofs.Matching.{RowPlace}
-use Rattle.agreement.proofs.Tokens.{Real, places-elim, places-intro}
+use Rattle.agreement.specs.Tokens.{Real}
+use Rattle.agreement.proofs.Tokens.{places-elim, places-intro}
 
 pub length-map : {A B : Type 0} (f : A → B) (l : List A) → length (map f l) ≡ length l
 length-map f [] = refl

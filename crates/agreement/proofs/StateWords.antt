@@ -21,7 +21,7 @@ use Rattle.agreement.proofs.Moves.{Words, fresh-image, fresh-inv, moves-agree, r
 use Rattle.agreement.specs.Named.{NamedState, behaviour, flat_net, named_fresh, named_image, named_move}
 use Rattle.agreement.specs.Nested.{well_nested}
 use Rattle.agreement.proofs.Numbering.{none, ans, map-tab, name-at, place-I, place-P, place-Q, place-R, place-real, step-flat, wait-flat}
-use Rattle.agreement.proofs.Tokens.{Real}
+use Rattle.agreement.specs.Tokens.{Real}
 use Rattle.agreement.specs.Refusals.{net_number, net_value}
 
 module _ (d : Diagram) where

@@ -12,20 +12,15 @@ use Rattle.effbd.specs.States.{State, activate, clear_rows}
 use Rattle.ranges.specs.Tests.{and_intro, and_left, and_right, clash, decide}
 use Rattle.ranges.specs.RangeLaws.{all-elim, all-intro}
 use Rattle.agreement.specs.Named.{all_places, enabled}
+use Rattle.agreement.specs.Tokens.{Real}
 
 module _ (d : Diagram) where
-  abbrev pub Real : Place → Type 0
-  Real (P r) = r < row_count d
-  Real (Q r) = r < row_count d
-  Real (R r) = r < row_count d
-  Real (Count k) = k < count_total d
-
   -- what holds at all places, by places
-  pub places-intro : (f : Place → Bool) → ((p : Place) → Real p → f p ≡ true) → all_places d f ≡ true
+  pub places-intro : (f : Place → Bool) → ((p : Place) → Real d p → f p ≡ true) → all_places d f ≡ true
   places-intro f h = and_intro (all-intro (row_count d) (λ i. f (P i)) (λ i l. h (P i) l)) (and_intro (all-intro (row_count d) (λ i. f (Q i)) (λ i l. h (Q i) l))
       (and_intro (all-intro (row_count d) (λ i. f (R i)) (λ i l. h (R i) l)) (all-intro (count_total d) (λ i. f (Count i)) (λ i l. h (Count i) l))))
 
-  pub places-elim : (f : Place → Bool) → all_places d f ≡ true → (p : Place) → Real p → f p ≡ true
+  pub places-elim : (f : Place → Bool) → all_places d f ≡ true → (p : Place) → Real d p → f p ≡ true
   places-elim f e = at'
     where
       a : Bool
@@ -40,16 +35,16 @@ module _ (d : Diagram) where
       g : Bool
       g = all_below (count_total d) (λ k. f (Count k))
 
-      at' : (p : Place) → Real p → f p ≡ true
+      at' : (p : Place) → Real d p → f p ≡ true
       at' (P i) l = all-elim (row_count d) (λ r. f (P r)) (and_left a (b && (c && g)) e) i l
       at' (Q i) l = all-elim (row_count d) (λ r. f (Q r)) (and_left b (c && g) (and_right a (b && (c && g)) e)) i l
       at' (R i) l = all-elim (row_count d) (λ r. f (R r)) (and_left c g (and_right b (c && g) (and_right a (b && (c && g)) e))) i l
       at' (Count i) l = all-elim (count_total d) (λ r. f (Count r)) (and_right c g (and_right b (c && g) (and_right a (b && (c && g)) e))) i l
 
-  pub enabled-yes : (t : Pattern) (m : Place → ℕ) → ((p : Place) → Real p → t.take p ≤ m p) → enabled d t m ≡ true
+  pub enabled-yes : (t : Pattern) (m : Place → ℕ) → ((p : Place) → Real d p → t.take p ≤ m p) → enabled d t m ≡ true
   enabled-yes t m h = places-intro (λ p. leb (t.take p) (m p)) (λ p l. le-leb (t.take p) (m p) (h p l))
 
-  pub enabled-no : (t : Pattern) (m : Place → ℕ) (p : Place) → Real p → m p < t.take p → enabled d t m ≡ false
+  pub enabled-no : (t : Pattern) (m : Place → ℕ) (p : Place) → Real d p → m p < t.take p → enabled d t m ≡ false
   enabled-no t m p l h = decide (enabled d t m)
       (λ e. let f : t.take p ≤ m p = leb-true (t.take p) (m p) (places-elim (λ x. leb (t.take x) (m x)) e p l) in absurd (omega arith)) (λ e. e)
 

@@ -26,7 +26,8 @@ use Rattle.agreement.proofs.Matching.{Agree, Valid, second-enabled}
 use Rattle.agreement.specs.Named.{NamedState, enabled, named_image, named_lets, named_tick, named_wait}
 use Rattle.agreement.specs.Structure.{Laws}
 use Rattle.agreement.proofs.TokenSteps.{branch_in, branch-kind, live-zero}
-use Rattle.agreement.proofs.Tokens.{Real, enabled-yes, places-elim}
+use Rattle.agreement.specs.Tokens.{Real}
+use Rattle.agreement.proofs.Tokens.{enabled-yes, places-elim}
 
 module _ (d : Diagram) where
   module _ (L : Laws d) (n : ℕ) (some : 0 < n) (s : State) (i : Inv d s) where

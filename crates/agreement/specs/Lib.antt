@@ -3,6 +3,7 @@ pub mod Refusals
 pub mod Counts
 pub mod Sources
 pub mod Named
+pub mod Tokens
 pub mod Basics
 pub mod Structure
 pub mod NestingLaws
@@ -13,3 +14,4 @@ pub mod RowFaults
 pub mod AcceptedFiles
 pub mod Arcs
 pub mod Telegrams
+pub mod Theorems

@@ -14,7 +14,7 @@ use Rattle.effbd.specs.Layout.{Place, P, Q, R, Count, by_place, place_of, places
 use Rattle.effbd.specs.States.{State, activity_at, turns_at, clock_at, count_at, state_words, state_of, set_turns}
 use Rattle.ranges.specs.Tests.{decide}
 use Rattle.ranges.specs.RangeLaws.{get_d-tab, length-tab}
-use Rattle.agreement.proofs.Tokens.{Real}
+use Rattle.agreement.specs.Tokens.{Real}
 use Rattle.agreement.proofs.Numbering.{place-real}
 use Rattle.diagram_moves.specs.Changes.{row_set}
 

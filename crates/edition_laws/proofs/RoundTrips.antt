@@ -11,16 +11,13 @@ use Rattle.ranges.specs.Tests.{and_left, and_right, and_intro}
 use Rattle.agreement.specs.ByteLaws.{bytes_drop, never, next-inv, word_fits}
 use Rattle.agreement.specs.Telegrams.{telegram-back}
 use Rattle.edition_laws.specs.Runs.{joined-inv, bytes_take, Fine, new_run, old_run, written-length, old-any, converts, parts, old_setpoint, new_setpoint, old-sized, new-sized, old-fine, old-makes, new-fine, new-makes, old-back, new-back, old-fine-are, new-fine-are}
+use Rattle.edition_laws.specs.RoundTrips.{Numbered, UpParts, DownParts, GivenBack}
 
 abbrev old_enc : ℕ → Setpoint → List ℕ
 old_enc number m = old_telegram m.code m.argument
 
 abbrev new_enc : ℕ → ℕ → Setpoint → List ℕ
 new_enc station number m = telegram number station m.code m.argument
-
--- numbers that a run of n telegrams from `first` on may have
-abbrev pub Numbered : (first n : ℕ) → Type 0
-Numbered first n = first + n ≤ 4294967296
 
 pub old-length : (ms : List Setpoint) → length (old_run ms) ≡ 8 * length ms
 old-length ms = written-length 8 old_enc (λ n m. old-sized m.code m.argument) 0 ms
@@ -70,13 +67,6 @@ few : (fault : ℕ → List ℕ → ℕ) → ((n : ℕ) (t : List ℕ) → are_b
 few fault counted first f zero ms q h = omega arith
 few fault counted first f (suc n) ms q h = let t = h n (omega arith) in let k = counted (first + n) t.bytes t.are t.none in omega arith
 
--- what is converted upward
-pub record UpParts (old : List ℕ) (station first : ℕ) (new : List ℕ) : Type 0 where
-  pub moves : List Setpoint
-  pub is-old : old ≡ old_run moves
-  pub is-new : new ≡ new_run station first moves
-  pub numbered : Numbered first (length moves)
-
 pub up-parts : (old : List ℕ) (station first : ℕ) (new : List ℕ) → are_bytes old ≡ true → first ≤ most_count → upward old station first ≡ accepted new → UpParts old station first new
 unfolding upward
 up-parts old station first new b f e =
@@ -88,13 +78,6 @@ up-parts old station first new b f e =
       is-new = p.is-result;
       numbered = few old_fault (λ n t a z. (old-fine-are n t z).1) first f ((length old + 7) / 8) p.moves p.many p.each;
     }
-
--- what is converted downward
-pub record DownParts (run old : List ℕ) : Type 0 where
-  pub moves : List Setpoint
-  pub is-old : old ≡ old_run moves
-  pub is-new : run ≡ new_run (station_at run) (number_at run) moves
-  pub numbered : Numbered (number_at run) (length moves)
 
 pub down-parts : (run old : List ℕ) → are_bytes run ≡ true → downward run ≡ accepted old → DownParts run old
 unfolding downward
@@ -131,14 +114,6 @@ down-then-up run old b e = let p = down-parts run old b e in
     ∙ (up_run (station_at run) (number_at run) p.moves p.numbered ∙ ap accepted (sym p.is-new))
 
 -- THEOREM: "Downward .. is allowed only where station and first number give all of them back": it is refused exactly where none do
-pub record GivenBack (run : List ℕ) : Type 0 where
-  pub old : List ℕ
-  pub station : ℕ
-  pub first : ℕ
-  pub bytes : are_bytes old ≡ true
-  pub counted : first ≤ most_count
-  pub gives : upward old station first ≡ accepted run
-
 pub refused-then : (run : List ℕ) (number value : ℕ) → downward run ≡ refused number value → GivenBack run → ⊥
 refused-then run number value e g = never (sym e ∙ up-then-down g.old g.station g.first run g.bytes g.counted g.gives)
 

@@ -1,3 +1,4 @@
 pub mod Runs
+pub mod RoundTrips
 pub mod Offers
 pub mod EditionExamples

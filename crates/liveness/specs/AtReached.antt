@@ -19,7 +19,8 @@ use Rattle.effbd.specs.Transitions.{checked_net_number, checked_number, lowest_e
 use Rattle.ranges.specs.Tests.{clash, decide}
 use Rattle.agreement.specs.AcceptedFiles.{Held, held}
 use Rattle.agreement.proofs.Reached.{image-back, image-long, many-trans, table_at}
-use Rattle.agreement.proofs.Theorems.{agreement, net-read-back, net-well-formed, reached, reached-passes}
+use Rattle.agreement.specs.Theorems.{reached}
+use Rattle.agreement.proofs.Theorems.{agreement, net-read-back, net-well-formed, reached-passes}
 use Rattle.liveness.specs.Fired.{FiresNumber, Is, by_names, fired_by, number_at, step-fires, step-has}
 
 words-accepted : (d : Diagram) (x : Outcome State) → is_accepted (words_outcome d x) ≡ is_accepted x

@@ -27,7 +27,8 @@ use Rattle.agreement.proofs.Matching.{second-enabled}
 use Rattle.agreement.specs.Named.{enabled, lift, named_image}
 use Rattle.agreement.proofs.NetSteps.{all_alike, enabled-alike, net-is, transition-alike}
 use Rattle.agreement.proofs.Numbering.{enabled-flat, get_d_map, marks_of, name-at, name_of, nm, none, tr}
-use Rattle.agreement.proofs.Tokens.{Real, enabled-no, enabled-yes}
+use Rattle.agreement.specs.Tokens.{Real}
+use Rattle.agreement.proofs.Tokens.{enabled-no, enabled-yes}
 
 -- what `lowest_enabled` names is what the step fires
 module _ (n : Behaviour) (r : ℕ) (s : NetState) where

@@ -12,7 +12,7 @@ use Rattle.effbd.specs.Firing.{behaviour_of, net_state_of, net_words, step_net}
 use Rattle.effbd.specs.Patterns.{net_of}
 use Rattle.effbd.specs.Image.{image, image_words}
 use Rattle.effbd.specs.Transitions.{lowest_enabled, number_by_activity, transition_diagram, transition_net}
-use Rattle.agreement.proofs.Theorems.{reached}
+use Rattle.agreement.specs.Theorems.{reached}
 use Rattle.liveness.specs.Fired.{FiresNumber, fired_by}
 use Rattle.liveness.specs.AtReached.{bytes-fire, number-fires, told-by-diagram, told-by-net, told-of-net}
 

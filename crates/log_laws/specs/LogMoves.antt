@@ -16,7 +16,8 @@ use Rattle.effbd.specs.Moves.{Move, move_of, move_words}
 use Rattle.effbd.specs.Logs.{Setpoint, setpoint_at, setpoints_at, made, after, state_from, state_after, with_index, played_from}
 use Rattle.agreement.specs.Named.{moves_from}
 use Rattle.agreement.specs.ByteLaws.{never, bind_inv}
-use Rattle.agreement.proofs.Theorems.{reached, AgreeAt, agreement, reached-passes}
+use Rattle.agreement.specs.Theorems.{reached, AgreeAt}
+use Rattle.agreement.proofs.Theorems.{agreement, reached-passes}
 
 -- what stands past a log's end
 abbrev pub no_setpoint : Setpoint
