@@ -121,6 +121,7 @@ fn arc_fine(count: u16, due: Due, kind: u16, first: u16, second: u16) -> bool
 }
 
 // Labels below their limit and never falling, earliest at most latest.
+#[tactic(auto, unfolding(effbd::specs::Nets::transition_fine))]
 fn transition_fine(before: u16, label: u16, earliest: u16, latest: u16) -> bool
     ensures { result ≡ transition_fine before (timed label earliest latest) }
 {
