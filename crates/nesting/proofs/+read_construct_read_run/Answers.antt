@@ -62,19 +62,19 @@ pub read_run-returns-then-around-ge-MOST_OPEN : goal.read_run-returns-then-aroun
 read_run-returns-then-around-ge-MOST_OPEN t c =
     let a = c.args in
     let s = c.loop-row in
-    run-deep a.table.now a.rows a.from a.around s.row s.invariant c.loop-row-test.true (part-is c.part_of-part.ensures c.kind_in-kind.ensures c.in-Opens.is) c.if-around-ge-MOST_OPEN.true
+    run-deep a.table.now a.rows a.from a.around s.row s.invariant c.loop-row-test.true (part-is c.part_of-part.ensures c.kind_in-kind.ensures c.in-Opens.is) (omega arith)
 
 pub read_run-returns-in-Judged : goal.read_run-returns-in-Judged
 read_run-returns-in-Judged t c =
     let a = c.args in
     let s = c.loop-row in
-    run-over a.table.now a.rows a.from a.around s.row s.invariant c.loop-row-test.true (part-is c.part_of-part.ensures c.kind_in-kind.ensures c.in-Opens.is) c.if-around-ge-MOST_OPEN.false c.read_construct-inner.result c.read_construct-inner.ensures c.in-Judged.number c.in-Judged.at c.in-Judged.is
+    run-over a.table.now a.rows a.from a.around s.row s.invariant c.loop-row-test.true (part-is c.part_of-part.ensures c.kind_in-kind.ensures c.in-Opens.is) (omega arith) c.read_construct-inner.result c.read_construct-inner.ensures c.in-Judged.number c.in-Judged.at c.in-Judged.is
 
 pub read_run-loop-row-preserved-in-Closed : goal.read_run-loop-row-preserved-in-Closed
 read_run-loop-row-preserved-in-Closed t c =
     let a = c.args in
     let s = c.loop-row in
-    run_on a.table.now a.rows a.from a.around s.row s.invariant c.loop-row-test.true (part-is c.part_of-part.ensures c.kind_in-kind.ensures c.in-Opens.is) c.if-around-ge-MOST_OPEN.false c.read_construct-inner.result c.read_construct-inner.ensures c.in-Closed.close c.in-Closed.is
+    run_on a.table.now a.rows a.from a.around s.row s.invariant c.loop-row-test.true (part-is c.part_of-part.ensures c.kind_in-kind.ensures c.in-Opens.is) (omega arith) c.read_construct-inner.result c.read_construct-inner.ensures c.in-Closed.close c.in-Closed.is
 
 pub read_run-returns-then-fault-ne0 : goal.read_run-returns-then-fault-ne0
 read_run-returns-then-fault-ne0 t c =
