@@ -29,7 +29,11 @@ same "the form of a line" "$(list | wc -l)" "$well_formed"
 same "the order, or a number that stands twice," "$(list | cut -f 1 | sort -n -u)" "$(list | cut -f 1)"
 same "a name that stands twice" "" "$(list | cut -f 2 | sort | uniq -d)"
 
-same crates/effbd/src/refusals.rt "$(numbers)" "$(constants crates/effbd/src/refusals.rt u16)"
+# The cases of Reason in capitals, without the last, which is no refusal of the list.
+rattle=crates/effbd/src/refusals.rt
+cases=$(block $rattle 'pub enum Reason {' '}' | sed '/^    \/\//d;/^    TableOff = 65535,$/d;s/^    \([A-Za-z0-9]*\) = \([0-9]*\),$/\2\t\1/' |
+    sed 's/\([a-z0-9]\)\([A-Z]\)/\1_\2/g' | tr '[:lower:]' '[:upper:]')
+same $rattle "$(numbers)" "$cases"
 same model/src/refusal.rs "$(numbers)" "$(constants model/src/refusal.rs u32)"
 
 rust=bindings/rust/src/lib.rs

@@ -4,6 +4,7 @@
 use std::io;
 
 // The first 8,192 bytes decide what is printed (`annex-prefix`), and no text is longer than 393,216 bytes (`annex-fits`).
+// Buffers of a fixed size, and how much of each is used: there is no heap.
 fn main(rt: HostRuntime) -> io::Result<()> {
     let mut file = [0u8; 8192];
     let read = reading::read_full(&mut rt.reader(), &mut file)?;

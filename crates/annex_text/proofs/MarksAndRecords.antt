@@ -1,37 +1,30 @@
 -- The turns of the two loops: what is written, before what is left to write, is the whole.
-use Prim.Native.Nat.{ℕ, zero, suc, ◌+◌, ◌-◌, ◌≤◌, ◌<◌}
-use mathlib.Core.Path.{◌≡◌, refl, sym, ◌∙◌, ap, subst}
-use mathlib.Core.Bool.{Bool, true, false, cond}
-use mathlib.Core.List.{List, [], ◌++◌}
-use native.Mathlib.Nat.{min-le_left}
-use native.Mathlib.Omega.{arith}
-use lib.ListN.{length, take, drop, length-take, length-drop}
-use lib.Dec.{eqb}
-use borrow.Author.Tests.{lt-ltb, le-ltb}
+use Rattle.std.proofs.Common.{ℕ, zero, suc, ◌+◌, ◌-◌, ◌≤◌, ◌<◌, ◌≡◌, refl, sym, ◌∙◌, ap, subst, Bool, true, false, cond, List, [], ◌++◌, arith, length, take, drop, length-take, length-drop, eqb, lt-ltb, le-ltb}
 use Rattle.effbd.specs.Records.{word, kind_at}
 use Rattle.effbd.specs.Annex.{number}
+use Rattle.text.specs.declared.Text.{Text}
 use Rattle.text.specs.Laid.{Laid}
-use Rattle.annex_text.specs.Lines.{record_line, record_size, transitions_at, record_lines, mark_numbers}
 use Rattle.text.specs.LaidLaws.{Ongoing, begun, onward, done}
+use Rattle.annex_text.specs.Lines.{record_line, record_size, transitions_at, record_lines, mark_numbers}
 
 -- the marks of the places
 mark-next : (places i : ℕ) (rest : List ℕ) → i < places → mark_numbers (places - i) rest ≡ number (word rest 4) ++ mark_numbers (places - (i + 1)) (drop 6 rest)
 unfolding mark_numbers
 mark-next places i rest l = let e : places - i ≡ suc (places - (i + 1)) = omega arith in ap (λ (k : ℕ). mark_numbers k rest) e
 
-pub marks-begun : (area : List ℕ) (at places : ℕ) (bytes : List ℕ) → Ongoing area at area at (mark_numbers (places - 0) bytes) (mark_numbers places bytes)
-marks-begun area at places bytes = let e : places ≡ places - 0 = omega arith in
-    subst (λ (k : ℕ). Ongoing area at area at (mark_numbers k bytes) (mark_numbers places bytes)) e (begun area at (mark_numbers places bytes))
+pub marks-begun : (text : Text) (places : ℕ) (bytes : List ℕ) → Ongoing text text (mark_numbers (places - 0) bytes) (mark_numbers places bytes)
+marks-begun text places bytes = let e : places ≡ places - 0 = omega arith in
+    subst (λ (k : ℕ). Ongoing text text (mark_numbers k bytes) (mark_numbers places bytes)) e (begun text (mark_numbers places bytes))
 
-pub marks-turn : {a b c : List ℕ} {at n m : ℕ} (places i w : ℕ) (bytes rest rest' : List ℕ) → i < places → w ≡ word rest 4 → rest' ≡ drop 6 rest
-    → Ongoing a at b n (mark_numbers (places - i) rest) (mark_numbers places bytes) → Laid b n c m (number w)
-    → Ongoing a at c m (mark_numbers (places - (i + 1)) rest') (mark_numbers places bytes)
+pub marks-turn : {a b c : Text} (places i w : ℕ) (bytes rest rest' : List ℕ) → i < places → w ≡ word rest 4 → rest' ≡ drop 6 rest
+    → Ongoing a b (mark_numbers (places - i) rest) (mark_numbers places bytes) → Laid b c (number w)
+    → Ongoing a c (mark_numbers (places - (i + 1)) rest') (mark_numbers places bytes)
 marks-turn places i w bytes rest rest' l e f o v = onward (number w) (mark_numbers (places - i) rest) (mark_numbers (places - (i + 1)) rest')
     (mark-next places i rest l ∙ (ap (λ (k : ℕ). number k ++ mark_numbers (places - (i + 1)) (drop 6 rest)) (sym e) ∙ ap (λ (r : List ℕ). number w ++ mark_numbers (places - (i + 1)) r) (sym f)))
     o v
 
-pub marks-done : {a b : List ℕ} {at n : ℕ} (places i : ℕ) (bytes rest : List ℕ) → places ≤ i
-    → Ongoing a at b n (mark_numbers (places - i) rest) (mark_numbers places bytes) → Laid a at b n (mark_numbers places bytes)
+pub marks-done : {a b : Text} (places i : ℕ) (bytes rest : List ℕ) → places ≤ i
+    → Ongoing a b (mark_numbers (places - i) rest) (mark_numbers places bytes) → Laid a b (mark_numbers places bytes)
 unfolding mark_numbers
 marks-done places i bytes rest l o = done (let e : places - i ≡ 0 = omega arith in ap (λ (k : ℕ). mark_numbers k rest) e) o
 
@@ -53,28 +46,28 @@ counts-most rest = go (eqb (kind_at rest) 34)
     go false = omega arith
 
 -- `fuel` is enough for the bytes that are left
-pub record InRecords (before : List ℕ) (at : ℕ) (after : List ℕ) (next : ℕ) (records rest : List ℕ) (j : ℕ) : Type 0 where
+pub record InRecords (before after : Text) (records rest : List ℕ) (j : ℕ) : Type 0 where
   pub fuel : ℕ
   pub enough : length rest ≤ fuel
   pub few : j + length rest ≤ length records
-  pub ongoing : Ongoing before at after next (record_lines fuel j rest) (record_lines (length records) 0 records)
+  pub ongoing : Ongoing before after (record_lines fuel j rest) (record_lines (length records) 0 records)
 
-pub records-begun : (area : List ℕ) (at : ℕ) (records : List ℕ) → InRecords area at area at records records 0
-records-begun area at records = record { fuel = length records; enough = omega arith; few = omega arith; ongoing = begun area at (record_lines (length records) 0 records) }
+pub records-begun : (text : Text) (records : List ℕ) → InRecords text text records records 0
+records-begun text records = record { fuel = length records; enough = omega arith; few = omega arith; ongoing = begun text (record_lines (length records) 0 records) }
 
 -- a record is taken off what is left
 pub falls : (rest rest' : List ℕ) (s : ℕ) → 4 ≤ length rest → s ≡ record_size rest → rest' ≡ drop s rest → length rest' < length rest
 falls rest rest' s l e f = let x = size-least rest in let y = ap length f ∙ length-drop s rest in omega arith
 
-pub records-turn : {a b c : List ℕ} {at n m : ℕ} (records rest rest' : List ℕ) (j t s : ℕ) → 4 ≤ length rest → t ≡ transitions_at rest → s ≡ record_size rest → rest' ≡ drop s rest
-    → InRecords a at b n records rest j → Laid b n c m (record_line j rest) → InRecords a at c m records rest' (j + t)
+pub records-turn : {a b c : Text} (records rest rest' : List ℕ) (j t s : ℕ) → 4 ≤ length rest → t ≡ transitions_at rest → s ≡ record_size rest → rest' ≡ drop s rest
+    → InRecords a b records rest j → Laid b c (record_line j rest) → InRecords a c records rest' (j + t)
 unfolding record_lines
-records-turn {a} {b} {c} {at} {n} {m} records rest rest' j t s l e g h i w = turn i.fuel i.enough i.ongoing
+records-turn {a} {b} {c} records rest rest' j t s l e g h i w = turn i.fuel i.enough i.ongoing
   where
     less : length rest' < length rest
     less = falls rest rest' s l g h
 
-    turn : (fuel : ℕ) → length rest ≤ fuel → Ongoing a at b n (record_lines fuel j rest) (record_lines (length records) 0 records) → InRecords a at c m records rest' (j + t)
+    turn : (fuel : ℕ) → length rest ≤ fuel → Ongoing a b (record_lines fuel j rest) (record_lines (length records) 0 records) → InRecords a c records rest' (j + t)
     turn zero enough o = absurd (omega arith)
     turn (suc fuel) enough o = record {
       fuel = fuel;
@@ -87,8 +80,8 @@ records-turn {a} {b} {c} {at} {n} {m} records rest rest' j t s l e g h i w = tur
           o w;
     }
 
-pub records-done : {a b : List ℕ} {at n : ℕ} (records rest : List ℕ) (j : ℕ) → length rest < 4
-    → InRecords a at b n records rest j → Laid a at b n (record_lines (length records) 0 records)
+pub records-done : {a b : Text} (records rest : List ℕ) (j : ℕ) → length rest < 4
+    → InRecords a b records rest j → Laid a b (record_lines (length records) 0 records)
 unfolding record_lines
 records-done records rest j l i = done (none i.fuel) i.ongoing
   where
@@ -101,4 +94,4 @@ pub rest-most : (bytes rest : List ℕ) (n most : ℕ) → rest ≡ drop n bytes
 rest-most bytes rest n most e l = let x = ap length e ∙ length-drop n bytes in omega arith
 
 pub first-most : (bytes front : List ℕ) (n most : ℕ) → front ≡ take n bytes → n ≤ most → length front ≤ most
-first-most bytes front n most e l = let x = ap length e ∙ length-take n bytes in omega (arith, min-le_left n (length bytes))
+first-most bytes front n most e l = let x = ap length e ∙ length-take n bytes in omega arith

@@ -1,8 +1,5 @@
 -- A transition's line and a net's text, as they are written.
-use Prim.Native.Nat.{ℕ, ◌+◌, ◌*◌}
-use mathlib.Core.Path.{◌≡◌, ◌∙◌}
-use mathlib.Core.List.{List, [], ◌∷◌, ◌++◌, append_assoc}
-use lib.ListN.{length, drop}
+use Rattle.std.proofs.Common.{ℕ, ◌+◌, ◌*◌, ◌≡◌, ◌∙◌, List, [], ◌∷◌, ◌++◌, append_assoc, length, drop}
 use Rattle.effbd.specs.Records.{word}
 use Rattle.effbd.specs.Annex.{number, line, t_letter, label_letters, from_letters, to_letters, net_letters, marks_letters}
 use Rattle.annex_text.specs.Lines.{transition_line, record_lines, mark_numbers, records_of, net_text}

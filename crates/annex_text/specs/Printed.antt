@@ -4,8 +4,9 @@ use Rattle.std.proofs.Common.{◌∙◌, ap, arith}
 use Rattle.effbd.specs.Annex.{annex_in, over}
 use Rattle.effbd.specs.Records.{are_bytes}
 use Rattle.effbd.specs.Patterns.{translated}
-use Rattle.text.specs.Laid.{lay, reach, Laid}
-use Rattle.text.specs.LaidLaws.{reaches, lay-over}
+use Rattle.text.specs.declared.Text.{Text}
+use Rattle.text.specs.Laid.{lay, Laid}
+use Rattle.text.specs.LaidLaws.{same, laid-size, lay-over}
 use Rattle.annex_text.specs.Lines.{answer_text}
 use Rattle.annex_text.specs.NetTexts.{answer-text}
 use Rattle.annex_text.specs.Sizes.{annex-short}
@@ -16,11 +17,11 @@ pub record Printed (file net text after : List ℕ) (size : ℕ) : Type 0 where
   pub area : after ≡ over text (annex_in (length net) file)
 
 -- THEOREM: the printed answer of a translation is the annex text
-pub annexed : {file net text after : List ℕ} {size : ℕ} → are_bytes file ≡ true
-    → Laid text 0 after size (answer_text (translated file net).answer (translated file net).area) → Printed file net text after size
-annexed {file} {net} {text} {after} {size} b w = record {
-  long = w.reached ∙ (ap (λ (l : List ℕ). reach 0 l) e ∙ (reaches T 0 (omega (arith, short)) ∙ omega arith));
-  area = w.area ∙ (ap (λ (l : List ℕ). lay text 0 l) e ∙ lay-over text T (omega (arith, short)));
+pub annexed : {file net : List ℕ} {before after : Text} → are_bytes file ≡ true → before.at ≡ 0
+    → Laid before after (answer_text (translated file net).answer (translated file net).area) → Printed file net before.bytes.now after.bytes.now after.at
+annexed {file} {net} {before} {after} b z w = record {
+  long = laid-size z (same e w) (omega (arith, short));
+  area = w.area ∙ rw z (ap (λ (l : List ℕ). lay before.bytes.now 0 l) e ∙ lay-over before.bytes.now T (omega (arith, short)));
 }
   where
     T : List ℕ

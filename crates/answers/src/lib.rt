@@ -2,18 +2,25 @@
 #![tactic(auto)]
 
 ghost use Rattle.std.specs.Prelude.{◌≡◌};
-ghost use Rattle.effbd.specs.Answers.{said, packed};
+ghost use Rattle.effbd.specs.Answers.{refused, said, packed};
 ghost use Rattle.effbd.specs.Nesting.{packed_part};
 
 use effbd::Answer;
+
+// A refusal: number * 2^32 + value.
+pub fn pack_refusal(number: u16, value: u32) -> u64
+    ensures { result ≡ packed (refused number value) }
+{
+    (number as u64) * 4294967296 + value as u64
+}
 
 // An answer: number * 2^32 + value, number 0 where accepted.
 pub fn pack(answer: Answer) -> u64
     ensures { result ≡ packed (said answer) }
 {
     match answer {
-        Answer::Accepted(value) => value as u64,
-        Answer::Refused(number, value) => (number as u64) * 4294967296 + value as u64,
+        Ok(value) => value as u64,
+        Err(refusal) => pack_refusal(refusal.reason.number(), refusal.value),
     }
 }
 

@@ -1,9 +1,6 @@
 -- The leader's call, by what its stepper answered.
-use Prim.Native.Nat.{ℕ, suc, ◌≤◌, ◌<◌}
-use mathlib.Core.Path.{◌≡◌, sym, ap}
-use mathlib.Core.List.{List, ◌++◌}
-use native.Mathlib.Omega.{arith}
-use lib.ListN.{length, drop}
+use Rattle.std.specs.Prelude.{ℕ, suc, ◌≤◌, ◌<◌, ◌≡◌, List, ◌++◌, length, drop}
+use Rattle.std.proofs.Common.{sym, ap, arith}
 use borrow.Author.Tests.{lt-ltb, le-ltb, le-leb, lt-leb}
 use Rattle.effbd.specs.Answers.{Outcome, accepted, refused, returning_zero, afterwards}
 use Rattle.effbd.specs.Moves.{step_diagram}

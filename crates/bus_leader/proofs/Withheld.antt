@@ -1,12 +1,8 @@
 -- An offer that cannot be accepted: the move's own refusal, or 27 or 10. The move is tried on a copy of the state; no diagram has a longer state than a net has places.
-use Prim.Native.Nat.{ℕ, ◌+◌, ◌≤◌, ◌<◌}
-use mathlib.Core.Path.{◌≡◌, refl, sym, ◌∙◌, ap}
-use mathlib.Core.Bool.{true}
-use mathlib.Core.List.{List, ◌++◌, append-nil}
-use native.Mathlib.Omega.{arith}
+use Rattle.std.specs.Prelude.{ℕ, ◌+◌, ◌≤◌, ◌<◌, ◌≡◌, true, List, ◌++◌, length, drop}
+use Rattle.std.proofs.Common.{refl, sym, ◌∙◌, ap, arith}
 use native.Mathlib.Numerals.{add-one}
-use lib.ListN.{length, drop, drop_of_length-le}
-use borrow.Author.Tests.{ne_eqb, le-leb}
+use borrow.Author.Tests.{ne_eqb}
 use Rattle.effbd.specs.Answers.{Outcome, accepted, refused, and_then, returning_zero, afterwards}
 use Rattle.effbd.specs.Records.{are_bytes}
 use Rattle.effbd.specs.Diagrams.{Diagram}
@@ -35,14 +31,10 @@ too_long file state code argument number value b l = go (read_diagram file) refl
     go (accepted d) e = let few = few-places d (held file d b e) in
         rw (ne_eqb (length state) (places d) (omega arith)) (refl, refl)
 
--- a copy as long is the state
-pub copied_is : (state copy : List ℕ) → length copy ≡ length state → copied state copy ≡ state
-copied_is state copy h = let l : length copy ≤ length state = omega arith in
-    rw (le-leb (length state) (length copy) (omega arith)) (ap (λ (l : List ℕ). state ++ l) (drop_of_length-le copy l) ∙ append-nil state)
-
-pub withheld-zero : (number value : ℕ) (x : Outcome (List ℕ)) → withheld number value (returning_zero x) ≡ withheld number value x
-withheld-zero number value (accepted s) = refl
-withheld-zero number value (refused n v) = refl
+-- what a step is answered, withheld
+pub withheld-as : (number value : ℕ) (r : Outcome ℕ) (x : Outcome (List ℕ)) → r ≡ returning_zero x → withheld number value r ≡ withheld number value x
+withheld-as number value r (accepted s) e = ap (withheld number value) e
+withheld-as number value r (refused n v) e = ap (withheld number value) e
 
 -- the leader's call, where 27 or 10 stands against it
 module _ (file state : List ℕ) (count station code argument : ℕ) (area : List ℕ) where

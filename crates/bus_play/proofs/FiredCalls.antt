@@ -1,9 +1,5 @@
 -- What the step in a call fires, by the tests that lead to it.
-use Prim.Native.Nat.{ℕ}
-use mathlib.Core.Path.{◌≡◌, sym, ◌∙◌, ap}
-use mathlib.Core.List.{List}
-use lib.ListN.{drop}
-use borrow.Author.Tests.{eq-eqb, ne_eqb}
+use Rattle.std.proofs.Common.{ℕ, ◌≡◌, sym, ◌∙◌, ap, List, drop, eq-eqb, ne_eqb}
 use Rattle.effbd.specs.Answers.{Outcome, refused}
 use Rattle.effbd.specs.Records.{word, kind_at}
 use Rattle.effbd.specs.BusEnds.{code_at, argument_at}

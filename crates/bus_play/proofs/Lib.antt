@@ -1,4 +1,4 @@
 pub mod FiredCalls
 pub mod LineLengths
-pub mod ListReading
+pub mod StateLengths
 pub mod WrittenCalls

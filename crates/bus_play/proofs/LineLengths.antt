@@ -1,10 +1,5 @@
 -- How long the lines are; the columns of a line.
-use Prim.Native.Nat.{ℕ, zero, suc, ◌+◌, ◌*◌, ◌≤◌}
-use mathlib.Core.Path.{◌≡◌, refl, ◌∙◌, ap}
-use mathlib.Core.List.{List, [], ◌∷◌, ◌++◌, append_assoc}
-use native.Mathlib.Omega.{arith}
-use lib.ListN.{length, length-append}
-use lib.Dec.{ltb, eqb}
+use Rattle.std.proofs.Common.{ℕ, zero, suc, ◌+◌, ◌*◌, ◌≤◌, ◌≡◌, refl, sym, ◌∙◌, ap, List, [], ◌∷◌, ◌++◌, append_assoc, arith, length, take, length-append, length-take-le, ltb, eqb}
 use Rattle.effbd.specs.Answers.{Outcome, accepted, refused}
 use Rattle.effbd.specs.BusEnds.{is_telegram, number_at, station_at}
 use Rattle.effbd.specs.History.{Call, offer, hand}
@@ -12,10 +7,13 @@ use Rattle.effbd.specs.Annex.{number, numbers, line, refused_letters}
 use Rattle.ends.specs.ReadyEnds.{leader_room, follower_room}
 use Rattle.ranges.specs.Tests.{decide}
 use Rattle.calls.specs.CallList.{call_of}
-use Rattle.calls.specs.LiveEnds.{Live, live_answer, live_after, Called}
+use Rattle.calls.specs.LiveEnds.{Live, live, live_answer, live_after, CallMade}
+use Rattle.calls.specs.declared.Line.{Line}
+use Rattle.calls.specs.declared.Ends.{Ends}
 use Rattle.calls.proofs.Turns.{live-is}
+use Rattle.text.specs.declared.Text.{Text}
 use Rattle.text.specs.Laid.{Laid}
-use Rattle.text.specs.LaidLaws.{and_then, same, laid-size}
+use Rattle.text.specs.LaidLaws.{and_then, same, laid-size, laid-length}
 use Rattle.text.specs.NumberLengths.{number_short}
 use Rattle.call_lines.specs.Lines.{move_text, bytes_text, call_text, reason, answer_text, fired_text, words_text, ends_text, spaces, gap, up_to, line_text, head_text, closing_text}
 
@@ -101,42 +99,53 @@ line-short call answer fired v =
     let a = length-append (up_to 70 x ++ ends_text v) (10 ∷ []) in let b = length-append (up_to 70 x) (ends_text v) in
     let c = column-short 70 x in let d = front-short call answer fired in let e = ends-short v in omega arith
 
+-- a text that fits its bytes is a part of them
+pub written-part : {a b : Text} {xs : List ℕ} → Laid a b xs → b.at ≤ length a.bytes.now → b.at ≡ length (take b.at b.bytes.now)
+written-part {b = b} w l = sym (length-take-le b.at b.bytes.now (omega (arith, laid-length w)))
+
 -- a line that shows the states of every diagram and every net fits 32,768 bytes
-pub line-fits : {a b : List ℕ} {n : ℕ} (call : Call) (answer fired : Outcome ℕ) (v : Live) → length v.leader ≤ leader_room → length v.follower ≤ follower_room
-    → Laid a 0 b n (line_text call answer fired v) → n ≤ 32768
-line-fits call answer fired v l f w = let s = line-short call answer fired v in let e = laid-size w (omega arith) in omega arith
+pub line-fits : {a b : Text} (call : Call) (answer fired : Outcome ℕ) (v : Live) → length v.leader ≤ leader_room → length v.follower ≤ follower_room
+    → a.at ≡ 0 → Laid a b (line_text call answer fired v) → b.at ≤ 32768
+line-fits call answer fired v l f z w = let s = line-short call answer fired v in let e = laid-size z w (omega arith) in omega arith
 
 -- the three columns of a line, one after the other
-pub line-laid : {a b c d : List ℕ} {n m k : ℕ} (call : Call) (answer fired : Outcome ℕ) (v : Live) → Laid a 0 b n (call_text call)
-    → Laid b n c m (spaces (gap n 34) ++ (answer_text answer ++ fired_text answer fired)) → Laid c m d k (spaces (gap m 70) ++ ends_text v ++ (10 ∷ []))
-    → Laid a 0 d k (line_text call answer fired v)
+pub line-laid : {a b c d : Text} (call : Call) (answer fired : Outcome ℕ) (v : Live) → a.at ≡ 0 → Laid a b (call_text call)
+    → Laid b c (spaces (gap b.at 34) ++ (answer_text answer ++ fired_text answer fired)) → Laid c d (spaces (gap c.at 70) ++ ends_text v ++ (10 ∷ []))
+    → Laid a d (line_text call answer fired v)
 unfolding line_text
-line-laid {n = n} {m = m} call answer fired v p q r =
-    let i = laid-size p (let s = call-short call in omega arith) in
-    let first : (call_text call) ++ (spaces (gap n 34) ++ (answer_text answer ++ fired_text answer fired)) ≡ front call answer fired =
+line-laid {b = b} {c = c} call answer fired v z p q r =
+    let i = laid-size z p (let s = call-short call in omega arith) in
+    let first : (call_text call) ++ (spaces (gap b.at 34) ++ (answer_text answer ++ fired_text answer fired)) ≡ front call answer fired =
     ap (λ (x : ℕ). call_text call ++ (spaces (gap x 34) ++ (answer_text answer ++ fired_text answer fired))) i ∙ simp append_assoc in
     let laid = same first (and_then p q) in
-    let j = laid-size laid (let s = front-short call answer fired in omega arith) in
+    let j = laid-size z laid (let s = front-short call answer fired in omega arith) in
     same (ap (λ (x : ℕ). front call answer fired ++ (spaces (gap x 70) ++ ends_text v ++ (10 ∷ []))) j ∙ simp append_assoc) (and_then laid r)
 
 -- the line of a call that was made
-module _ {file net : List ℕ} {station : ℕ} {v : Live} {call leader follower after : List ℕ} {answer : Outcome ℕ} {sent took : ℕ}
-    (c : Called file net station v call leader follower after answer sent took) where
-  pub line-played : {a b : List ℕ} {n : ℕ} {fired fires : Outcome ℕ} → fired ≡ fires → Laid a 0 b n (line_text (call_of call) answer fired (record { leader = leader; sent = sent; follower = follower; taken = took }))
-      → Laid a 0 b n (line_text (call_of call) (live_answer file net station v (call_of call)) fires (live_after file net station v (call_of call)))
-  line-played e w = same (rw (c.answer-is, e) (ap (line_text (call_of call) _ _) (live-is _ leader follower sent took c.leader-holds c.sent_is c.follower-holds c.taken_is))) w
+module _ {line : Line} {before after : Ends} {call call' : List ℕ} {answer : Outcome ℕ} (m : CallMade line before call after call' answer) where
+  pub line-played : {a b : Text} {fired fires : Outcome ℕ} → fired ≡ fires → Laid a b (line_text (call_of call) answer fired (live after))
+      → Laid a b (line_text (call_of call) (live_answer line.file.now line.net.now line.station (live before) (call_of call)) fires (live_after line.file.now line.net.now line.station (live before) (call_of call)))
+  line-played e w = let c = m.called in
+      same (rw (c.answer-is, e) (ap (line_text (call_of call) _ _) (live-is _ _ _ _ _ c.leader-holds c.sent_is c.follower-holds c.taken_is))) w
 
-  pub played-fits : {a b : List ℕ} {n : ℕ} (fires : Outcome ℕ) → length leader ≤ leader_room → length follower ≤ follower_room
-      → Laid a 0 b n (line_text (call_of call) (live_answer file net station v (call_of call)) fires (live_after file net station v (call_of call))) → n ≤ 32768
-  played-fits fires l f w = line-fits (call_of call) (live_answer file net station v (call_of call)) fires (live_after file net station v (call_of call))
-      (let e = ap length c.leader-holds in omega arith) (let e = ap length c.follower-holds in omega arith) w
+  played-fits : {a b : Text} (fires : Outcome ℕ) → length after.leader.now ≤ leader_room → length after.follower.now ≤ follower_room → a.at ≡ 0
+      → Laid a b (line_text (call_of call) (live_answer line.file.now line.net.now line.station (live before) (call_of call)) fires (live_after line.file.now line.net.now line.station (live before) (call_of call)))
+      → b.at ≤ 32768
+  played-fits fires l f z w = let c = m.called in
+      line-fits (call_of call) (live_answer line.file.now line.net.now line.station (live before) (call_of call)) fires (live_after line.file.now line.net.now line.station (live before) (call_of call))
+      (let e = ap length c.leader-holds in omega arith) (let e = ap length c.follower-holds in omega arith) z w
+
+  pub played-part : {a b : Text} (fires : Outcome ℕ) → length after.leader.now ≤ leader_room → length after.follower.now ≤ follower_room → a.at ≡ 0 → 32768 ≤ length a.bytes.now
+      → Laid a b (line_text (call_of call) (live_answer line.file.now line.net.now line.station (live before) (call_of call)) fires (live_after line.file.now line.net.now line.station (live before) (call_of call)))
+      → b.at ≡ length (take b.at b.bytes.now)
+  played-part fires l f z n w = let k = played-fits fires l f z w in written-part w (omega arith)
 
 -- the other lines
-pub head-fits : {a b : List ℕ} {n : ℕ} (bytes station leader follower : ℕ) → Laid a 0 b n (head_text bytes station leader follower) → n ≤ 128
+pub head-fits : {a b : Text} (bytes station leader follower : ℕ) → a.at ≡ 0 → Laid a b (head_text bytes station leader follower) → b.at ≤ 128
 unfolding head_text
-head-fits bytes station leader follower w =
+head-fits bytes station leader follower z w =
     let s : length (head_text bytes station leader follower) ≤ 128 = simp length-append (omega (arith, number_short bytes, number_short station, number_short leader, number_short follower)) in
-    let e = laid-size w (omega arith) in omega arith
+    let e = laid-size z w (omega arith) in omega arith
 
 closing-short : (sent taken : ℕ) → length (closing_text sent taken) ≤ 128
 unfolding closing_text
@@ -146,11 +155,11 @@ closing-short sent taken = decide (ltb taken sent)
     (λ f. rw f (simp length-append (omega (arith, number_short sent, number_short (taken + 1)))))))
     (λ e. rw e (omega arith))
 
-pub closing-fits : {a b : List ℕ} {n : ℕ} (sent taken : ℕ) → Laid a 0 b n (closing_text sent taken) → n ≤ 128
-closing-fits sent taken w = let s = closing-short sent taken in let e = laid-size w (omega arith) in omega arith
+pub closing-fits : {a b : Text} (sent taken : ℕ) → a.at ≡ 0 → Laid a b (closing_text sent taken) → b.at ≤ 128
+closing-fits sent taken z w = let s = closing-short sent taken in let e = laid-size z w (omega arith) in omega arith
 
-pub refusal-fits : {a b : List ℕ} {n : ℕ} (number value : ℕ) → Laid a 0 b n (line refused_letters (number ∷ value ∷ [])) → n ≤ 32
+pub refusal-fits : {a b : Text} (number value : ℕ) → a.at ≡ 0 → Laid a b (line refused_letters (number ∷ value ∷ [])) → b.at ≤ 32
 unfolding numbers
-refusal-fits n value w =
+refusal-fits n value z w =
     let s : length (line refused_letters (n ∷ value ∷ [])) ≤ 32 = simp length-append (omega (arith, number_short n, number_short value)) in
-    let e = laid-size w (omega arith) in omega arith
+    let e = laid-size z w (omega arith) in omega arith

@@ -1,16 +1,8 @@
 -- The text of what is called, as it is written: by the tests that lead to it, and piece by piece.
-use Prim.Native.Nat.{ℕ, ◌≤◌}
-use mathlib.Core.Path.{◌≡◌, sym, ◌∙◌, ap, ap₂}
-use mathlib.Core.Logic.{◌≢◌}
-use mathlib.Core.Bool.{Bool, true, false, cond}
-use mathlib.Core.List.{List, ◌++◌}
-use native.Mathlib.Omega.{arith}
-use lib.ListN.{length, drop, length-drop}
-use borrow.Author.Tests.{eq-eqb, ne_eqb}
+use Rattle.std.proofs.Common.{ℕ, ◌≡◌, ◌≢◌, sym, ◌∙◌, ap, ap₂, Bool, true, false, cond, List, ◌++◌, length, drop, eq-eqb, ne_eqb}
 use Rattle.effbd.specs.Records.{word, kind_at}
 use Rattle.effbd.specs.BusEnds.{is_telegram, number_at, station_at}
 use Rattle.effbd.specs.Annex.{number}
-use Rattle.effbd.specs.Moves.{most_word}
 use Rattle.calls.specs.CallList.{call_of}
 use Rattle.text.specs.Letters.{letters}
 use Rattle.call_lines.specs.Lines.{move_text, bytes_text, call_text}
@@ -37,6 +29,3 @@ module _ (call : List ℕ) (k : ℕ) (e : k ≡ kind_at call) where
   pub hand-text : k ≢ 1 → (bytes : List ℕ) → bytes ≡ drop 4 call → bytes_text bytes ≡ call_text (call_of call)
   unfolding call_of
   hand-text w bytes f = rw (ne_eqb (kind_at call) 1 (λ z. w (e ∙ z))) (ap bytes_text f)
-
-pub handed-few : (call bytes : List ℕ) → bytes ≡ drop 4 call → length call ≤ most_word → length bytes ≤ most_word
-handed-few call bytes e l = let x = ap length e ∙ length-drop 4 call in omega arith

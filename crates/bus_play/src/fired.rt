@@ -4,7 +4,14 @@ ghost use Rattle.effbd.specs.Answers.{said};
 ghost use Rattle.calls.specs.CallList.{call_of};
 ghost use Rattle.call_lines.specs.Lines.{offer_fires, hand_fires, call_fires};
 
-use effbd::{Answer, moves, refusals};
+use calls::{Ends, Line};
+use effbd::{Answer, Reason, Refusal, moves};
+
+// What is told where there is no step.
+const NO_STEP: Refusal = Refusal {
+    reason: Reason::CodeOff,
+    value: 0,
+};
 
 // Of an offer the leader's state tells it, for a FUNCTION.
 fn by_offer(file: &[u8], leader: &[u16], code: u16, argument: u16) -> Answer
@@ -13,7 +20,7 @@ fn by_offer(file: &[u8], leader: &[u16], code: u16, argument: u16) -> Answer
     if code == moves::STEP {
         return diagram_step::transition(file, leader, argument);
     }
-    Answer::Refused(refusals::CODE_OFF, 0)
+    Err(NO_STEP)
 }
 
 // Of a telegram the follower's state tells it, for every row.
@@ -23,21 +30,20 @@ fn by_telegram(net: &[u8], follower: &[u16], bytes: &[u8]) -> Answer
     if words::word(bytes, telegrams::CODE) == moves::STEP {
         return net_fires::transition(net, follower, words::word(bytes, telegrams::ARGUMENT));
     }
-    Answer::Refused(refusals::CODE_OFF, 0)
+    Err(NO_STEP)
 }
 
 // Of either call, as its record says.
-pub(crate) fn by_call(
-    file: &[u8],
-    net: &[u8],
-    leader: &[u16],
-    follower: &[u16],
-    call: &[u8],
-) -> Answer
-    ensures { said result ≡ call_fires file.now net.now leader.now follower.now (call_of call.now) }
+pub(crate) fn by_call(line: &Line, ends: &Ends, call: &[u8]) -> Answer
+    ensures { said result ≡ call_fires line.now.file.now line.now.net.now ends.now.leader.now ends.now.follower.now (call_of call.now) }
 {
     if words::word(call, 2) == calls::OFFER {
-        return by_offer(file, leader, words::word(call, 4), words::word(call, 6));
+        return by_offer(
+            line.file,
+            ends.leader,
+            words::word(call, 4),
+            words::word(call, 6),
+        );
     }
-    by_telegram(net, follower, words::tail(call, 4))
+    by_telegram(line.net, ends.follower, words::tail(call, 4))
 }

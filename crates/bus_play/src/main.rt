@@ -5,90 +5,71 @@
 mod fired;
 mod lines;
 
-ghost use Rattle.std.specs.Prelude.{◌≤◌, IfOk, length};
+ghost use Rattle.std.specs.Prelude.{◌≡◌, ◌≤◌, [], ◌∷◌, ◌++◌, IfOk, length};
 ghost use Rattle.effbd.specs.Answers.{said};
 ghost use Rattle.effbd.specs.Moves.{most_word};
 ghost use Rattle.ends.specs.ReadyEnds.{leader_room, follower_room};
 ghost use Rattle.calls.specs.CallList.{call_of};
-ghost use Rattle.calls.specs.LiveEnds.{live_answer, live_after, Called};
+ghost use Rattle.calls.specs.LiveEnds.{live, live_answer, live_after, CallMade, SameLent};
 ghost use Rattle.text.specs.Laid.{Laid};
-ghost use Rattle.call_lines.specs.Lines.{call_fires, line_text};
+ghost use Rattle.call_lines.specs.Lines.{call_fires, spaces, gap, ends_text, line_text};
 
-use calls::{CallResult, Counts};
-use effbd::Answer;
+use calls::{Counts, Ends, Line};
+use effbd::{Answer, Refusal};
 use ends::StateSizes;
 use std::env::FillError;
 use std::io::Read;
 use std::rt::{Env, Files};
 use std::{fs, io};
+use text::Text;
+
+// What is read and printed stands in buffers of a fixed size, with how much of each is used beside it: there is no heap.
 
 // The station of both ends.
 const STATION: u16 = 7;
 
-// A call that was made, and how long its line is.
-#[derive(Clone, Copy)]
-struct Shown {
-    result: CallResult,
-    size: usize,
-}
-
-// A list that was played: the counts after it, and how many bytes at its end are no call.
-#[derive(Clone, Copy)]
-struct Ended {
-    counts: Counts,
-    left_over: usize,
+// Both ends in their column.
+fn put_ends(text: &mut Text, ends: &Ends)
+    ensures { Laid text.old text.new (spaces (gap text.old.at 70) ++ ends_text (live ends.now) ++ (10 ∷ [])) }
+{
+    let leader: &[u16] = ends.leader;
+    let follower: &[u16] = ends.follower;
+    call_lines::put_ends_column(text, ends.counts, leader, follower);
 }
 
 // Makes one call and lays its line.
-fn play_call(
-    text: &mut [u8],
-    file: &[u8],
-    net: &[u8],
-    leader: &mut [u16],
-    follower: &mut [u16],
-    station: u16,
-    counts: Counts,
-    call: &mut [u8],
-) -> Shown
-    requires { length call.old ≤ most_word }
-    ensures called { Called file.now net.now station (record { leader = leader.old; sent = counts.sent; follower = follower.old; taken = counts.taken }) call.old leader.new follower.new call.new (said result.result.answer) result.result.counts.sent result.result.counts.taken }
-    ensures laid { Laid text.old 0 text.new result.size (line_text (call_of call.old) (live_answer file.now net.now station (record { leader = leader.old; sent = counts.sent; follower = follower.old; taken = counts.taken }) (call_of call.old)) (call_fires file.now net.now leader.old follower.old (call_of call.old)) (live_after file.now net.now station (record { leader = leader.old; sent = counts.sent; follower = follower.old; taken = counts.taken }) (call_of call.old))) }
+fn play_call(text: &mut Text, line: &Line, ends: &mut Ends, call: &mut [u8]) -> Answer
+    requires at_start { text.old.at ≡ 0 }
+    requires call_len_bound { length call.old ≤ most_word }
+    ensures made { CallMade line.now ends.old call.old ends.new call.new (said result) }
+    ensures laid { Laid text.old text.new (line_text (call_of call.old) (live_answer line.now.file.now line.now.net.now line.now.station (live ends.old) (call_of call.old)) (call_fires line.now.file.now line.now.net.now ends.old.leader.now ends.old.follower.now (call_of call.old)) (live_after line.now.file.now line.now.net.now line.now.station (live ends.old) (call_of call.old))) }
 {
-    let behind_call = lines::put_call(text, 0, call);
-    let fires = fired::by_call(file, net, leader, follower, call);
-    let result = calls::make_call(file, net, leader, follower, station, counts, call);
-    let answer = result.answer;
-    let behind_answer = call_lines::put_answer_column(text, behind_call, answer, fires);
-    let after = result.counts;
-    let size = call_lines::put_ends_column(text, behind_answer, after, leader, follower);
-    Shown {
-        result: result,
-        size: size,
-    }
+    lines::put_call(text, call);
+    let fires = fired::by_call(line, ends, call);
+    let answer = calls::make_call(line, ends, call);
+    call_lines::put_answer_column(text, answer, fires);
+    put_ends(text, ends);
+    answer
 }
 
 // Makes one call and prints its line.
-fn show_call(
-    rt: &impl Print,
-    file: &[u8],
-    net: &[u8],
-    leader: &mut [u16],
-    follower: &mut [u16],
-    station: u16,
-    counts: Counts,
-    call: &mut [u8],
-) -> io::Result<Counts>
-    requires leader_len_bound { length leader.old ≤ leader_room }
-    requires follower_len_bound { length follower.old ≤ follower_room }
+fn show_call(rt: &impl Print, line: &Line, ends: &mut Ends, call: &mut [u8]) -> io::Result<()>
+    requires leader_len_bound { length ends.old.leader.now ≤ leader_room }
+    requires follower_len_bound { length ends.old.follower.now ≤ follower_room }
     requires call_len_bound { length call.old ≤ most_word }
+    ensures same { SameLent ends.old ends.new }
+    ensures leader_kept { length ends.new.leader.now ≡ length ends.old.leader.now }
+    ensures follower_kept { length ends.new.follower.now ≡ length ends.old.follower.now }
 {
-    let mut text = [0u8; 32768];
-    let shown = play_call(
-        &mut text, file, net, leader, follower, station, counts, call,
-    );
-    let size = shown.size;
-    rt.write_all(&text[..size])?;
-    Ok(shown.result.counts)
+    let mut bytes = [0u8; 32768];
+    let mut text = Text {
+        bytes: &mut bytes,
+        at: 0,
+    };
+    // The line has the answer.
+    let _ = play_call(&mut text, line, ends, call);
+    let size = text.at;
+    rt.write_all(&text.bytes[..size])
 }
 
 // Reads the next record of a list, as far as the list goes; how many bytes were read.
@@ -108,80 +89,75 @@ fn read_record(list: &mut impl Read, call: &mut [u8]) -> io::Result<usize>
     Ok(4 + body)
 }
 
-// Makes the calls of a list in turn, until no whole call is left.
+// Makes the calls of a list in turn, until no whole call is left; how many bytes at its end are no call.
 fn show_calls(
     rt: &impl Print,
     list: &mut impl Read,
-    file: &[u8],
-    net: &[u8],
-    leader: &mut [u16],
-    follower: &mut [u16],
-    station: u16,
+    line: &Line,
+    ends: &mut Ends,
     call: &mut [u8],
-) -> io::Result<Ended>
-    requires leader_len_bound { length leader.old ≤ leader_room }
-    requires follower_len_bound { length follower.old ≤ follower_room }
+) -> io::Result<usize>
+    requires leader_len_bound { length ends.old.leader.now ≤ leader_room }
+    requires follower_len_bound { length ends.old.follower.now ≤ follower_room }
     requires most_word_in_bounds { most_word ≤ length call.old }
+    ensures { SameLent ends.old ends.new }
 {
-    let mut counts = Counts { sent: 0, taken: 0 };
     // A proved loop has to end, and nothing says that a file does: a number of calls that no list reaches.
     for _ in 0..u64::MAX {
         let read = read_record(list, call)?;
-        let size = calls::call_length(&call[0..read]);
-        if size == 0 {
-            return Ok(Ended {
-                counts: counts,
-                left_over: read,
-            });
-        }
-        counts = show_call(
-            rt,
-            file,
-            net,
-            leader,
-            follower,
-            station,
-            counts,
-            &mut call[0..size],
-        )?;
+        let Some(size) = calls::call_length(&call[..read]) else {
+            return Ok(read);
+        };
+        show_call(rt, line, ends, &mut call[..size])?;
     }
-    Ok(Ended {
-        counts: counts,
-        left_over: 0,
-    })
+    Ok(0)
 }
 
 // Prints what is played.
 fn show_head(rt: &impl Print, bytes: usize, station: u16, states: StateSizes) -> io::Result<()>
     requires { bytes ≤ 8192 }
 {
-    let mut text = [0u8; 128];
-    let size = call_lines::put_head(
+    let mut head = [0u8; 128];
+    let mut text = Text {
+        bytes: &mut head,
+        at: 0,
+    };
+    call_lines::put_head(
         &mut text,
         bytes as u32,
         station,
         states.leader,
         states.follower,
     );
-    rt.write_all(&text[..size])
+    let size = text.at;
+    rt.write_all(&text.bytes[..size])
 }
 
 // Prints a file's refusal, in the way of the annex.
-fn show_refusal(rt: &impl Print, number: u16, value: u32) -> io::Result<()> {
-    let mut text = [0u8; 32];
-    let size = text::put_line(&mut text, 0, b"refused", number as u32, value);
-    rt.write_all(&text[..size])
+fn show_refusal(rt: &impl Print, refusal: Refusal) -> io::Result<()> {
+    let mut line = [0u8; 32];
+    let mut text = Text {
+        bytes: &mut line,
+        at: 0,
+    };
+    text.put_line(b"refused", refusal.reason.number() as u32, refusal.value);
+    let size = text.at;
+    rt.write_all(&text.bytes[..size])
 }
 
 // Prints how the list ended.
-fn show_end(rt: &impl Print, ended: Ended) -> io::Result<()> {
-    if ended.left_over > 0 {
+fn show_end(rt: &impl Print, counts: Counts, left_over: usize) -> io::Result<()> {
+    if left_over > 0 {
         rt.write_all(b"here stands no whole call\n")?;
     }
-    let mut text = [0u8; 128];
-    let counts = ended.counts;
-    let size = call_lines::put_closing(&mut text, counts);
-    rt.write_all(&text[..size])
+    let mut line = [0u8; 128];
+    let mut text = Text {
+        bytes: &mut line,
+        at: 0,
+    };
+    call_lines::put_closing(&mut text, counts);
+    let size = text.at;
+    rt.write_all(&text.bytes[..size])
 }
 
 // Plays a list on a diagram's file, and prints it.
@@ -191,27 +167,25 @@ fn show_list(rt: &impl Print, list: &mut impl Read, file: &[u8], station: u16) -
     let mut net = [0u8; ends::NET_BYTES];
     let mut leader = [0u16; ends::LEADER_WORDS];
     let mut follower = [0u16; ends::FOLLOWER_WORDS];
-    let ready = ends::ready(file, &mut net, &mut leader, &mut follower);
-    let answer = ready.answer;
-    match answer {
-        Answer::Refused(number, value) => show_refusal(rt, number, value),
-        Answer::Accepted(_) => {
-            let states = ready.states;
-            show_head(rt, file.len(), station, states)?;
-            let mut call = [0u8; 65536];
-            let ended = show_calls(
-                rt,
-                list,
-                file,
-                &net[..ready.net as usize],
-                &mut leader[..states.leader as usize],
-                &mut follower[..states.follower as usize],
-                station,
-                &mut call,
-            )?;
-            show_end(rt, ended)
-        }
-    }
+    let ready = match ends::ready(file, &mut net, &mut leader, &mut follower) {
+        Ok(ready) => ready,
+        Err(refusal) => return show_refusal(rt, refusal),
+    };
+    let states = ready.states;
+    show_head(rt, file.len(), station, states)?;
+    let line = Line {
+        file,
+        net: &net[..ready.net as usize],
+        station,
+    };
+    let mut ends = Ends {
+        leader: &mut leader[..states.leader as usize],
+        follower: &mut follower[..states.follower as usize],
+        counts: Counts { sent: 0, taken: 0 },
+    };
+    let mut call = [0u8; 65536];
+    let left_over = show_calls(rt, list, &line, &mut ends, &mut call)?;
+    show_end(rt, ends.counts, left_over)
 }
 
 // Opens the file that an argument names; where that fails, nothing, and standard error says why.

@@ -1,69 +1,52 @@
 -- Each text of Lines, as it is written: by the tests that lead to it, and piece by piece.
-use Prim.Native.Nat.{ℕ, zero, suc, ◌+◌, ◌-◌, ◌≤◌, ◌<◌}
-use mathlib.Core.Path.{◌≡◌, sym, ◌∙◌, ap}
-use mathlib.Core.Logic.{◌≢◌}
-use mathlib.Core.List.{List, [], ◌∷◌, ◌++◌}
-use native.Mathlib.Numerals.{add-one}
-use native.Mathlib.Omega.{arith}
-use lib.ListN.{length, drop, get_or, drop_of_length-le}
-use lib.Seq.{drop-cons}
-use borrow.Author.Tests.{eq-eqb, ne_eqb, lt-ltb, le-ltb}
+use Rattle.std.proofs.Common.{ℕ, zero, suc, ◌+◌, ◌-◌, ◌≤◌, ◌<◌, ◌≡◌, ◌≢◌, refl, sym, ◌∙◌, ap, List, [], ◌∷◌, ◌++◌, append_assoc, append-nil, Result, Ok, Err, max, Bool, true, false, cond, ltb, ltb-true, ltb-false, length, take, get_or, arith, add-one, lt-ltb, le-ltb, eq-eqb, ne_eqb}
+use Rattle.std.proofs.Math.Seq.{take-suc}
+use Rattle.std.specs.Result.{is_ok}
+use Rattle.effbd.specs.declared.refusals.Refusal.{Refusal}
+use Rattle.effbd.specs.Answers.{Outcome, said}
 use Rattle.effbd.specs.Annex.{number}
 use Rattle.text.specs.Letters.{letters}
-use Rattle.text.specs.Laid.{Laid}
-use Rattle.text.specs.LaidLaws.{Ongoing, onward, done}
-use Rattle.call_lines.specs.Lines.{move_text, words_text, spaces, gap, closing_text}
+use Rattle.call_lines.specs.Lines.{transition_text, fired_text, words_text, spaces, gap, closing_text}
 
--- what is called
-module _ (code argument : ℕ) where
-  pub step-text : code ≡ 1 → letters "offer step" ++ number argument ≡ move_text code argument
-  unfolding move_text
-  step-text e = rw (eq-eqb code 1 e)
+-- spaces up to a column, one at least
+gap-by : (at column : ℕ) (b : Bool) → ltb at column ≡ b → max (column - at) 1 ≡ cond b (column - at) 1
+gap-by at column true e = let l = ltb-true at column e in omega arith
+gap-by at column false e = let l = ltb-false at column e in omega arith
 
-  pub wait-text : code ≢ 1 → code ≡ 2 → letters "offer wait" ++ number argument ≡ move_text code argument
-  unfolding move_text
-  wait-text w e = rw (ne_eqb code 1 w, eq-eqb code 2 e)
-
-  pub code-text : code ≢ 1 → code ≢ 2 → (letters "offer code" ++ number code) ++ (letters " argument" ++ number argument) ≡ move_text code argument
-  unfolding move_text
-  code-text w e = rw (ne_eqb code 1 w, ne_eqb code 2 e)
-
--- spaces up to a column
-pub wide-gap : (at column : ℕ) → at < column → column - at ≡ gap at column
+pub gap-is : (at column : ℕ) → max (column - at) 1 ≡ gap at column
 unfolding gap
-wide-gap at column l = rw (lt-ltb at column l)
+gap-is at column = gap-by at column (ltb at column) refl
 
-pub no_gap : (at column : ℕ) → column ≤ at → 1 ≡ gap at column
-unfolding gap
-no_gap at column l = rw (le-ltb at column l)
-
-one-space : (left : ℕ) → 0 < left → spaces left ≡ (32 ∷ []) ++ spaces (left - 1)
+-- spaces, one more each turn
+spaces-append : (n : ℕ) → spaces n ++ (32 ∷ []) ≡ spaces (suc n)
 unfolding spaces
-one-space zero l = absurd (omega arith)
-one-space (suc n) l = let e : n ≡ suc n - 1 = omega arith in ap (λ (k : ℕ). 32 ∷ spaces k) e
+spaces-append zero = refl
+spaces-append (suc n) = ap (λ (l : List ℕ). 32 ∷ l) (spaces-append n)
 
-pub spaces-turn : {a b c : List ℕ} {at n m : ℕ} {whole : List ℕ} (left : ℕ) → 0 < left
-    → Ongoing a at b n (spaces left) whole → Laid b n c m (32 ∷ []) → Ongoing a at c m (spaces (left - 1)) whole
-spaces-turn left l o v = onward (32 ∷ []) (spaces left) (spaces (left - 1)) (one-space left l) o v
+pub one-more : (n : ℕ) → spaces n ++ (32 ∷ []) ≡ spaces (n + 1)
+one-more n = spaces-append n ∙ ap spaces (sym (add-one n))
 
-pub spaces-done : {a b : List ℕ} {at n : ℕ} {whole : List ℕ} (left : ℕ) → left ≡ 0 → Ongoing a at b n (spaces left) whole → Laid a at b n whole
-unfolding spaces
-spaces-done left e o = done (ap spaces e) o
+-- what a call fires
+pub fires : (answer : Result ℕ Refusal) (fired : Outcome ℕ) → is_ok answer ≡ true → transition_text fired ≡ fired_text (said answer) fired
+fires (Ok count) fired e = refl
+fires (Err refusal) fired e = cc
+
+pub fires_none : (answer : Result ℕ Refusal) (fired : Outcome ℕ) → is_ok answer ≡ false → [] ≡ fired_text (said answer) fired
+fires_none (Ok count) fired e = cc
+fires_none (Err refusal) fired e = refl
 
 -- the words of a state
-pub words-turn : {a b c : List ℕ} {at n m : ℕ} (state : List ℕ) (i w : ℕ) → i < length state → w ≡ get_or state i 0
-    → Ongoing a at b n (words_text (drop i state)) (words_text state) → Laid b n c m (number w)
-    → Ongoing a at c m (words_text (drop (i + 1) state)) (words_text state)
+words-append : (xs ys : List ℕ) → words_text (xs ++ ys) ≡ words_text xs ++ words_text ys
 unfolding words_text
-words-turn state i w l e o v = onward (number w) (words_text (drop i state)) (words_text (drop (i + 1) state))
-    (ap words_text (drop-cons state i 0 l) ∙ (ap (λ (k : ℕ). number k ++ words_text (drop (suc i) state)) (sym e)
-    ∙ ap (λ (k : ℕ). number w ++ words_text (drop k state)) (sym (add-one i))))
-    o v
+words-append [] ys = refl
+words-append (x ∷ xs) ys = ap (λ (l : List ℕ). number x ++ l) (words-append xs ys) ∙ sym (append_assoc (number x) (words_text xs) (words_text ys))
 
-pub words-done : {a b : List ℕ} {at n : ℕ} (state : List ℕ) (i : ℕ) → length state ≤ i
-    → Ongoing a at b n (words_text (drop i state)) (words_text state) → Laid a at b n (words_text state)
+pub words_on : (state : List ℕ) (i : ℕ) → i < length state → words_text (take i state) ++ number (get_or state i 0) ≡ words_text (take (i + 1) state)
 unfolding words_text
-words-done state i l o = done (ap words_text (drop_of_length-le state l)) o
+words_on state i l =
+    let x = get_or state i 0 in
+    ap (λ (k : List ℕ). words_text (take i state) ++ k) (sym (append-nil (number x)))
+    ∙ (sym (words-append (take i state) (x ∷ [])) ∙ ap words_text (sym (take-suc state i 0 l) ∙ ap (λ (k : ℕ). take k state) (sym (add-one i))))
 
 -- what was lost
 module _ (sent taken : ℕ) where

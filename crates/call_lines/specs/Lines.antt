@@ -38,10 +38,14 @@ reason n =
     (cond (eqb n 32) (letters ": repeated or late")
     (cond (eqb n 33) (letters ": early") []))))))))))))
 
+-- number and value of a refusal
+abbrev pub refused_text : (n value : ℕ) → List ℕ
+refused_text n value = (letters "refused" ++ number n) ++ number value
+
 -- an accepted call with the new count, a refused one with number, value and reason
 abbrev pub answer_text : Outcome ℕ → List ℕ
 answer_text (accepted count) = letters "accepted: count" ++ number count
-answer_text (refused n value) = ((letters "refused" ++ number n) ++ number value) ++ reason n
+answer_text (refused n value) = refused_text n value ++ reason n
 
 -- which transition of the annex the step in a call fires, asked before it is made: of an offer the leader's state knows a FUNCTION's, of a telegram the
 -- follower's state knows every row's; 21 where there is no step

@@ -1,8 +1,8 @@
 -- One call made, an offer or a hand, from what the leader's and the follower's calls leave.
-use Prim.Native.Nat.{ℕ, ◌-◌, ◌≤◌}
+use Prim.Native.Nat.{ℕ, ◌-◌, ◌≤◌, min}
 use mathlib.Core.Path.{◌≡◌, refl, sym, ◌∙◌, ap}
 use mathlib.Core.Logic.{◌≢◌}
-use mathlib.Core.Bool.{cond}
+use Rattle.std.proofs.Math.Nat.{min-eq_left, min-eq_right}
 use mathlib.Core.List.{List, [], ◌++◌, append-nil}
 use native.Mathlib.Omega.{arith}
 use lib.ListN.{length, take, drop, drop_of_length-le, length-drop}
@@ -24,14 +24,14 @@ pub record AreaFrom (call : List ℕ) (from : ℕ) : Type 0 where
   pub head : take from call ≡ take 8 call
   pub area : drop from call ≡ drop 8 call
 
-pub area-from : (call : List ℕ) (from : ℕ) → from ≡ cond (ltb (length call) 8) (length call) 8 → AreaFrom call from
+pub area-from : (call : List ℕ) (from : ℕ) → from ≡ min (length call) 8 → AreaFrom call from
 area-from call from e = decide (ltb (length call) 8)
-    (λ t. let l = ltb-true (length call) 8 t in let f : from ≡ length call = e ∙ rw t refl in record {
+    (λ t. let l = ltb-true (length call) 8 t in let f : from ≡ length call = e ∙ min-eq_left {n = length call} {m = 8} (omega arith) in record {
       within = omega arith;
       head = ap (λ (n : ℕ). take n call) f ∙ (take_all (length call) call (omega arith) ∙ sym (take_all 8 call (omega arith)));
       area = ap (λ (n : ℕ). drop n call) f ∙ (drop_of_length-le call {i = length call} (omega arith) ∙ sym (drop_of_length-le call {i = 8} (omega arith)));
     })
-    (λ t. let l = ltb-false (length call) 8 t in let f : from ≡ 8 = e ∙ rw t refl in record {
+    (λ t. let l = ltb-false (length call) 8 t in let f : from ≡ 8 = e ∙ min-eq_right {n = 8} {m = length call} (omega arith) in record {
       within = omega arith;
       head = ap (λ (n : ℕ). take n call) f;
       area = ap (λ (n : ℕ). drop n call) f;

@@ -1,7 +1,7 @@
 -- One turn of the loop over a list of calls: the record at its start, lent alone, is the call that the rest of the list starts with.
 use Prim.Native.Nat.{ℕ, zero, suc, ◌+◌, ◌-◌, ◌≤◌, ◌<◌}
 use mathlib.Core.Path.{◌≡◌, refl, sym, ◌∙◌, ap, ap₂, subst}
-use mathlib.Core.Logic.{◌≢◌}
+use Rattle.std.specs.Prelude.{Some, None}
 use mathlib.Core.Bool.{true, false, cond, ◌&&◌}
 use mathlib.Core.List.{List, ◌++◌, append_assoc}
 use native.Mathlib.Omega.{arith}
@@ -39,12 +39,12 @@ sized rest is = record {
   within = leb-true (length_at rest) (length rest) (and_right (leb 4 (length rest)) _ (and_left (leb 4 (length rest) && leb (length_at rest) (length rest)) _ is));
 }
 
--- what `call_length` answers: 0 exactly where the list ends
-pub ends-here : (rest : List ℕ) (n : ℕ) → n ≡ cond (is_call rest) (length_at rest) 0 → n ≡ 0 → is_call rest ≡ false
-ends-here rest n e z = decide (is_call rest) (λ t. let s = sized rest t in let q : n ≡ length_at rest = e ∙ rw t refl in let l = s.least in absurd (omega arith)) (λ t. t)
+-- what `call_length` answers: none exactly where the list ends
+pub ends-here : (rest : List ℕ) → None ≡ cond (is_call rest) (Some (length_at rest)) None → is_call rest ≡ false
+ends-here rest e = decide (is_call rest) (λ t. let z : None ≡ Some (length_at rest) = e ∙ rw t in absurd (cc)) (λ t. t)
 
-pub goes_on : (rest : List ℕ) (n : ℕ) → n ≡ cond (is_call rest) (length_at rest) 0 → n ≢ 0 → (is_call rest ≡ true) × (n ≡ length_at rest)
-goes_on rest n e z = decide (is_call rest) (λ t. (t, e ∙ rw t refl)) (λ t. absurd (z (e ∙ rw t refl)))
+pub goes_on : (rest : List ℕ) (n : ℕ) → Some n ≡ cond (is_call rest) (Some (length_at rest)) None → (is_call rest ≡ true) × (n ≡ length_at rest)
+goes_on rest n e = decide (is_call rest) (λ t. (t, let z : Some n ≡ Some (length_at rest) = e ∙ rw t in cc)) (λ t. let z : Some n ≡ None = e ∙ rw t in absurd (cc))
 
 pub live-is : (w : Live) (l f : List ℕ) (s t : ℕ) → l ≡ w.leader → s ≡ w.sent → f ≡ w.follower → t ≡ w.taken → record { leader = l; sent = s; follower = f; taken = t } ≡ w
 live-is w l f s t a b c d = ap₂ (λ (x : List ℕ) (y : ℕ). record { leader = x; sent = y; follower = f; taken = t }) a b
@@ -69,19 +69,19 @@ front calls at n w is e = let s = sized (drop at calls) is in record {
 }
 
 pub found : (calls : List ℕ) (at n : ℕ) → at ≤ length calls
-    → n ≡ cond (is_call (take (length calls - at) (drop at calls))) (length_at (take (length calls - at) (drop at calls))) 0 → n ≢ 0 → Front calls at n
-found calls at n w e z = let g = goes_on (drop at calls) n (e ∙ ap (λ (l : List ℕ). cond (is_call l) (length_at l) 0) (tail-is at calls)) z in front calls at n w g.0 g.1
+    → Some n ≡ cond (is_call (take (length calls - at) (drop at calls))) (Some (length_at (take (length calls - at) (drop at calls)))) None → Front calls at n
+found calls at n w e = let g = goes_on (drop at calls) n (e ∙ ap (λ (l : List ℕ). cond (is_call l) (Some (length_at l)) None) (tail-is at calls)) in front calls at n w g.0 g.1
 
 module _ (file net : List ℕ) (station : ℕ) (v₀ : Live) (calls₀ : List ℕ) where
   pub all_made : (v : Live) (calls : List ℕ) → Made file net station v₀ calls₀ v calls
       → AllCalled file net station v₀ calls₀ v.leader v.follower calls v.sent v.taken
   all_made v calls m = record { live = sym m.live; list = sym m.list }
 
-  pub ended : (left at n : ℕ) (v : Live) (calls : List ℕ) → Making file net station v₀ calls₀ left at v calls
-      → n ≡ cond (is_call (take (length calls - at) (drop at calls))) (length_at (take (length calls - at) (drop at calls))) 0 → n ≡ 0
+  pub ended : (left at : ℕ) (v : Live) (calls : List ℕ) → Making file net station v₀ calls₀ left at v calls
+      → None ≡ cond (is_call (take (length calls - at) (drop at calls))) (Some (length_at (take (length calls - at) (drop at calls)))) None
       → AllCalled file net station v₀ calls₀ v.leader v.follower calls v.sent v.taken
-  ended left at n v calls m e z = all_made v calls (made-early file net station v₀ calls₀ left at v calls m
-      (ends-here (drop at calls) n (e ∙ ap (λ (l : List ℕ). cond (is_call l) (length_at l) 0) (tail-is at calls)) z))
+  ended left at v calls m e = all_made v calls (made-early file net station v₀ calls₀ left at v calls m
+      (ends-here (drop at calls) (e ∙ ap (λ (l : List ℕ). cond (is_call l) (Some (length_at l)) None) (tail-is at calls))))
 
   pub turned : (left at n : ℕ) (v : Live) (calls leader follower after : List ℕ) (answer : Outcome ℕ) (sent took : ℕ) → Making file net station v₀ calls₀ left at v calls → 0 < left
       → Front calls at n → Called file net station v (take n (drop at calls)) leader follower after answer sent took
@@ -107,7 +107,7 @@ module _ (file net : List ℕ) (station : ℕ) (v₀ : Live) (calls₀ : List �
       (ap (drop (at + length_at rest)) (sym grouped) ∙ (drop_at (take at calls ++ after) (drop n rest) (at + length_at rest) fr ∙ ap (λ (x : ℕ). drop x rest) f.size))))
 
   -- the same where the lent part's end is written as a sum
-  pub turned-lent : (left at n k : ℕ) (v : Live) (calls leader follower after : List ℕ) (answer : Outcome ℕ) (sent took : ℕ) → Making file net station v₀ calls₀ left at v calls → 0 < left
+  turned-lent : (left at n k : ℕ) (v : Live) (calls leader follower after : List ℕ) (answer : Outcome ℕ) (sent took : ℕ) → Making file net station v₀ calls₀ left at v calls → 0 < left
       → Front calls at n → k ≡ n → Called file net station v (take k (drop at calls)) leader follower after answer sent took
       → length after ≡ length (take k (drop at calls))
       → Making file net station v₀ calls₀ (left - 1) (at + n) (record { leader = leader; sent = sent; follower = follower; taken = took }) (take at calls ++ (after ++ drop k (drop at calls)))
@@ -116,3 +116,12 @@ module _ (file net : List ℕ) (station : ℕ) (v₀ : Live) (calls₀ : List �
       (turned left at n v calls leader follower after answer sent took m p f
       (subst (λ (x : ℕ). Called file net station v (take x (drop at calls)) leader follower after answer sent took) e c)
       (l ∙ (ap (λ (x : ℕ). length (take x (drop at calls))) e ∙ part-long calls at n f.fits)))
+
+  -- and where how many are left is written in another way
+  pub turned-next : (left at n k next : ℕ) (v : Live) (calls leader follower after : List ℕ) (answer : Outcome ℕ) (sent took : ℕ) → Making file net station v₀ calls₀ left at v calls → 0 < left
+      → Front calls at n → k ≡ n → Called file net station v (take k (drop at calls)) leader follower after answer sent took
+      → length after ≡ length (take k (drop at calls)) → next ≡ left - 1
+      → Making file net station v₀ calls₀ next (at + n) (record { leader = leader; sent = sent; follower = follower; taken = took }) (take at calls ++ (after ++ drop k (drop at calls)))
+  turned-next left at n k next v calls leader follower after answer sent took m p f e c l s =
+      subst (λ (x : ℕ). Making file net station v₀ calls₀ x (at + n) (record { leader = leader; sent = sent; follower = follower; taken = took }) (take at calls ++ (after ++ drop k (drop at calls)))) (sym s)
+      (turned-lent left at n k v calls leader follower after answer sent took m p f e c l)

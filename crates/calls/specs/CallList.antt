@@ -1,6 +1,6 @@
 -- A list of calls as bytes, one record a call: its length, its kind, its fields, as every record of document 01. Kind 1 offers a move: code, row or
 -- ticks, then the bytes of the area lent for the telegram; kind 2 hands the bytes that follow to the follower. Assumes nothing.
-use Rattle.std.specs.Prelude.{ℕ, zero, suc, Bool, cond, ◌&&◌, ◌||◌, List, [], ◌∷◌, ◌++◌, length, take, drop, leb, eqb}
+use Rattle.std.specs.Prelude.{ℕ, zero, suc, Option, Some, None, Bool, cond, ◌&&◌, ◌||◌, List, [], ◌∷◌, ◌++◌, length, take, drop, leb, eqb}
 use Rattle.effbd.specs.Records.{word, length_at, kind_at}
 use Rattle.effbd.specs.History.{Call, offer, hand, Seen}
 
@@ -8,6 +8,10 @@ use Rattle.effbd.specs.History.{Call, offer, hand, Seen}
 unfoldable pub is_call : List ℕ → Bool
 is_call rest = (leb 4 (length rest) && leb (length_at rest) (length rest))
     && ((eqb (kind_at rest) 1 && leb 8 (length_at rest)) || (eqb (kind_at rest) 2 && leb 4 (length_at rest)))
+
+-- how many bytes a call of a kind has at least, where it is a call's
+abbrev pub least_of : ℕ → Option ℕ
+least_of kind = cond (eqb kind 1) (Some 8) (cond (eqb kind 2) (Some 4) None)
 
 -- the bytes of that record
 abbrev pub record_at : List ℕ → List ℕ

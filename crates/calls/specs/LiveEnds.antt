@@ -3,6 +3,8 @@ use Rattle.std.specs.Prelude.{ℕ, ◌≡◌, List, [], ◌∷◌, length}
 use Rattle.effbd.specs.Answers.{Outcome, is_accepted, afterwards}
 use Rattle.effbd.specs.BusEnds.{offered, taken}
 use Rattle.effbd.specs.History.{Call, offer, hand, Seen}
+use Rattle.calls.specs.declared.Line.{Line}
+use Rattle.calls.specs.declared.Ends.{Ends}
 use Rattle.calls.specs.CallList.{call_of, calls_of, after_call, list_after}
 
 -- the memory of both ends: states and counts
@@ -49,3 +51,21 @@ pub record Called (file net : List ℕ) (station : ℕ) (v : Live) (call leader 
 pub record AllCalled (file net : List ℕ) (station : ℕ) (v : Live) (calls leader follower after : List ℕ) (sent took : ℕ) : Type 0 where
   pub live : record { leader = leader; sent = sent; follower = follower; taken = took } ≡ live_all file net station v (calls_of calls)
   pub list : after ≡ list_after (length calls) (live_seen_all file net station v (calls_of calls)) calls
+
+-- the memory that the ends lend
+abbrev pub live : Ends → Live
+live e = record { leader = e.leader.now; sent = e.counts.sent; follower = e.follower.now; taken = e.counts.taken }
+
+-- the ends lend the same memory as before
+pub record SameLent (before after : Ends) : Type 0 where
+  pub leader : after.leader.ghost_name ≡ before.leader.ghost_name
+  pub follower : after.follower.ghost_name ≡ before.follower.ghost_name
+
+-- one call was made, and all calls of a list, on these ends
+pub record CallMade (line : Line) (before : Ends) (call : List ℕ) (after : Ends) (call' : List ℕ) (answer : Outcome ℕ) : Type 0 where
+  pub called : Called line.file.now line.net.now line.station (live before) call after.leader.now after.follower.now call' answer after.counts.sent after.counts.taken
+  pub same : SameLent before after
+
+pub record CallsMade (line : Line) (before : Ends) (calls : List ℕ) (after : Ends) (calls' : List ℕ) : Type 0 where
+  pub called : AllCalled line.file.now line.net.now line.station (live before) calls after.leader.now after.follower.now calls' after.counts.sent after.counts.taken
+  pub same : SameLent before after

@@ -2,7 +2,7 @@
 use Prim.Native.Nat.{ℕ, ◌*◌, ◌≤◌, ◌<◌, zero-le}
 use mathlib.Core.Path.{◌≡◌, refl, sym, ◌∙◌, ap, subst}
 use mathlib.Core.Bool.{true, false}
-use mathlib.Core.List.{List, [], ◌++◌, append-nil}
+use mathlib.Core.List.{List}
 use native.Mathlib.Omega.{arith}
 use lib.ListN.{length, get_or, replicate, get_or-eq_default}
 use lib.Dec.{ltb}
@@ -128,7 +128,7 @@ module _ (file : List ℕ) (rows items : ℕ) (table : List ℕ) (bytes : are_by
   widened_is before next e l = record { is = e; long = l; of = λ z. subst (WidenedPlant file rows items table) (sym (e ∙ ap (copies_counted file rows items table) (z ∙ zeroed))) widened-by }
 
 -- how many copies there are
-pub total-is : (file : List ℕ) (rows items : ℕ) (table none next : List ℕ) (total : ℕ) → none ≡ zeros counted_total → next ≡ copies_counted file rows items table none → total ≡ copies_in (next ++ [])
+pub total-is : (file : List ℕ) (rows items : ℕ) (table none next : List ℕ) (total : ℕ) → none ≡ zeros counted_total → next ≡ copies_counted file rows items table none → total ≡ copies_in next
     → CopyTotal file rows items table total
 total-is file rows items table none next total z en e = record {
   is = is;
@@ -136,7 +136,7 @@ total-is file rows items table none next total z en e = record {
 }
   where
     is : total ≡ copies_in (copies_counted file rows items table (zeros counted_total))
-    is = e ∙ ap copies_in (append-nil next ∙ (en ∙ ap (copies_counted file rows items table) z))
+    is = e ∙ ap copies_in (en ∙ ap (copies_counted file rows items table) z)
 
 -- ---- no trigger, no copies
 module _ (file : List ℕ) (rows items : ℕ) (table : List ℕ) (h : HoldsFile file rows items table) (z : some_trigger_in table ≡ 0) where

@@ -1,10 +1,11 @@
 -- The turn of each loop, over plain variables.
 use Prim.Native.Nat.{ℕ, suc, ◌+◌, ◌-◌, ◌≤◌, ◌<◌}
 use mathlib.Core.Path.{◌≡◌, refl, sym, ◌∙◌, ap}
-use mathlib.Core.List.{List}
+use mathlib.Core.List.{List, ◌++◌}
 use native.Mathlib.Omega.{arith}
 use native.Mathlib.Numerals.{add-one}
-use lib.ListN.{length, drop, set}
+use lib.ListN.{length, drop, set, length-append, get_or-append}
+use Rattle.std.proofs.lemmas.List.{drop_at}
 use Rattle.effbd.specs.Records.{word}
 use Rattle.diagram_table.specs.Cells.{first_copy_cell, copies_cell, receivers_in, uses_of}
 use Rattle.diagram_table.proofs.UsesWalked.{uses-next, uses-over}
@@ -15,6 +16,15 @@ pub uses-turn : (at k much : ℕ) (rest more table next : List ℕ) → 6 ≤ le
     → uses_counted (at + 1) (uses_of more) next ≡ uses_counted at (uses_of rest) table
 unfolding uses_counted
 uses-turn at k much rest more table next h ek em en er = rw (en, er, ek, em, uses-next rest h)
+
+-- a use by its own six bytes, at the start of those that are left
+prefix-word : (one rest : List ℕ) (i : ℕ) → i + 1 < length one → word one i ≡ word (one ++ rest) i
+prefix-word one rest i h = sym (rw (get_or-append one rest 0 i (omega arith), get_or-append one rest 0 (suc i) (omega arith)))
+
+pub chunk-turn : (at k much : ℕ) (one rest whole table next : List ℕ) → whole ≡ one ++ rest → length one ≡ 6 → k ≡ word one 0 → much ≡ word one 2 → next ≡ use_counted at k much table
+    → uses_counted (at + 1) (uses_of rest) next ≡ uses_counted at (uses_of whole) table
+chunk-turn at k much one rest whole table next e h ek em en = rw e (uses-turn at k much (one ++ rest) rest table next (omega (arith, length-append one rest))
+    (ek ∙ prefix-word one rest 0 (omega arith)) (em ∙ prefix-word one rest 2 (omega arith)) en (sym (drop_at one rest 6 h)))
 
 pub uses-end : (at : ℕ) (rest table : List ℕ) → length rest < 6 → table ≡ uses_counted at (uses_of rest) table
 unfolding uses_counted

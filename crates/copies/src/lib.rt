@@ -13,27 +13,16 @@ use diagram_table::{
 };
 use effbd::limits::MOST_ITEMS;
 
-// The first `n` words of a list, or all that it has.
-fn front<'a>(list: &'a [u16], n: usize) -> &'a [u16]
-    ensures { result.now ≡ take n list.now }
-{
-    if n <= list.len() {
-        return &list[0..n];
-    }
-    &list[0..list.len()]
-}
-
 // A FUNCTION that takes `much` of an item receives it, where it is a trigger and `much` is not 0.
+#[tactic(auto, unfolding(crate::specs::Counting::receives_in))]
 fn receives(table: &[u16], item: u32, much: u16) -> bool
     ensures { result ≡ receives_in table.now item much }
 {
-    if diagram_table::cell(table, TRIGGER, item) == 0 {
-        return false;
-    }
-    much != 0
+    diagram_table::cell(table, TRIGGER, item) != 0 && much != 0
 }
 
 // A use, which takes `much` of an item: its rank, in cell `at`, and perhaps one receiver more.
+#[tactic(auto, unfolding(crate::specs::Counting::use_counted))]
 fn count_use(table: &mut [u16], at: usize, item: u32, much: u16)
     ensures { table.new ≡ use_counted at item much table.old }
 {
@@ -53,18 +42,15 @@ fn count_use(table: &mut [u16], at: usize, item: u32, much: u16)
 fn count_uses(table: &mut [u16], uses: &[u8], row: u32)
     ensures { table.new ≡ uses_counted (rank_cell row 0) (uses_of uses.now) table.old }
 {
-    let mut at: usize = RANK as usize + MOST_ITEMS as usize * row as usize;
-    let mut rest = uses;
-    while USE_SIZE <= rest.len() {
-        let item = words::word(rest, 0) as u32;
-        let much = words::word(rest, 2);
-        count_use(table, at, item, much);
-        at += 1;
-        let more = words::tail(rest, USE_SIZE);
-        rest = more;
+    let first = RANK as usize + MOST_ITEMS as usize * row as usize;
+    for (index, one) in uses.chunks_exact(USE_SIZE).enumerate() {
+        let item = words::word(one, 0) as u32;
+        let much = words::word(one, 2);
+        count_use(table, first + index, item, much);
     }
 }
 
+#[tactic(auto, unfolding(crate::specs::Counting::row_counted))]
 fn count_row(table: &mut [u16], file: &[u8], row: u32)
     ensures { table.new ≡ row_counted file.now row table.old }
 {
@@ -79,10 +65,8 @@ fn count_row(table: &mut [u16], file: &[u8], row: u32)
 fn count_rows(table: &mut [u16], file: &[u8], rows: u16)
     ensures { table.new ≡ rows_counted file.now rows table.old }
 {
-    let mut row: u32 = 0;
-    while row < rows as u32 {
+    for row in 0..rows as u32 {
         count_row(table, file, row);
-        row += 1;
     }
 }
 
@@ -91,8 +75,7 @@ fn number_copies(table: &mut [u16], items: u16)
     ensures { table.new ≡ copies_numbered items items 0 0 table.old }
 {
     let mut copies: u16 = 0;
-    let mut item: u32 = 0;
-    while item < items as u32 {
+    for item in 0..items as u32 {
         let receivers = diagram_table::cell(table, RECEIVERS, item);
         words::put(
             table,
@@ -100,16 +83,17 @@ fn number_copies(table: &mut [u16], items: u16)
             words::added(items, copies),
         );
         copies = words::added(copies, receivers);
-        item += 1;
     }
     words::put(table, COPIES as usize, copies);
 }
 
 // Fills a zeroed table: another one's records, and what follows from them of copies; ranks as far as it has cells for them.
+// Table, rows, items and file, and no Plant: a Diagram's rows and items are numbers of 16 bits, and copies are numbered in such.
+#[tactic(auto, unfolding(crate::specs::Counting::copies_counted))]
 fn count_copies(wide: &mut [u16], table: &[u16], rows: u16, items: u16, file: &[u8])
     ensures { wide.new ≡ copies_counted file.now rows items table.now wide.old }
 {
-    words::copy(wide, front(table, SOME_TRIGGER as usize));
+    words::copy(wide, words::front(table, SOME_TRIGGER as usize));
     words::put(wide, SOME_TRIGGER as usize, 1);
     count_rows(wide, file, rows);
     number_copies(wide, items);
@@ -128,6 +112,6 @@ pub fn copy_total(table: &[u16], rows: u16, items: u16, file: &[u8]) -> u16
     ensures { CopyTotal file.now rows items table.now result }
 {
     let mut cells = [0u16; COUNTED];
-    count_copies(&mut cells[0..COUNTED], table, rows, items, file);
+    count_copies(&mut cells, table, rows, items, file);
     diagram_table::cell(&cells, COPIES, 0)
 }

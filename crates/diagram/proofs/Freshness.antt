@@ -3,7 +3,7 @@ use Prim.Native.Nat.{ℕ, zero, suc, ◌+◌, ◌-◌, ◌*◌, ◌/◌, ◌%◌
 use mathlib.Core.Path.{◌≡◌, refl, sym, ◌∙◌, ap, subst}
 use mathlib.Core.Logic.{◌≢◌}
 use mathlib.Core.Bool.{Bool, true, false, cond, ◌&&◌}
-use mathlib.Core.List.{List, [], ◌∷◌, ◌++◌, append-nil}
+use mathlib.Core.List.{List, [], ◌∷◌}
 use native.Mathlib.Omega.{arith}
 use lib.ListN.{length, get_or, set, length-set}
 use lib.Seq.{get_or-set_same, get_or-set_other}
@@ -181,11 +181,11 @@ module _ (d : Diagram) (acc : nested d ≡ accepted d) (some : 0 < row_count d) 
         }
 
 pub fresh-is : (rows items : ℕ) (table zeros state : List ℕ) → state ≡ fresh_put rows items table zeros → length zeros ≡ plain_places → all_zero zeros ≡ true → zeros ≡ tabulate plain_places (λ i. 0)
-    → Freshened rows items table (state ++ [])
+    → Freshened rows items table state
 fresh-is rows items table zeros state es n e z = record {
-  is = append-nil state ∙ (es ∙ ap (fresh_put rows items table) z);
-  of = λ d h. subst (FreshFront d) (sym (append-nil state ∙ es)) (fresh-front d h.nests (some d h) rows items table zeros h n e);
-  behind = λ d h i l. subst (λ (x : List ℕ). get_or x i 0 ≡ 0) (sym (append-nil state ∙ es)) (put-behind d h.nests (some d h) rows items table zeros h n e i l);
+  is = es ∙ ap (fresh_put rows items table) z;
+  of = λ d h. subst (FreshFront d) (sym es) (fresh-front d h.nests (some d h) rows items table zeros h n e);
+  behind = λ d h i l. subst (λ (x : List ℕ). get_or x i 0 ≡ 0) (sym es) (put-behind d h.nests (some d h) rows items table zeros h n e i l);
 }
   where
     some : (d : Diagram) → Holds d rows items table → 0 < row_count d

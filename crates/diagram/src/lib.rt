@@ -7,12 +7,9 @@ ghost use Rattle.diagram.specs.FreshWords.{fresh_put, Freshened};
 use diagram_table::CELLS;
 use effbd::limits::{MOST_ITEMS, MOST_ROWS, PLAIN_PLACES};
 
-// A diagram file: number 0 and the diagram, or the refusal's number and value.
-// Crate diagram_table has the table's layout.
+// A diagram: how many rows and items it has, and the table of its rows and items. Crate diagram_table has the table's layout.
 #[derive(Clone, Copy)]
 pub struct Diagram {
-    pub number: u16,
-    pub value: u32,
     pub rows: u16,
     pub items: u16,
     pub table: [u16; CELLS],
@@ -30,29 +27,23 @@ impl Diagram {
         ensures { Freshened self.rows self.items self.table result }
     {
         let mut state = [0u16; PLAIN_PLACES as usize];
-        put_fresh(
-            &mut state[0..PLAIN_PLACES as usize],
-            self.rows,
-            self.items,
-            &self.table,
-        );
+        put_fresh(&mut state, self.rows, self.items, &self.table);
         state
     }
 }
 
 // Row 0 is ready, the counts are the initial ones; a trigger's shared count is 0.
+#[tactic(auto, unfolding(crate::specs::FreshWords::fresh_put))]
 fn put_fresh(state: &mut [u16], rows: u16, items: u16, table: &[u16])
     ensures { state.new ≡ fresh_put rows items table.now state.old }
 {
     words::put(state, 0, 1);
     let first = 3 * rows as usize;
-    let mut item: usize = 0;
-    while item < items as usize {
+    for item in 0..items as u32 {
         words::put(
             state,
-            first + item,
-            table_counts::shared_count(table, item as u32),
+            first + item as usize,
+            table_counts::shared_count(table, item),
         );
-        item += 1;
     }
 }

@@ -16,7 +16,7 @@ pub fn set_row(state: &mut [u16], row: u32, activity: u16)
 }
 
 // All BRANCH rows of an AND, the last of which is `last`, get an activity: each has the one before it for the branch that it ends, the first
-// itself.
+// itself. By hand: over `diagram_table::Branches` a kill took up to 1.3 times as long.
 pub fn set_branches(table: &[u16], state: &mut [u16], last: u32, activity: u16)
     ensures { state.new ≡ branches_set table.now activity last state.old }
 {

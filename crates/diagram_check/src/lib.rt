@@ -4,35 +4,34 @@
 ghost use Rattle.std.specs.Prelude.{◌≡◌, ◌&&◌, ◌+◌, ◌*◌, eqb, length};
 ghost use Rattle.diagram_moves.specs.Decisions.{activity_allowed, turns_allowed, clock_allowed, row_allowed, count_allowed, shared_allowed, state_allowed};
 ghost use Rattle.effbd.specs.Ranges.{all_below};
+ghost use Rattle.diagram_table.specs.Cells.{kind_in, owner_in};
 
 use diagram_state::cells;
-use diagram_table::{FIRST, OWNER, SECOND, SOME_TRIGGER, TRIGGER};
+use diagram_table::{FIRST, OWNER, Plant, SECOND, SOME_TRIGGER, TRIGGER};
 
 // The activities that the kind of a row has.
+#[tactic(auto, unfolding(diagram_moves::specs::Decisions::activity_allowed))]
 fn activity_allowed(table: &[u16], row: u32, activity: u16) -> bool
     ensures { result ≡ activity_allowed table.now row activity }
 {
-    let kind = diagram_table::kind(table, row);
-    if kind == kinds::FUNCTION {
-        return activity <= 2;
+    match diagram_table::kind(table, row) {
+        kinds::FUNCTION => activity <= 2,
+        kinds::BRANCH => activity == 0 || (activity == 3 && in_and(table, row)),
+        kinds::AND_CLOSE => activity == 0,
+        _ => activity <= 1,
     }
-    if kind == kinds::BRANCH {
-        if activity == 0 {
-            return true;
-        }
-        let owner = diagram_table::cell(table, OWNER, row);
-        if diagram_table::kind(table, owner as u32) == kinds::AND_OPEN {
-            return activity == 3;
-        }
-        return false;
-    }
-    if kind == kinds::AND_CLOSE {
-        return activity == 0;
-    }
-    activity <= 1
+}
+
+// A BRANCH is one of an AND.
+fn in_and(table: &[u16], row: u32) -> bool
+    ensures { result ≡ eqb (kind_in table.now (owner_in table.now row)) 17 }
+{
+    let owner = diagram_table::cell(table, OWNER, row) as u32;
+    diagram_table::kind(table, owner) == kinds::AND_OPEN
 }
 
 // The turns of an IT open are at most its count; no other row has turns.
+#[tactic(auto, unfolding(diagram_moves::specs::Decisions::turns_allowed))]
 fn turns_allowed(table: &[u16], row: u32, turns: u16) -> bool
     ensures { result ≡ turns_allowed table.now row turns }
 {
@@ -43,6 +42,7 @@ fn turns_allowed(table: &[u16], row: u32, turns: u16) -> bool
 }
 
 // The clock of a running row is at most its β; no other row has a clock. Of an EXIT the cell is no β, but its activity is never 2.
+#[tactic(auto, unfolding(diagram_moves::specs::Decisions::clock_allowed))]
 fn clock_allowed(table: &[u16], row: u32, activity: u16, clock: u16) -> bool
     ensures { result ≡ clock_allowed table.now row activity clock }
 {
@@ -56,37 +56,32 @@ fn clock_allowed(table: &[u16], row: u32, activity: u16, clock: u16) -> bool
 fn rests(activity: u16, turns: u16, clock: u16) -> bool
     ensures { result ≡ (eqb activity 0 && (eqb turns 0 && eqb clock 0)) }
 {
-    activity == 0 && (turns == 0 && clock == 0)
+    activity == 0 && turns == 0 && clock == 0
 }
 
 // Most rows of a plant rest, and a resting row passes whatever its kind.
+#[tactic(auto, unfolding(diagram_moves::specs::Decisions::row_allowed))]
 fn row_allowed(table: &[u16], state: &[u16], row: u32) -> bool
     ensures { result ≡ row_allowed table.now state.now row }
 {
     let activity = cells::activity(state, row);
     let turns = cells::turns(state, row);
     let clock = cells::clock(state, row);
-    if rests(activity, turns, clock) {
-        return true;
-    }
-    if !activity_allowed(table, row, activity) {
-        return false;
-    }
-    if !turns_allowed(table, row, turns) {
-        return false;
-    }
-    clock_allowed(table, row, activity, clock)
+    rests(activity, turns, clock)
+        || (activity_allowed(table, row, activity)
+            && turns_allowed(table, row, turns)
+            && clock_allowed(table, row, activity, clock))
 }
 
-// A state has three words for each row and one for each count, and every row passes.
-pub fn rows_allowed(table: &[u16], rows: u32, counts: u32, state: &[u16]) -> bool
-    ensures { result ≡ (eqb (length state.now) (3 * rows + counts) && all_below rows (row_allowed table.now state.now)) }
+// A state has three words for each row and one for each count, and every row passes. A loop: `all` took twice as long.
+pub fn rows_allowed(plant: &Plant, counts: u32, state: &[u16]) -> bool
+    ensures { result ≡ (eqb (length state.now) (3 * plant.now.rows + counts) && all_below plant.now.rows (row_allowed plant.now.table.now state.now)) }
 {
-    if state.len() != 3 * rows as usize + counts as usize {
+    if state.len() != 3 * plant.rows as usize + counts as usize {
         return false;
     }
-    for row in 0..rows {
-        if !row_allowed(table, state, row) {
+    for row in 0..plant.rows {
+        if !row_allowed(plant.table, state, row) {
             return false;
         }
     }
@@ -94,24 +89,22 @@ pub fn rows_allowed(table: &[u16], rows: u32, counts: u32, state: &[u16]) -> boo
 }
 
 // The shared count of a trigger is 0.
-fn count_allowed(table: &[u16], rows: u32, state: &[u16], item: u32) -> bool
-    ensures { result ≡ count_allowed table.now rows state.now item }
+#[tactic(auto, unfolding(diagram_moves::specs::Decisions::count_allowed))]
+fn count_allowed(plant: &Plant, state: &[u16], item: u32) -> bool
+    ensures { result ≡ count_allowed plant.now.table.now plant.now.rows state.now item }
 {
-    if diagram_table::cell(table, TRIGGER, item) == 0 {
-        return true;
-    }
-    cells::count(state, rows, item, 0) == 0
+    plant.cell(TRIGGER, item) == 0 || cells::count(state, plant.rows, item, 0) == 0
 }
 
 // A plant without triggers has no such count to look at.
-fn shared_allowed(table: &[u16], rows: u32, items: u32, state: &[u16]) -> bool
-    ensures { result ≡ shared_allowed table.now rows items state.now }
+fn shared_allowed(plant: &Plant, state: &[u16]) -> bool
+    ensures { result ≡ shared_allowed plant.now.table.now plant.now.rows plant.now.items state.now }
 {
-    if diagram_table::cell(table, SOME_TRIGGER, 0) == 0 {
+    if plant.cell(SOME_TRIGGER, 0) == 0 {
         return true;
     }
-    for item in 0..items {
-        if !count_allowed(table, rows, state, item) {
+    for item in 0..plant.items {
+        if !count_allowed(plant, state, item) {
             return false;
         }
     }
@@ -119,11 +112,9 @@ fn shared_allowed(table: &[u16], rows: u32, items: u32, state: &[u16]) -> bool
 }
 
 // The check of a state that has so many counts: its rows, then the shared counts of its triggers.
-pub fn state_allowed(table: &[u16], rows: u32, items: u32, counts: u32, state: &[u16]) -> bool
-    ensures { result ≡ state_allowed table.now rows items counts state.now }
+#[tactic(auto, unfolding(diagram_moves::specs::Decisions::state_allowed))]
+pub fn state_allowed(plant: &Plant, counts: u32, state: &[u16]) -> bool
+    ensures { result ≡ state_allowed plant.now.table.now plant.now.rows plant.now.items counts state.now }
 {
-    if !rows_allowed(table, rows, counts, state) {
-        return false;
-    }
-    shared_allowed(table, rows, items, state)
+    rows_allowed(plant, counts, state) && shared_allowed(plant, state)
 }

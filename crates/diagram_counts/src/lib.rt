@@ -9,22 +9,22 @@ ghost use Rattle.diagram_moves.specs.Decisions.{count_place};
 ghost use Rattle.diagram_moves.specs.Changes.{count_turn, use_changed, counts_changed, tick_turn, fold};
 
 use diagram_state::cells;
-use diagram_table::USE_SIZE;
+use diagram_table::{Plant, USE_SIZE, USES_NUMBER};
 
 // A count after a give or a take; a difference stops at 0.
+#[tactic(auto, unfolding(diagram_moves::specs::Decisions::changed))]
 fn changed(giving: bool, count: u16, amount: u16) -> u16
     ensures { result ≡ changing giving count amount }
 {
     if giving {
-        return words::added(count, amount);
+        words::added(count, amount)
+    } else {
+        count.saturating_sub(amount)
     }
-    if amount <= count {
-        return count - amount;
-    }
-    0
 }
 
 // Count number `index` from count `first` on, after a take or a give.
+#[tactic(auto, unfolding(diagram_moves::specs::Changes::count_turn))]
 fn change_count(state: &mut [u16], rows: u32, first: u32, index: u32, giving: bool, amount: u16)
     ensures { state.new ≡ count_turn giving rows first amount index state.old }
 {
@@ -36,7 +36,8 @@ fn change_count(state: &mut [u16], rows: u32, first: u32, index: u32, giving: bo
     );
 }
 
-// The same of a count that is known to stand.
+// The same of a count that is known to stand: beside `change_count`, so that a run of counts is asked once whether it stands.
+#[tactic(auto, unfolding(diagram_moves::specs::Changes::count_turn))]
 fn change_known(state: &mut [u16], rows: u32, first: u32, index: u32, giving: bool, amount: u16)
     requires { count_place rows (first + index) < long state.old }
     ensures { state.new ≡ count_turn giving rows first amount index state.old }
@@ -56,7 +57,9 @@ fn change_run(state: &mut [u16], rows: u32, first: u32, length: u32, giving: boo
     }
 }
 
-// Use `index` of a row: where its amount is 0 no count is touched.
+// Use `index` of a row: where its amount is 0 no count is touched. Table and rows by themselves, and below uses by tails: with a plant by
+// reference, or by chunks, the end of a FUNCTION took up to 1.4 times as long.
+#[tactic(auto, unfolding(diagram_moves::specs::Changes::use_changed))]
 fn change_use(
     table: &[u16],
     rows: u32,
@@ -91,27 +94,25 @@ fn change_uses(uses: &[u8], table: &[u16], rows: u32, state: &mut [u16], row: u3
         let item = words::word(rest, 0) as u32;
         let amount = diagram_uses::amount(rest, giving);
         change_use(table, rows, state, row, index, item, giving, amount);
-        let more = words::tail(rest, USE_SIZE);
-        rest = more;
+        rest = words::tail(rest, USE_SIZE);
         index += 1;
     }
 }
 
-// The same for the uses of a row, as the very bytes of the file.
-pub fn change_counts(
-    table: &[u16],
-    rows: u32,
-    file: &[u8],
-    state: &mut [u16],
-    row: u32,
-    giving: bool,
-)
-    ensures { state.new ≡ counts_changed table.now giving rows row 0 (uses_in table.now file.now row) state.old }
+// The same for the uses of a row, as the very bytes of the file. Two calls: each way gets a loop of its own, without a test of the way at each use.
+pub fn change_counts(plant: &Plant, state: &mut [u16], row: u32, giving: bool)
+    ensures { state.new ≡ counts_changed plant.now.table.now giving plant.now.rows row 0 (uses_in plant.now.table.now plant.now.file.now row) state.old }
 {
-    let uses = diagram_table::uses(file, table, row);
-    change_uses(uses, table, rows, state, row, giving);
+    let number = plant.cell(USES_NUMBER, row) as usize;
+    let uses = words::front(plant.uses(row), USE_SIZE * number);
+    if giving {
+        change_uses(uses, plant.table, plant.rows, state, row, true);
+    } else {
+        change_uses(uses, plant.table, plant.rows, state, row, false);
+    }
 }
 
+#[tactic(auto, unfolding(diagram_moves::specs::Changes::tick_turn))]
 fn tick_row(state: &mut [u16], ticks: u16, row: u32)
     ensures { state.new ≡ tick_turn ticks row state.old }
 {
@@ -125,9 +126,9 @@ fn tick_row(state: &mut [u16], ticks: u16, row: u32)
 pub fn pass_ticks(state: &mut [u16], rows: u32, ticks: u16)
     ensures { state.new ≡ fold rows (tick_turn ticks) state.old }
 {
-    let mut row = cells::next_busy(state, 0, rows);
-    while row < rows {
+    let mut from = 0;
+    while let Some(row) = cells::next_busy(state, from, rows) {
         tick_row(state, ticks, row);
-        row = cells::next_busy(state, row + 1, rows);
+        from = row + 1;
     }
 }

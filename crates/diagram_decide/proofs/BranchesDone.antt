@@ -1,44 +1,30 @@
--- The BRANCH rows of an AND are looked at from the last one back: what is left to ask at each turn.
-use Prim.Native.Nat.{ℕ, zero, suc, ◌+◌, ◌≤◌, ◌<◌}
-use mathlib.Core.Path.{◌≡◌}
-use mathlib.Core.Logic.{◌≢◌}
-use mathlib.Core.Bool.{Bool, true, false, cond}
-use mathlib.Core.List.{List}
-use native.Mathlib.Omega.{arith}
-use lib.ListN.{get_or}
-use lib.Dec.{ltb}
-use borrow.Author.Tests.{lt-ltb, le-ltb, eq-eqb, ne_eqb}
+-- All BRANCH rows of an AND are done: a test of each on the walk back from the last one.
+use Rattle.std.specs.Prelude.{ℕ, zero, suc, ◌≡◌, ◌≢◌, Bool, true, false, cond, ◌&&◌, List, [], ◌∷◌, get_or, ltb, eqb}
+use Rattle.std.specs.List.{list_all}
+use Rattle.std.proofs.Common.{refl, ap}
+use borrow.Author.Tests.{eq-eqb, ne_eqb}
 use Rattle.effbd.specs.States.{activity_at}
 use Rattle.diagram_table.specs.Cells.{branch_in}
-use Rattle.diagram_moves.specs.Decisions.{done_back, branches_done}
+use Rattle.diagram_table.specs.Branches.{branch_rows}
+use Rattle.diagram_moves.specs.Decisions.{done_back}
 
 module _ (table state : List ℕ) where
-  -- row `row` is due, and what is found from there on is the answer
-  pub record Asking (whole : Bool) (row : ℕ) : Type 0 where
-    pub turns : ℕ
-    pub enough : row ≤ turns
-    pub same : done_back table state (suc turns) row ≡ whole
+  abbrev pub done : ℕ → Bool
+  done q = eqb (get_or state (activity_at q) 0) 3
 
-  pub ask-start : (last : ℕ) → Asking (branches_done table state last) last
-  unfolding branches_done
-  ask-start last = record { turns = last; enough = omega arith; same = let e : suc last ≡ last + 1 = omega arith in rw e }
+  pub done-is : (n b : ℕ) → list_all done (branch_rows table n b) ≡ done_back table state n b
+  unfolding branch_rows done_back
+  done-is zero b = refl
+  done-is (suc n) b = ap (λ (x : Bool). done b && x) (go (done-is n (branch_in table b)) (ltb (branch_in table b) b))
+    where
+      go : list_all done (branch_rows table n (branch_in table b)) ≡ done_back table state n (branch_in table b)
+          → (t : Bool) → list_all done (cond t (branch_rows table n (branch_in table b)) []) ≡ cond t (done_back table state n (branch_in table b)) true
+      go e true = e
+      go e false = refl
 
-  module _ {whole : Bool} {row : ℕ} (w : Asking whole row) (activity : ℕ) (a : activity ≡ get_or state (activity_at row) 0) where
-    pub ask-fails : activity ≢ 3 → false ≡ whole
-    unfolding done_back
-    ask-fails n = rw (← a, ne_eqb activity 3 n) at w.same
+  -- the row that is next is not done, or is
+  pub row-not : (left more : List ℕ) (row activity : ℕ) (whole : Bool) → left ≡ row ∷ more → activity ≡ get_or state (activity_at row) 0 → activity ≢ 3 → list_all done left ≡ whole → false ≡ whole
+  row-not left more row activity whole l a n e = rw (l, ← a, ne_eqb activity 3 n) at e
 
-    module _ (before : ℕ) (b : before ≡ branch_in table row) (e : activity ≡ 3) where
-      left : cond (ltb before row) (done_back table state w.turns before) true ≡ whole
-      unfolding done_back
-      left = rw (← a, eq-eqb activity 3 e, ← b) at w.same
-
-      pub ask-ends : row ≤ before → true ≡ whole
-      ask-ends l = rw (le-ltb before row l) at left
-
-      pub ask-on : before < row → Asking whole before
-      ask-on l = go w.turns w.enough (rw (lt-ltb before row l) at left)
-        where
-          go : (n : ℕ) → row ≤ n → done_back table state n before ≡ whole → Asking whole before
-          go zero m h = absurd (omega arith)
-          go (suc n) m h = record { turns = n; enough = omega arith; same = h }
+  pub row-done : (left more : List ℕ) (row activity : ℕ) (whole : Bool) → left ≡ row ∷ more → activity ≡ get_or state (activity_at row) 0 → activity ≡ 3 → list_all done left ≡ whole → list_all done more ≡ whole
+  row-done left more row activity whole l a n e = rw (l, ← a, eq-eqb activity 3 n) at e

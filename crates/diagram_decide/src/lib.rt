@@ -6,7 +6,8 @@ ghost use Rattle.std.specs.Prelude.{◌≡◌};
 ghost use Rattle.effbd.specs.Answers.{said};
 ghost use Rattle.diagram_moves.specs.Decisions.{move_verdict};
 
-use effbd::{Answer, moves, refusals};
+use diagram_table::Plant;
+use effbd::{Answer, Reason, Refusal, moves};
 
 mod steps;
 mod waits;
@@ -14,26 +15,16 @@ mod waits;
 // What a move of a state is told, with nothing written: 21 to 26, or accepted. The state is taken as it is: refusal 20 is crate diagram_check's. Of the
 // table that crate diagram_file makes of an accepted file, and a state that passes, this is document 01's outcome (theorem `made-is` of
 // crate diagram_moves).
-pub fn decide(
-    table: &[u16],
-    rows: u32,
-    items: u32,
-    file: &[u8],
-    state: &[u16],
-    code: u16,
-    argument: u16,
-) -> Answer
-    ensures { said result ≡ move_verdict table.now rows items file.now state.now code argument }
+#[tactic(auto, unfolding(diagram_moves::specs::Decisions::move_verdict))]
+pub fn decide(plant: &Plant, state: &[u16], code: u16, argument: u16) -> Answer
+    ensures { said result ≡ move_verdict plant.now.table.now plant.now.rows plant.now.items plant.now.file.now state.now code argument }
 {
-    if code == moves::STEP {
-        let row = argument as u32;
-        if row < rows {
-            return steps::row_step(table, rows, items, file, state, row);
-        }
-        return Answer::Refused(refusals::NOT_STANDING, row);
+    match code {
+        moves::STEP => steps::step(plant, state, argument as u32),
+        moves::WAIT => waits::wait(plant, state, argument),
+        _ => Err(Refusal {
+            reason: Reason::CodeOff,
+            value: 0,
+        }),
     }
-    if code == moves::WAIT {
-        return waits::wait(table, rows, items, file, state, argument);
-    }
-    Answer::Refused(refusals::CODE_OFF, 0)
 }

@@ -6,35 +6,26 @@ ghost use Rattle.diagram_moves.specs.Decisions.{and_done, function_holds, row_ho
 
 use crate::steps;
 use diagram_state::cells;
-use diagram_table::{BRANCH_ENDED, CLOSE, OWNER, SECOND};
-use effbd::{Answer, refusals};
+use diagram_table::{BRANCH_ENDED, CLOSE, OWNER, Plant, SECOND};
+use effbd::{Answer, Reason, Refusal};
 
 // A FUNCTION holds a wait if it is ready with all its takes, or if its clock would pass its β.
-fn function_holds(
-    table: &[u16],
-    rows: u32,
-    items: u32,
-    file: &[u8],
-    state: &[u16],
-    ticks: u16,
-    row: u32,
-) -> bool
-    ensures { result ≡ function_holds table.now rows items file.now state.now ticks row }
+#[tactic(auto, unfolding(diagram_moves::specs::Decisions::function_holds))]
+fn function_holds(plant: &Plant, state: &[u16], ticks: u16, row: u32) -> bool
+    ensures { result ≡ function_holds plant.now.table.now plant.now.rows plant.now.items plant.now.file.now state.now ticks row }
 {
-    let activity = cells::activity(state, row);
-    if activity == 1 {
-        let item = diagram_uses::blocked_item(table, rows, items, file, state, row, false);
-        return items <= item;
+    match cells::activity(state, row) {
+        1 => plant.items <= diagram_uses::blocked_item(plant, state, row, false),
+        2 => {
+            let beta = plant.cell(SECOND, row) as u32;
+            beta < cells::clock(state, row) as u32 + ticks as u32
+        }
+        _ => false,
     }
-    if activity == 2 {
-        let beta = diagram_table::cell(table, SECOND, row) as u32;
-        let clock = cells::clock(state, row) as u32;
-        return beta < clock + ticks as u32;
-    }
-    false
 }
 
 // The first BRANCH row of an AND whose BRANCH rows are all done.
+#[tactic(auto, unfolding(diagram_moves::specs::Decisions::and_done))]
 fn and_done(table: &[u16], state: &[u16], row: u32) -> bool
     ensures { result ≡ and_done table.now state.now row }
 {
@@ -48,63 +39,50 @@ fn and_done(table: &[u16], state: &[u16], row: u32) -> bool
 }
 
 // Any other row but END holds it if it is ready. An AND close that could step is seen at the first BRANCH row of its AND, which is done.
-fn row_holds(
-    table: &[u16],
-    rows: u32,
-    items: u32,
-    file: &[u8],
-    state: &[u16],
-    ticks: u16,
-    row: u32,
-) -> bool
-    ensures { result ≡ row_holds table.now rows items file.now state.now ticks row }
+#[tactic(auto, unfolding(diagram_moves::specs::Decisions::row_holds))]
+fn row_holds(plant: &Plant, state: &[u16], ticks: u16, row: u32) -> bool
+    ensures { result ≡ row_holds plant.now.table.now plant.now.rows plant.now.items plant.now.file.now state.now ticks row }
 {
-    let kind = diagram_table::kind(table, row);
-    if kind == kinds::FUNCTION {
-        return function_holds(table, rows, items, file, state, ticks, row);
+    match plant.kind(row) {
+        kinds::FUNCTION => function_holds(plant, state, ticks, row),
+        kinds::END => false,
+        _ => match cells::activity(state, row) {
+            1 => true,
+            3 => and_done(plant.table, state, row),
+            _ => false,
+        },
     }
-    if kind == kinds::END {
-        return false;
-    }
-    let activity = cells::activity(state, row);
-    if activity == 1 {
-        return true;
-    }
-    if activity == 3 {
-        return and_done(table, state, row);
-    }
-    false
 }
 
 // No row holds it; an idle one never does.
-fn unheld(table: &[u16], rows: u32, items: u32, file: &[u8], state: &[u16], ticks: u16) -> bool
-    ensures { result ≡ all_below rows (row_free table.now rows items file.now state.now ticks) }
+fn unheld(plant: &Plant, state: &[u16], ticks: u16) -> bool
+    ensures { result ≡ all_below plant.now.rows (row_free plant.now.table.now plant.now.rows plant.now.items plant.now.file.now state.now ticks) }
 {
-    let mut row = cells::next_busy(state, 0, rows);
-    while row < rows {
-        if row_holds(table, rows, items, file, state, ticks, row) {
+    let mut from = 0;
+    while let Some(row) = cells::next_busy(state, from, plant.rows) {
+        if row_holds(plant, state, ticks, row) {
             return false;
         }
-        row = cells::next_busy(state, row + 1, rows);
+        from = row + 1;
     }
     true
 }
 
-pub(crate) fn wait(
-    table: &[u16],
-    rows: u32,
-    items: u32,
-    file: &[u8],
-    state: &[u16],
-    ticks: u16,
-) -> Answer
-    ensures { said result ≡ wait_verdict table.now rows items file.now state.now ticks }
+#[tactic(auto, unfolding(diagram_moves::specs::Decisions::wait_verdict))]
+pub(crate) fn wait(plant: &Plant, state: &[u16], ticks: u16) -> Answer
+    ensures { said result ≡ wait_verdict plant.now.table.now plant.now.rows plant.now.items plant.now.file.now state.now ticks }
 {
     if ticks == 0 {
-        return Answer::Refused(refusals::CODE_OFF, 0);
+        return Err(Refusal {
+            reason: Reason::CodeOff,
+            value: 0,
+        });
     }
-    if unheld(table, rows, items, file, state, ticks) {
-        return Answer::Accepted(0);
+    if unheld(plant, state, ticks) {
+        return Ok(0);
     }
-    Answer::Refused(refusals::WAIT_HELD, 0)
+    Err(Refusal {
+        reason: Reason::WaitHeld,
+        value: 0,
+    })
 }

@@ -3,23 +3,23 @@ use Prim.Native.Nat.{ℕ, zero, suc, ◌+◌, ◌-◌, ◌*◌, ◌/◌, ◌≤�
 use mathlib.Core.Path.{◌≡◌, refl, sym, ◌∙◌, ap, ap₂, subst}
 use mathlib.Core.Logic.{◌≢◌}
 use mathlib.Core.Bool.{Bool, true, false, cond}
-use mathlib.Core.List.{List, [], ◌∷◌, ◌++◌, append-nil}
+use mathlib.Core.List.{List, [], ◌∷◌}
 use native.Mathlib.Omega.{arith}
 use lib.ListN.{length, get_or, take, drop, length-take, length-drop, get_or-eq_default}
 use lib.Dec.{eqb}
 use lib.Seq.{get_or-take, take-nil}
 use borrow.Author.Tests.{le-leb, eqb-true, eqb-false, eq-eqb}
-use Rattle.effbd.specs.Answers.{Outcome, accepted, refused, unless, and_then, refusal_number, refusal_value}
+use Rattle.std.specs.Prelude.{Result, Ok, Err}
+use Rattle.effbd.specs.declared.refusals.Refusal.{Refusal}
+use Rattle.effbd.specs.Answers.{Outcome, accepted, refused, unless, and_then, number, said, refusal_number, refusal_value}
 use Rattle.effbd.specs.Records.{word, length_at, are_bytes}
 use Rattle.effbd.specs.Diagrams.{most_rows, function, box_exit, end, number_of, same_kind, Use, Row, plain, Diagram, row_count, kind, is_kind, uses_at}
 use Rattle.effbd.specs.Nesting.{nesting_fault, unless_row, nested, read_diagram, from_row, Part, part_in, uses_part_of, uses_part}
 use Rattle.effbd.specs.Counts.{count_total}
 use Rattle.effbd.specs.Layout.{places}
 use Rattle.effbd.specs.States.{state_length}
-use Rattle.row_records.specs.declared.Reached.{Reached}
-use Rattle.nesting.specs.declared.Judgement.{Judgement}
+use Rattle.row_records.specs.Rows.{Reached}
 use Rattle.diagram.specs.declared.Diagram.{Diagram as Parse}
-use Rattle.diagram_file.specs.declared.Refusal.{Refusal}
 use Rattle.diagram_records.specs.Reading.{Tabled, Recorded}
 use Rattle.nesting.specs.Runs.{Kinds, NestingRead}
 use Rattle.diagram_structure.specs.Structure.{structure_filled}
@@ -32,12 +32,17 @@ use Rattle.diagram_table.specs.Cells.{cell_of, item_cell, some_trigger_cell, cel
 use Rattle.diagram_table.specs.Held.{Tabulated, Holds, HoldsUses, HoldsFile}
 use Rattle.ranges.specs.Tests.{decide, clash}
 use Rattle.ranges.specs.Outcomes.{unless-refused}
+use Rattle.ranges.specs.Reasons.{number-some}
 use Rattle.agreement.specs.AcceptedFiles.{held, nested-clear}
 use Rattle.agreement.specs.RowFaults.{rows-clean, rows-faultless}
 use Rattle.agreement.specs.Sources.{counts-are, no_copies}
 use Rattle.copies.specs.Promised.{CopyTotal}
 use Rattle.diagram_records.proofs.Files.{two-parts}
 use Rattle.nesting.proofs.Stacks.{owner-low, loop-low, close-low}
+
+-- a judgement of rows
+abbrev pub Verdict : Type 0
+Verdict = Result (Unit {0}) Refusal
 
 refused-back : {A : Type 0} (x : Outcome A) (n v : ℕ) → n ≡ refusal_number x → v ≡ refusal_value x → n ≢ 0 → x ≡ refused n v
 refused-back (accepted a) n v en ev ne = absurd (ne en)
@@ -72,10 +77,10 @@ uses-in t file r h =
     rw (le-leb (uses_start_in t r + 6 * uses_number_in t r) (length file) h, l, d) (uses-within n (drop (uses_start_in t r) file))
 
 -- ---- a file is refused
-refused-is : {file t : List ℕ} (n v : ℕ) → n ≢ 0 → read_diagram file ≡ refused n v → Judged file t (record { number = n; value = v })
-refused-is n v ne e = record { number = ap refusal_number (sym e); value = ap refusal_value (sym e); tabled = λ z. absurd (ne z); read = λ z. absurd (ne z); boxed = λ z. absurd (ne z) }
+refused-is : {file t : List ℕ} (n v : ℕ) → n ≢ 0 → read_diagram file ≡ refused n v → Judged file t n v
+refused-is n v ne e = record { number-is = ap refusal_number (sym e); value-is = ap refusal_value (sym e); tabled = λ z. absurd (ne z); read = λ z. absurd (ne z); boxed = λ z. absurd (ne z) }
 
-pub refused-records : {file t : List ℕ} {r : Reached} → Recorded file t r → r.fault ≢ 0 → Judged file t (record { number = r.fault; value = r.at })
+pub refused-records : {file t : List ℕ} {r : Reached} → Recorded file t r → r.fault ≢ 0 → Judged file t r.fault r.at
 refused-records {file} {t} {r} w ne = refused-is r.fault r.at ne (two-parts file ∙ ap (λ x. and_then x nested) (w.refusal ne))
 
 module _ {file t : List ℕ} (w : Tabled file t) where
@@ -95,19 +100,19 @@ module _ {file t : List ℕ} (w : Tabled file t) where
   read-nested = two-parts file ∙ ap (λ x. and_then x nested) w.read
 
   -- the walk
-  module _ {j : Judgement} {rows : ℕ} (e : rows ≡ word file 6) (n : NestingRead t rows j) where
-    walked : (on : Outcome Diagram) → unless_row dia (nesting_fault dia) on ≡ unless j.number j.row on
+  module _ {j : Verdict} {rows : ℕ} (e : rows ≡ word file 6) (n : NestingRead t rows j) where
+    walked : (on : Outcome Diagram) → unless_row dia (nesting_fault dia) on ≡ unless (refusal_number (said j)) (refusal_value (said j)) on
     walked = (subst (λ (x : ℕ). NestingRead t x j) e n).judged dia kinds-in
 
-    pub refused-nesting : j.number ≢ 0 → Judged file t (record { number = j.number; value = j.row })
+    pub refused-nesting : (refusal_number (said j)) ≢ 0 → Judged file t (refusal_number (said j)) (refusal_value (said j))
     unfolding nested
-    refused-nesting ne = refused-is j.number j.row ne (read-nested ∙ (walked _ ∙ unless-refused j.number j.row _ ne))
+    refused-nesting ne = refused-is (refusal_number (said j)) (refusal_value (said j)) ne (read-nested ∙ (walked _ ∙ unless-refused (refusal_number (said j)) (refusal_value (said j)) _ ne))
 
-    pub ready : j.number ≡ 0 → length t ≡ cell_total → Ready dia (word file 6) t
+    pub ready : (refusal_number (said j)) ≡ 0 → length t ≡ cell_total → Ready dia (word file 6) t
     ready z long = record { long = long; some = some-row; few = few-rows; kinds = kinds-in; fine = (rows-clean dia (nesting_fault dia) (accepted dia) dia (passed z _)).0 }
       where
-        passed : j.number ≡ 0 → (on : Outcome Diagram) → unless_row dia (nesting_fault dia) on ≡ on
-        passed z on = walked on ∙ ap (λ (x : ℕ). unless x j.row on) z
+        passed : (refusal_number (said j)) ≡ 0 → (on : Outcome Diagram) → unless_row dia (nesting_fault dia) on ≡ on
+        passed z on = walked on ∙ ap (λ (x : ℕ). unless x (refusal_value (said j)) on) z
 
   -- the records' columns stay where the structure is filled in
   module _ {u : List ℕ} (s : Structured dia (word file 6) t u) where
@@ -139,8 +144,8 @@ module _ {file t : List ℕ} (w : Tabled file t) where
     offset : (r : ℕ) → r < row_count dia → uses_start_in u r ≡ uses_start_in t r
     offset r l = record-kept 3 r (omega arith) (λ z. absurd (omega arith)) (let e = w.tabulated.rows_are in omega arith)
 
-    number : (r : ℕ) → r < row_count dia → uses_number_in u r ≡ uses_number_in t r
-    number r l = record-kept 4 r (omega arith) (λ z. absurd (omega arith)) (let e = w.tabulated.rows_are in omega arith)
+    uses-number : (r : ℕ) → r < row_count dia → uses_number_in u r ≡ uses_number_in t r
+    uses-number r l = record-kept 4 r (omega arith) (λ z. absurd (omega arith)) (let e = w.tabulated.rows_are in omega arith)
 
     tabled : Tabled file u
     tabled = let b = w.uses in record {
@@ -149,9 +154,9 @@ module _ {file t : List ℕ} (w : Tabled file t) where
       tabulated = tabulated;
       uses = record {
         offsets = λ r l. offset r l ∙ b.offsets r l;
-        sizes = λ r l. ap (λ (x : ℕ). 6 * x) (number r l) ∙ b.sizes r l;
-        inside = λ r l. rw (offset r l, number r l) (b.inside r l);
-        uses = λ r l. rw (offset r l, number r l) (b.uses r l);
+        sizes = λ r l. ap (λ (x : ℕ). 6 * x) (uses-number r l) ∙ b.sizes r l;
+        inside = λ r l. rw (offset r l, uses-number r l) (b.inside r l);
+        uses = λ r l. rw (offset r l, uses-number r l) (b.uses r l);
       };
     }
 
@@ -169,26 +174,26 @@ module _ {file t : List ℕ} (w : Tabled file t) where
     }
 
   -- the rules behind the walk
-  module _ {rows : ℕ} (e : rows ≡ word file 6) (d : Ready dia (word file 6) t) {i : Judgement} {u : List ℕ} (m : RulesRead rows t u i) where
+  module _ {rows : ℕ} (e : rows ≡ word file 6) (d : Ready dia (word file 6) t) {i : Verdict} {u : List ℕ} (m : RulesRead rows t u i) where
     rules : RulesRead (word file 6) t u i
     rules = subst (λ (x : ℕ). RulesRead x t u i) e m
 
-    judged : read_diagram file ≡ unless i.number i.row (accepted dia)
+    judged : read_diagram file ≡ unless (refusal_number (said i)) (refusal_value (said i)) (accepted dia)
     unfolding nested
     judged = read-nested ∙ (rows-faultless dia (nesting_fault dia) d.fine _ ∙ rules.judged dia d (accepted dia))
 
-    judged-fine : i.number ≡ 0 → read_diagram file ≡ accepted dia → Judged file u (record { number = 0; value = 0 })
+    judged-fine : (refusal_number (said i)) ≡ 0 → read_diagram file ≡ accepted dia → Judged file u 0 0
     unfolding tabled
     judged-fine y r = decide (has_box t (word file 6))
         (λ b. let s = rules.boxed y b dia d in
-        record { number = ap refusal_number (sym r); value = ap refusal_value (sym r); tabled = λ _. tabled s; read = λ _. r; boxed = λ _ _. own-structured s })
-        (λ b. subst (λ (x : List ℕ). Judged file x (record { number = 0; value = 0 })) (sym (rules.boxless b))
-        (record { number = ap refusal_number (sym r); value = ap refusal_value (sym r); tabled = λ _. w; read = λ _. r; boxed = λ _ h. clash h b }))
+        record { number-is = ap refusal_number (sym r); value-is = ap refusal_value (sym r); tabled = λ _. tabled s; read = λ _. r; boxed = λ _ _. own-structured s })
+        (λ b. subst (λ (x : List ℕ). Judged file x 0 0) (sym (rules.boxless b))
+        (record { number-is = ap refusal_number (sym r); value-is = ap refusal_value (sym r); tabled = λ _. w; read = λ _. r; boxed = λ _ h. clash h b }))
 
-    pub judged-rules : Judged file u (record { number = i.number; value = i.row })
-    judged-rules = decide (eqb i.number 0)
-        (λ e. let y = eqb-true i.number 0 e in rw (y, m.none y) (judged-fine y (judged ∙ ap (λ (x : ℕ). unless x i.row (accepted dia)) y)))
-        (λ e. let ne = eqb-false i.number 0 e in refused-is i.number i.row ne (judged ∙ unless-refused i.number i.row (accepted dia) ne))
+    pub judged-rules : Judged file u (refusal_number (said i)) (refusal_value (said i))
+    judged-rules = decide (eqb (refusal_number (said i)) 0)
+        (λ e. let y = eqb-true (refusal_number (said i)) 0 e in rw (y, m.none y) (judged-fine y (judged ∙ ap (λ (x : ℕ). unless x (refusal_value (said i)) (accepted dia)) y)))
+        (λ e. let ne = eqb-false (refusal_number (said i)) 0 e in refused-is (refusal_number (said i)) (refusal_value (said i)) ne (judged ∙ unless-refused (refusal_number (said i)) (refusal_value (said i)) (accepted dia) ne))
 
   -- ---- the structure of an accepted file
   module _ (got : read_diagram file ≡ accepted dia) where
@@ -226,42 +231,42 @@ module _ {file t : List ℕ} (w : Tabled file t) where
     holds-uses : {u : List ℕ} → Structured dia (word file 6) t u → HoldsUses file dia u
     holds-uses {u} s =
         let b = w.uses in
-        let inside : (r : ℕ) → r < row_count dia → uses_start_in u r + 6 * uses_number_in u r ≤ length file = λ r l. rw (offset s r l, number s r l) (b.inside r l) in
+        let inside : (r : ℕ) → r < row_count dia → uses_start_in u r + 6 * uses_number_in u r ≤ length file = λ r l. rw (offset s r l, uses-number s r l) (b.inside r l) in
         record {
-          uses = λ r l. uses-in u file r (inside r l) ∙ rw (offset s r l, number s r l) (b.uses r l);
-          part = λ r l. rw (offset s r l, number s r l) (part-is r l);
+          uses = λ r l. uses-in u file r (inside r l) ∙ rw (offset s r l, uses-number s r l) (b.uses r l);
+          part = λ r l. rw (offset s r l, uses-number s r l) (part-is r l);
           inside = inside;
         }
 
     structured-holds : {u : List ℕ} → length t ≡ cell_total → Structured dia (word file 6) t u → HoldsFile file (word file 6) (word file 8) u
     structured-holds long s = record { diagram = dia; read = got; holds = holds long s; uses = holds-uses s }
 
-module _ {file t : List ℕ} {r : Refusal} (w : Judged file t r) where
-  pub filled-refused : r.number ≢ 0 → Filled file t r
-  filled-refused ne = record { number = w.number; value = w.value; holds = λ z. absurd (ne z) }
+module _ {file t : List ℕ} {refusal value : ℕ} (w : Judged file t refusal value) where
+  pub filled-refused : refusal ≢ 0 → Filled file t refusal value
+  filled-refused ne = record { number-is = w.number-is; value-is = w.value-is; holds = λ z. absurd (ne z) }
 
   -- a row opens a box: the structure is there
-  pub filled-boxed : {n : ℕ} → (z : r.number ≡ 0) → length t ≡ cell_total → n ≡ word file 6 → has_box t n ≡ true → Filled file t r
+  pub filled-boxed : {n : ℕ} → (z : refusal ≡ 0) → length t ≡ cell_total → n ≡ word file 6 → has_box t n ≡ true → Filled file t refusal value
   filled-boxed z long en h = record {
-    number = w.number;
-    value = w.value;
+    number-is = w.number-is;
+    value-is = w.value-is;
     holds = λ _. structured-holds (w.tabled z) (w.read z) long (w.boxed z (subst (λ (x : ℕ). has_box t x ≡ true) en h));
   }
 
-  pub filled-plain : {n : ℕ} {u : List ℕ} → r.number ≡ 0 → length t ≡ cell_total → n ≡ word file 6 → has_box t n ≡ false → u ≡ structure_filled n t → Filled file u r
+  pub filled-plain : {n : ℕ} {u : List ℕ} → refusal ≡ 0 → length t ≡ cell_total → n ≡ word file 6 → has_box t n ≡ false → u ≡ structure_filled n t → Filled file u refusal value
   filled-plain z long en h eu = record {
-    number = w.number;
-    value = w.value;
+    number-is = w.number-is;
+    value-is = w.value-is;
     holds = λ _. subst (HoldsFile file (word file 6) (word file 8)) (sym (eu ∙ ap (λ (x : ℕ). structure_filled x t) en)) (structured-holds (w.tabled z) (w.read z) long
         (plain-structured (w.tabled z).diagram (word file 6) t (ready_read (w.tabled z) (w.read z) long) (subst (λ (x : ℕ). has_box t x ≡ false) en h)));
   }
 
   -- ---- a file's answer
-  pub length-refused : r.number ≢ 0 → refused r.number r.value ≡ state_length file
+  pub length-refused : refusal ≢ 0 → refused refusal value ≡ state_length file
   unfolding state_length
-  length-refused ne = sym (ap (λ x. and_then x (λ d. accepted (places d))) (refused-back (read_diagram file) r.number r.value w.number w.value ne))
+  length-refused ne = sym (ap (λ x. and_then x (λ d. accepted (places d))) (refused-back (read_diagram file) refusal value w.number-is w.value-is ne))
 
-  module _ (z : r.number ≡ 0) {n m : ℕ} (en : n ≡ word file 6) (em : m ≡ word file 8) where
+  module _ (z : refusal ≡ 0) {n m : ℕ} (en : n ≡ word file 6) (em : m ≡ word file 8) where
     -- the words of the state of a diagram with so many counts
     length-is : {c : ℕ} → c ≡ count_total (w.tabled z).diagram → accepted (3 * n + c) ≡ state_length file
     unfolding state_length
@@ -282,44 +287,45 @@ module _ {file t : List ℕ} {r : Refusal} (w : Judged file t r) where
         let sum : 3 * n + m + c ≡ 3 * n + (m + c) = omega arith in
         ap accepted sum ∙ length-is (omega (arith, em, b.items_are, many, counts-are d))
 
--- ---- the struct
-pub parsed-is : (file t : List ℕ) (r : Refusal) (n m : ℕ) → Filled file t r → n ≡ word file 6 → m ≡ word file 8
-    → Parsed file (record { number = r.number; value = r.value; rows = n; items = m; table = t ++ [] })
-parsed-is file t r n m f en em = record {
-  number = f.number;
-  value = f.value;
+-- ---- what is read
+pub parsed-refused : (file t : List ℕ) (e : Refusal) → Filled file t (number e.reason) e.value → Parsed file (Err e)
+parsed-refused file t e f = record { number-is = f.number-is; value-is = f.value-is; rows = tt; items = tt; holds = tt }
+
+pub parsed-is : (file t : List ℕ) (n m : ℕ) → Filled file t 0 0 → n ≡ word file 6 → m ≡ word file 8 → Parsed file (Ok (record { rows = n; items = m; table = t }))
+parsed-is file t n m f en em = record {
+  number-is = f.number-is;
+  value-is = f.value-is;
   rows = en;
   items = em;
-  holds = λ z. subst (HoldsFile file n m) (sym (append-nil t)) (subst (λ (x : ℕ). HoldsFile file x m t) (sym en) (subst (λ (x : ℕ). HoldsFile file (word file 6) x t) (sym em) (f.holds z)));
+  holds = subst (λ (x : ℕ). HoldsFile file x m t) (sym en) (subst (λ (x : ℕ). HoldsFile file (word file 6) x t) (sym em) (f.holds refl));
 }
 
 -- ---- what later code takes from the promise
-module _ (file : List ℕ) (p : Parse) (w : Parsed file p) where
-  -- a number other than 0 is the refusal's
-  pub parsed-refused : p.number ≢ 0 → read_diagram file ≡ refused p.number p.value
-  parsed-refused ne = refused-back (read_diagram file) p.number p.value w.number w.value ne
+pub turned-away : (file : List ℕ) (e : Refusal) → Parsed file (Err e) → read_diagram file ≡ refused (number e.reason) e.value
+turned-away file e w = refused-back (read_diagram file) (number e.reason) e.value w.number-is w.value-is (number-some e.reason)
 
-  -- the parts of the file
-  pub part-refused : (r : ℕ) → p.number ≢ 0 → PartIs file (uses_part file r) (record { start = 0; size = 0 })
-  unfolding uses_part
-  part-refused r ne =
-      let e : uses_part file r ≡ record { start = 0; size = 0 } = ap (uses_part_of file r) (parsed-refused ne) in
-      rw e (record { start = refl; size = refl; inside = zero-le; near = (omega arith, omega arith) })
+-- the parts of the file
+no-part : (file : List ℕ) (r : ℕ) → uses_part file r ≡ record { start = 0; size = 0 } → PartIs file (uses_part file r) (record { start = 0; size = 0 })
+no-part file r e = rw e (record { start = refl; size = refl; inside = zero-le; near = (omega arith, omega arith) })
 
-  pub part_none : (r : ℕ) → p.number ≡ 0 → p.rows ≤ r → PartIs file (uses_part file r) (record { start = 0; size = 0 })
+pub part-refused : (file : List ℕ) (e : Refusal) → Parsed file (Err e) → (r : ℕ) → PartIs file (uses_part file r) (record { start = 0; size = 0 })
+unfolding uses_part
+part-refused file e w r = no-part file r (ap (uses_part_of file r) (turned-away file e w))
+
+module _ (file : List ℕ) (p : Parse) (w : Parsed file (Ok p)) where
+  pub part_none : (r : ℕ) → p.rows ≤ r → PartIs file (uses_part file r) (record { start = 0; size = 0 })
   unfolding uses_part
-  part_none r z l =
-      let h = w.holds z in
+  part_none r l =
+      let h = w.holds in
       let past : row_count h.diagram ≤ r = omega (arith, h.holds.records.rows_are) in
       let k : is_kind h.diagram function r ≡ false = ap (λ (x : Row). same_kind x.kind function) (get_or-eq_default h.diagram.rows (plain end) past) in
-      let e : uses_part file r ≡ record { start = 0; size = 0 } = ap (uses_part_of file r) h.read
-      ∙ ap (λ b. cond b (record { start = length file - length (from_row file r) + 8; size = length_at (from_row file r) - 8 }) (record { start = 0; size = 0 })) k in
-      rw e (record { start = refl; size = refl; inside = zero-le; near = (omega arith, omega arith) })
+      no-part file r (ap (uses_part_of file r) h.read
+      ∙ ap (λ b. cond b (record { start = length file - length (from_row file r) + 8; size = length_at (from_row file r) - 8 }) (record { start = 0; size = 0 })) k)
 
-  pub part-there : (r : ℕ) (q : Lies) → p.number ≡ 0 → r < p.rows → (q.start ≡ uses_start_in p.table r) × (q.size ≡ 6 * uses_number_in p.table r) → (q.start < 65536) × (q.size < 393216)
+  pub part-there : (r : ℕ) (q : Lies) → r < p.rows → (q.start ≡ uses_start_in p.table r) × (q.size ≡ 6 * uses_number_in p.table r) → (q.start < 65536) × (q.size < 393216)
       → PartIs file (uses_part file r) q
-  part-there r q z l e near =
-      let h = w.holds z in
+  part-there r q l e near =
+      let h = w.holds in
       let i : r < row_count h.diagram = omega (arith, h.holds.records.rows_are) in
       let u = h.uses.part r i in
       record { start = e.0 ∙ sym (ap (λ (x : Part). x.start) u); size = e.1 ∙ sym (ap (λ (x : Part). x.size) u); inside = rw (e.0, e.1) (h.uses.inside r i); near = near }

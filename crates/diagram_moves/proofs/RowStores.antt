@@ -1,8 +1,8 @@
 -- Loops of stores over rows: the state that they leave.
-use Prim.Native.Nat.{ℕ, zero, suc, ◌+◌, ◌-◌, ◌*◌, ◌≤◌, ◌<◌}
+use Prim.Native.Nat.{ℕ, zero, suc, ◌+◌, ◌*◌, ◌≤◌, ◌<◌}
 use Rattle.std.specs.Prelude.{◌≡◌, ◌≢◌, Bool, true, false, ◌&&◌, List, length, set, leb, ltb, eqb}
 use Rattle.std.proofs.Math.Path.{refl}
-use Rattle.std.proofs.Common.{sym, ◌∙◌, ap, arith, add-one, length-set, get_or-set_same, get_or-set_other, ext_get_or, ltb-true, ltb-false, lt-ltb, le-ltb, eqb-true, le-leb, leb-true, leb-false}
+use Rattle.std.proofs.Common.{sym, ◌∙◌, ap, arith, add-one, length-set, get_or-set_same, get_or-set_other, ltb-true, ltb-false, lt-ltb, le-ltb, eqb-true, le-leb, leb-true, leb-false}
 use Rattle.std.proofs.Math.Bool.{cond, and-false}
 use Rattle.std.proofs.Math.ListN.{get_or, get_or-eq_default}
 use Rattle.std.proofs.lemmas.Bool.{eqb-false, lt-leb}
@@ -20,22 +20,6 @@ fold_more f i l m n e h = rw add-one (h ∙ ap (f i) e)
 
 pub fold_end : (f : ℕ → List ℕ → List ℕ) (i n : ℕ) (l m : List ℕ) → m ≡ fold i f l → i ≤ n → n ≤ i → m ≡ fold n f l
 fold_end f i n l m e a b = let z : i ≡ n = omega arith in e ∙ ap (λ (x : ℕ). fold x f l) z
-
--- before its first row a loop has done nothing
-pub start_none : (a : ℕ) (f : ℕ → List ℕ → List ℕ) (n : ℕ) (l : List ℕ) → n ≤ a → fold n (starting_at a f) l ≡ l
-unfolding starting_at
-start_none a f zero l b = refl
-start_none a f (suc n) l b = rw (lt-leb a n (omega arith)) (start_none a f n l (omega arith))
-
-pub start-turn : (a : ℕ) (f : ℕ → List ℕ → List ℕ) (i : ℕ) (l : List ℕ) → a ≤ i → f i l ≡ starting_at a f i l
-unfolding starting_at
-start-turn a f i l b = rw (le-leb a i b)
-
--- a loop from row a to below row e that stands at row i when it ends
-pub start-end : (a e : ℕ) (f : ℕ → List ℕ → List ℕ) (i : ℕ) (l m : List ℕ) → m ≡ fold i (starting_at a f) l → a ≤ i → i ≤ a + (e - a) → e ≤ i → m ≡ fold e (starting_at a f) l
-start-end a e f i l m h b c g = decide (ltb a e)
-    (λ y. let z = ltb-true a e y in fold_end (starting_at a f) i e l m h (omega arith) g)
-    (λ y. let z = ltb-false a e y in h ∙ (start_none a f i l (omega arith) ∙ sym (start_none a f e l z)))
 
 -- a loop of tests
 pub all_more : (f : ℕ → Bool) (i : ℕ) → all_below i f ≡ true → f i ≡ true → all_below (i + 1) f ≡ true
@@ -79,24 +63,18 @@ clear-turn a n i m = decide (leb a n)
     zero-there = decide (ltb n (length m)) (λ l. get_or-set_same m n 0 0 (ltb-true n (length m) l))
         (λ l. get_or-eq_default (set m n 0) 0 {n = n} (rw (length-set m n 0) (ltb-false n (length m) l)))
 
-cleared_at : (a b i : ℕ) (l : List ℕ) → get_or (words_cleared a b l) i 0 ≡ cond (ltb i b && leb a i) 0 (get_or l i 0)
+pub cleared_at : (a b i : ℕ) (l : List ℕ) → get_or (words_cleared a b l) i 0 ≡ cond (ltb i b && leb a i) 0 (get_or l i 0)
 unfolding words_cleared
 cleared_at a zero i l = none (leb a) i 0 (get_or l i 0)
 cleared_at a (suc n) i l = clear-turn a n i (fold n (starting_at a clear_word) l)
     ∙ (ap (λ (x : ℕ). cond (leb a n && only n i) 0 x) (unfold words_cleared in cleared_at a n i l) ∙ grow (leb a) n i 0 (get_or l i 0))
 
-cleared-long : (a b : ℕ) (l : List ℕ) → length (words_cleared a b l) ≡ length l
+pub cleared-long : (a b : ℕ) (l : List ℕ) → length (words_cleared a b l) ≡ length l
 unfolding words_cleared starting_at clear_word
 cleared-long a zero l = refl
 cleared-long a (suc n) l = decide (leb a n)
     (λ e. rw e (length-set (fold n (starting_at a clear_word) l) n 0 ∙ (unfold words_cleared in cleared-long a n l)))
     (λ e. rw e (unfold words_cleared in cleared-long a n l))
-
--- words past the list's end need no clearing
-pub cleared-short : (a b : ℕ) (l : List ℕ) → length l ≤ b → words_cleared a (length l) l ≡ words_cleared a b l
-cleared-short a b l m = ext_get_or 0 (words_cleared a (length l) l) (words_cleared a b l) (cleared-long a (length l) l ∙ sym (cleared-long a b l))
-    (λ i j. let k = cleared-long a (length l) l in
-    cleared_at a (length l) i l ∙ (rw (lt-ltb i (length l) (omega arith), lt-ltb i b (omega arith)) refl ∙ sym (cleared_at a b i l)))
 
 -- a word of a row stands among those of the rows from a to below b exactly if the row does
 row_word : (a b q p : ℕ) → 3 * q ≤ p → p < 3 * q + 3 → (ltb p (3 * b) && leb (3 * a) p) ≡ (ltb q b && leb a q)

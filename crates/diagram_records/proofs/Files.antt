@@ -16,11 +16,10 @@ use Rattle.effbd.specs.Diagrams.{most_rows, most_items, function, end, number_of
 use Rattle.effbd.specs.Nesting.{nested, after_rows, after_items, read_diagram, skip, from_row}
 use Rattle.ranges.specs.Tests.{decide, and_left, and_right}
 use Rattle.agreement.specs.ByteLaws.{none-clean}
-use Rattle.row_records.specs.declared.Reached.{Reached}
 use Rattle.diagram_table.specs.Cells.{cell_of, item_cell, some_trigger_cell, trigger_in, some_trigger_in}
 use Rattle.diagram_table.specs.Held.{Tabulated}
 use Rattle.row_records.specs.Fields.{field_of}
-use Rattle.row_records.specs.Rows.{use_fits, triggers_fit, trigger_fault, table_fault, Stopped, RowsRead, end_reached, uses_from, column}
+use Rattle.row_records.specs.Rows.{Reached, use_fits, triggers_fit, trigger_fault, table_fault, Stopped, RowsRead, end_reached, uses_from, column}
 use Rattle.diagram_records.specs.Reading.{ItemsRead, record_rows, record_items, read_records, TabledUses, Recorded}
 use Rattle.ranges.specs.Outcomes.{unless-refused, unless-then, and_then-twice}
 use Rattle.row_records.proofs.Fields.{function-base, function-behind}

@@ -15,8 +15,7 @@ use Rattle.effbd.specs.Nesting.{skip}
 use Rattle.ranges.specs.Tests.{decide}
 use Rattle.agreement.specs.ByteLaws.{none-clean}
 use Rattle.diagram_table.specs.Cells.{item_cell, some_trigger_cell, cell_total, trigger_in, some_trigger_in}
-use Rattle.row_records.specs.declared.Reached.{Reached}
-use Rattle.row_records.specs.Rows.{table_fault, RowsRead}
+use Rattle.row_records.specs.Rows.{Reached, table_fault, RowsRead}
 use Rattle.row_records.proofs.RowsRead.{reading-turn, stopped-at, stopped-end, reading-start}
 use Rattle.diagram_records.specs.Reading.{FilledItems, ItemsState, ItemsRead, put_item}
 

@@ -7,8 +7,7 @@ use Rattle.effbd.specs.Nesting.{skip, from_row}
 use Rattle.effbd.specs.Moves.{most_word}
 use Rattle.diagram_table.specs.Cells.{item_cell, some_trigger_cell, cell_total, trigger_in, some_trigger_in, uses_start_in, uses_number_in}
 use Rattle.diagram_table.specs.Held.{Tabulated}
-use Rattle.row_records.specs.Rows.{table_fault, Reading, Stopped, RowsRead, rows_laid}
-use Rattle.row_records.specs.declared.Reached.{Reached}
+use Rattle.row_records.specs.Rows.{Reached, table_fault, Reading, Stopped, RowsRead, rows_laid}
 
 -- the cells of an item: its initial count, whether it is a trigger; of a trigger also that there is one
 unfoldable pub put_item : (item count : ℕ) (trigger : Bool) → List ℕ → List ℕ

@@ -1,13 +1,9 @@
 -- The rules behind the walk, one after another: the structure that the first two go by, and what it leaves of the table.
-use Prim.Native.Nat.{ℕ, suc, ◌-◌, ◌<◌}
-use mathlib.Core.Path.{◌≡◌, refl, sym, ◌∙◌, ap, subst}
-use mathlib.Core.Logic.{◌≢◌}
-use mathlib.Core.Bool.{true, false}
-use mathlib.Core.List.{List}
-use native.Mathlib.Omega.{arith}
-use lib.Dec.{ltb}
-use borrow.Author.Tests.{eqb-true, eq-eqb, ltb-true, ltb-false}
-use Rattle.effbd.specs.Answers.{Outcome, accepted, unless}
+use Rattle.std.specs.Prelude.{ℕ, suc, ◌-◌, ◌<◌, ◌≡◌, refl, ◌≢◌, true, false, List, ltb, Result, Ok}
+use Rattle.std.proofs.Common.{sym, ◌∙◌, ap, subst, arith, eqb-true, eq-eqb}
+use borrow.Author.Tests.{ltb-true, ltb-false}
+use Rattle.effbd.specs.declared.refusals.Refusal.{Refusal}
+use Rattle.effbd.specs.Answers.{Outcome, accepted, unless, said, refusal_number, refusal_value}
 use Rattle.effbd.specs.Diagrams.{Diagram, box_open, box_exit, number_of, row_count, kind, is_kind}
 use Rattle.effbd.specs.Nesting.{box, outlet_fault, not_one_to_one, scenario_fault, scenario_falls, unless_row}
 use Rattle.effbd.specs.Ranges.{how_many}
@@ -18,7 +14,6 @@ use Rattle.agreement.specs.Basics.{kind-past, same-eq}
 use Rattle.agreement.specs.NestingLaws.{exit-of-box}
 use Rattle.agreement.specs.RowFaults.{rows-clean, rows-faultless}
 use Rattle.diagram_table.specs.Cells.{cell_of, kind_in}
-use Rattle.nesting.specs.declared.Judgement.{Judgement}
 use Rattle.nesting.specs.Runs.{Kinds}
 use Rattle.loop_times.specs.Loops.{Faultless, LoopsRead}
 use Rattle.diagram_structure.specs.Structure.{structured, put_structure, structure_filled}
@@ -104,11 +99,11 @@ module _ (d : Diagram) (rows : ℕ) (t : List ℕ) (w : Ready d rows t) where
   unfolding scenario_falls
   no-scenarios h q l = rw (not-open h q)
 
-  module _ (u : List ℕ) (j : Judgement) (o : OutletsRead rows (structure_filled rows t) u j) where
+  module _ (u : List ℕ) (j : Result (Unit {0}) Refusal) (o : OutletsRead rows (structure_filled rows t) u j) where
     walked-read : Walked d rows u
     walked-read = walked-kept w.few o.kept d walked
 
-    read-structured : j.number ≡ 0 → Structured d rows t u
+    read-structured : refusal_number (said j) ≡ 0 → Structured d rows t u
     read-structured z = let few = w.few in let x = walked-read in record {
       long = o.kept.long ∙ same.long;
       records = λ i l f. o.kept.cell i (λ r m k. ((λ y. absurd (omega arith)), f r m (sym (same.below r (omega arith)) ∙ k))) ∙ same.below i l;
@@ -123,7 +118,7 @@ module _ (d : Diagram) (rows : ℕ) (t : List ℕ) (w : Ready d rows t) where
 
 -- ---- the boxes
 module _ (rows : ℕ) (t : List ℕ) where
-  pub boxes-none : has_box t rows ≡ false → BoxesRead rows t t (record { number = 0; row = 0 })
+  pub boxes-none : has_box t rows ≡ false → BoxesRead rows t t (Ok tt)
   boxes-none h = record {
     within = omega arith;
     none = λ z. refl;
@@ -132,40 +127,40 @@ module _ (rows : ℕ) (t : List ℕ) where
     judged = λ d w on. rows-faultless d (outlet_fault d) (no-outlets d rows t w h) _ ∙ rows-faultless d (scenario_fault d) (no-scenarios d rows t w h) on;
   }
 
-  module _ (some : has_box t rows ≡ true) (f : List ℕ) (ef : f ≡ structure_filled rows t) (u : List ℕ) (j : Judgement) (read : OutletsRead rows f u j) where
+  module _ (some : has_box t rows ≡ true) (f : List ℕ) (ef : f ≡ structure_filled rows t) (u : List ℕ) (j : Result (Unit {0}) Refusal) (read : OutletsRead rows f u j) where
     o : OutletsRead rows (structure_filled rows t) u j
     o = subst (λ (x : List ℕ). OutletsRead rows x u j) ef read
 
-    pub boxes-unmatched : j.number ≢ 0 → BoxesRead rows t u j
+    pub boxes-unmatched : refusal_number (said j) ≢ 0 → BoxesRead rows t u j
     boxes-unmatched ne = record {
       within = o.within;
       none = o.none;
       boxless = λ e. clash some e;
       boxed = λ z. absurd (ne z);
-      judged = λ d w on. o.judged d (walked d rows t w) _ ∙ (unless-refused j.number j.row _ ne ∙ sym (unless-refused j.number j.row on ne));
+      judged = λ d w on. o.judged d (walked d rows t w) _ ∙ (unless-refused (refusal_number (said j)) (refusal_value (said j)) _ ne ∙ sym (unless-refused (refusal_number (said j)) (refusal_value (said j)) on ne));
     }
 
-    pub boxes-read : j.number ≡ 0 → (i : Judgement) → ScenariosRead u rows i → BoxesRead rows t u i
+    pub boxes-read : refusal_number (said j) ≡ 0 → (i : Result (Unit {0}) Refusal) → ScenariosRead u rows i → BoxesRead rows t u i
     boxes-read z i s = record {
       within = s.within;
       none = s.none;
       boxless = λ e. clash some e;
       boxed = λ y e d w. read-structured d rows t w u j o z;
-      judged = λ d w on. o.judged d (walked d rows t w) _ ∙ (ap (λ (n : ℕ). unless n j.row (unless_row d (scenario_fault d) on)) z ∙ s.judged d (walked-read d rows t w u j o) on);
+      judged = λ d w on. o.judged d (walked d rows t w) _ ∙ (ap (λ (n : ℕ). unless n (refusal_value (said j)) (unless_row d (scenario_fault d) on)) z ∙ s.judged d (walked-read d rows t w u j o) on);
     }
 
 -- ---- and the loops
-module _ (rows : ℕ) (t u : List ℕ) (j : Judgement) (b : BoxesRead rows t u j) where
-  pub rules-boxes : j.number ≢ 0 → RulesRead rows t u j
+module _ (rows : ℕ) (t u : List ℕ) (j : Result (Unit {0}) Refusal) (b : BoxesRead rows t u j) where
+  pub rules-boxes : refusal_number (said j) ≢ 0 → RulesRead rows t u j
   rules-boxes ne = record {
     within = b.within;
     none = b.none;
     boxless = b.boxless;
     boxed = b.boxed;
-    judged = λ d w on. b.judged d w _ ∙ (unless-refused j.number j.row _ ne ∙ sym (unless-refused j.number j.row on ne));
+    judged = λ d w on. b.judged d w _ ∙ (unless-refused (refusal_number (said j)) (refusal_value (said j)) _ ne ∙ sym (unless-refused (refusal_number (said j)) (refusal_value (said j)) on ne));
   }
 
-  pub rules-read : j.number ≡ 0 → (i : Judgement) → LoopsRead u rows i → RulesRead rows t u i
+  pub rules-read : refusal_number (said j) ≡ 0 → (i : Result (Unit {0}) Refusal) → LoopsRead u rows i → RulesRead rows t u i
   rules-read z i s = record {
     within = s.within;
     none = s.none;
@@ -175,7 +170,7 @@ module _ (rows : ℕ) (t u : List ℕ) (j : Judgement) (b : BoxesRead rows t u j
   }
     where
       passed : (d : Diagram) → Ready d rows t → (on : Outcome Diagram) → unless_row d (outlet_fault d) (unless_row d (scenario_fault d) on) ≡ on
-      passed d w on = b.judged d w on ∙ ap (λ (n : ℕ). unless n j.row on) z
+      passed d w on = b.judged d w on ∙ ap (λ (n : ℕ). unless n (refusal_value (said j)) on) z
 
       faultless : (d : Diagram) → Ready d rows t → Faultless d
       faultless d w = record { walk = w.fine; outlets = (rows-clean d (outlet_fault d) (unless_row d (scenario_fault d) (accepted d)) d (passed d w (accepted d))).0 }

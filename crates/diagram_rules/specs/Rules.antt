@@ -1,10 +1,10 @@
 -- What the rules behind the walk leave and find. Assumes nothing.
-use Rattle.std.specs.Prelude.{ℕ, ◌-◌, ◌≤◌, ◌<◌, ◌≡◌, ◌≢◌, true, false, List, length, get_or}
-use Rattle.effbd.specs.Answers.{Outcome, unless}
+use Rattle.std.specs.Prelude.{ℕ, ◌-◌, ◌≤◌, ◌<◌, ◌≡◌, ◌≢◌, true, false, List, length, get_or, Result}
+use Rattle.effbd.specs.Answers.{Outcome, unless, said, refusal_number, refusal_value}
+use Rattle.effbd.specs.declared.refusals.Refusal.{Refusal}
 use Rattle.effbd.specs.Diagrams.{most_rows, box_exit, Diagram, row_count, is_kind}
 use Rattle.effbd.specs.Nesting.{owner, branch_ended, close, loop, box, first_outlet, outlet, nesting_fault, outlet_fault, scenario_fault, loop_fault, unless_row}
 use Rattle.diagram_table.specs.Cells.{cell_of, cell_total, kind_in, owner_in, branch_in, close_in, loop_in, outlet_in, scenario_last_in}
-use Rattle.nesting.specs.declared.Judgement.{Judgement}
 use Rattle.nesting.specs.Runs.{Kinds}
 use Rattle.outlets.specs.Outlets.{has_box}
 
@@ -30,17 +30,17 @@ pub record Structured (d : Diagram) (rows : ℕ) (t u : List ℕ) : Type 0 where
 
 -- 49 and 50 were judged: every diagram that the table has is turned away at that box with that number, or goes on; where a row opens a box, the table then has the
 -- structure of its rows, else it stays as it is
-pub record BoxesRead (rows : ℕ) (t u : List ℕ) (r : Judgement) : Type 0 where
-  pub within : r.row ≤ rows
-  pub none : r.number ≡ 0 → r.row ≡ 0
+pub record BoxesRead (rows : ℕ) (t u : List ℕ) (r : Result (Unit {0}) Refusal) : Type 0 where
+  pub within : refusal_value (said r) ≤ rows
+  pub none : refusal_number (said r) ≡ 0 → refusal_value (said r) ≡ 0
   pub boxless : has_box t rows ≡ false → u ≡ t
-  pub boxed : r.number ≡ 0 → has_box t rows ≡ true → (d : Diagram) → Ready d rows t → Structured d rows t u
-  pub judged : (d : Diagram) → Ready d rows t → (on : Outcome Diagram) → unless_row d (outlet_fault d) (unless_row d (scenario_fault d) on) ≡ unless r.number r.row on
+  pub boxed : refusal_number (said r) ≡ 0 → has_box t rows ≡ true → (d : Diagram) → Ready d rows t → Structured d rows t u
+  pub judged : (d : Diagram) → Ready d rows t → (on : Outcome Diagram) → unless_row d (outlet_fault d) (unless_row d (scenario_fault d) on) ≡ unless (refusal_number (said r)) (refusal_value (said r)) on
 
 -- and 45 behind them
-pub record RulesRead (rows : ℕ) (t u : List ℕ) (r : Judgement) : Type 0 where
-  pub within : r.row ≤ rows
-  pub none : r.number ≡ 0 → r.row ≡ 0
+pub record RulesRead (rows : ℕ) (t u : List ℕ) (r : Result (Unit {0}) Refusal) : Type 0 where
+  pub within : refusal_value (said r) ≤ rows
+  pub none : refusal_number (said r) ≡ 0 → refusal_value (said r) ≡ 0
   pub boxless : has_box t rows ≡ false → u ≡ t
-  pub boxed : r.number ≡ 0 → has_box t rows ≡ true → (d : Diagram) → Ready d rows t → Structured d rows t u
-  pub judged : (d : Diagram) → Ready d rows t → (on : Outcome Diagram) → unless_row d (outlet_fault d) (unless_row d (scenario_fault d) (unless_row d (loop_fault d) on)) ≡ unless r.number r.row on
+  pub boxed : refusal_number (said r) ≡ 0 → has_box t rows ≡ true → (d : Diagram) → Ready d rows t → Structured d rows t u
+  pub judged : (d : Diagram) → Ready d rows t → (on : Outcome Diagram) → unless_row d (outlet_fault d) (unless_row d (scenario_fault d) (unless_row d (loop_fault d) on)) ≡ unless (refusal_number (said r)) (refusal_value (said r)) on

@@ -1,11 +1,12 @@
 -- A file's table with its copies, and the fresh state that goes with it: of a plant without triggers as they were read, of another with its copies.
-use Prim.Native.Nat.{ℕ, ◌+◌, ◌-◌, ◌*◌, ◌≤◌}
-use mathlib.Core.Path.{◌≡◌, sym, ◌∙◌, ap, subst}
-use mathlib.Core.Bool.{true}
-use mathlib.Core.List.{List, []}
-use native.Mathlib.Omega.{arith}
-use lib.ListN.{length, take, length-take}
+use Rattle.std.specs.Prelude.{ℕ, ◌+◌, ◌*◌, ◌≤◌, ◌≡◌, ◌≢◌, true, List, [], length, take}
+use Rattle.std.proofs.Common.{sym, ◌∙◌, ap, subst, arith}
+use Rattle.std.proofs.Math.Seq.{take-length, length-take-le}
+use lib.ListN.{length-take}
+use borrow.Author.Tests.{ne_eqb, eq-eqb}
+use Rattle.effbd.specs.Answers.{accepted, refused}
 use Rattle.effbd.specs.Records.{are_bytes}
+use Rattle.words.specs.Stores.{copied}
 use Rattle.effbd.specs.Diagrams.{Diagram}
 use Rattle.effbd.specs.Layout.{places}
 use Rattle.effbd.specs.States.{state_words, fresh_words}
@@ -22,13 +23,27 @@ use Rattle.ranges.specs.RangeLaws.{length-tab}
 use Rattle.diagram_moves.specs.Changes.{fresh_placed}
 use Rattle.diagram_moves.proofs.FileMoves.{plant-places, fresh-is}
 
+-- words in the place of others: all of them, or their first ones, cut
+pub placed-else : (source l : List ℕ) → length l ≢ length source → fresh_placed (length source) source l ≡ refused 20 0
+unfolding fresh_placed
+placed-else source l ne = rw (ne_eqb (length l) (length source) ne)
+
+pub placed-whole : (source l : List ℕ) {m : List ℕ} → length l ≡ length source → m ≡ copied source l → fresh_placed (length source) source l ≡ accepted m
+unfolding fresh_placed
+placed-whole source l e c = rw (eq-eqb (length l) (length source) e) (ap accepted (ap (λ (x : List ℕ). copied x l) (take-length source) ∙ sym c))
+
+pub placed-cut : (size : ℕ) (source l : List ℕ) → size ≤ length source → fresh_placed (length (take size source)) (take size source) l ≡ fresh_placed size source l
+unfolding fresh_placed
+placed-cut size source l room =
+    rw (take-length (take size source), length-take-le size source room)
+
 -- words that begin with a fresh state are as long as it
 room_of : (d : Diagram) (l : List ℕ) → FreshOf d l → places d ≤ length l
 room_of d l f = let a : length (take (places d) l) ≡ places d = ap length f.words ∙ (unfold fresh_words state_words in length-tab (places d) _) in
     let b : length (take (places d) l) ≤ length l = simp length-take (omega arith) in omega arith
 
-words_of : (d : Diagram) (l : List ℕ) (size : ℕ) → FreshOf d l → size ≡ places d → take (size - 0) l ≡ fresh_words d
-words_of d l size f e = ap (λ (n : ℕ). take n l) (let z : size - 0 ≡ places d = omega arith in z) ∙ f.words
+words_of : (d : Diagram) (l : List ℕ) (size : ℕ) → FreshOf d l → size ≡ places d → take size l ≡ fresh_words d
+words_of d l size f e = ap (λ (n : ℕ). take n l) e ∙ f.words
 
 module _ (file : List ℕ) (rows items : ℕ) (table : List ℕ) (h : HoldsFile file rows items table) where
   -- without triggers
@@ -52,7 +67,7 @@ module _ (file : List ℕ) (rows items : ℕ) (table : List ℕ) (h : HoldsFile 
     plain-placed fresh l f = fresh-is file l rows items table fresh (3 * rows + items) plain-table (plain-state fresh f) plain_size
 
     -- the words of the fresh state, as a part of what holds them
-    pub plain-words : (fresh : List ℕ) → Freshened rows items table fresh → take (3 * rows + items - 0) fresh ≡ fresh_words plain-table.held.diagram
+    pub plain-words : (fresh : List ℕ) → Freshened rows items table fresh → take (3 * rows + items) fresh ≡ fresh_words plain-table.held.diagram
     unfolding plain-table plain_plant
     plain-words fresh f = words_of h.diagram fresh (3 * rows + items) (plain-state fresh f) (plain_size ∙ plant-places file [] rows items table plain-table)
 
@@ -70,5 +85,5 @@ module _ (file : List ℕ) (rows items : ℕ) (table : List ℕ) (h : HoldsFile 
     wide-placed plain fresh l f m {c} e = fresh-is file l rows items wide fresh (3 * rows + c) (w.plant h) (wide-state plain fresh f m) (ap (λ (x : ℕ). 3 * rows + x) e)
 
     pub wide-words : (plain fresh : List ℕ) → Freshened rows items table plain → FreshMade rows items plain wide fresh → {c : ℕ} → c ≡ counts_in wide items
-        → take (3 * rows + c - 0) fresh ≡ fresh_words (w.plant h).held.diagram
+        → take (3 * rows + c) fresh ≡ fresh_words (w.plant h).held.diagram
     wide-words plain fresh f m {c} e = words_of (w.plant h).held.diagram fresh (3 * rows + c) (wide-state plain fresh f m) (ap (λ (x : ℕ). 3 * rows + x) e ∙ plant-places file [] rows items wide (w.plant h))

@@ -1,12 +1,6 @@
 -- THEOREM (number_is): the number over an accepted file's table is the definition's; and what the call is told, branch by branch.
-use Prim.Native.Nat.{ℕ, ◌+◌, ◌-◌, ◌*◌, ◌≤◌, ◌<◌}
-use mathlib.Core.Path.{◌≡◌, sym, ◌∙◌, ap, ap₂, subst}
-use mathlib.Core.Bool.{Bool, true, false, ◌&&◌}
-use mathlib.Core.List.{List}
-use mathlib.Core.Logic.{◌≢◌}
-use native.Mathlib.Omega.{arith}
-use lib.Dec.{ltb, eqb}
-use lib.ListN.{length, get_or}
+use Rattle.std.specs.Prelude.{ℕ, ◌+◌, ◌-◌, ◌*◌, ◌≤◌, ◌<◌, ◌≡◌, Bool, true, false, ◌&&◌, List, ltb, eqb, length, get_or}
+use Rattle.std.proofs.Common.{sym, ◌∙◌, ap, ap₂, subst, arith}
 use borrow.Author.Tests.{ne_eqb, lt-ltb, le-ltb, ltb-true, ltb-false}
 use Rattle.ranges.specs.Tests.{decide}
 use Rattle.effbd.specs.Answers.{accepted, refused}
@@ -28,10 +22,8 @@ use Rattle.diagram_table.specs.Held.{HoldsFile}
 use Rattle.diagram_table.proofs.HeldCells.{kind-cell}
 use Rattle.net_numbers.specs.Numbers.{first_number_in}
 use Rattle.net_numbers.proofs.FirstNumbers.{first-is}
-use Rattle.diagram.specs.declared.Diagram.{Diagram as Parse}
-use Rattle.diagram_file.specs.Tables.{Parsed}
 use Rattle.diagram_moves.specs.Decisions.{row_allowed, state_allowed}
-use Rattle.diagram_moves.proofs.FileMoves.{check-is, transition-refused}
+use Rattle.diagram_moves.proofs.FileMoves.{check-is}
 use Rattle.diagram_step.proofs.Answered.{plain-check}
 use Rattle.diagram_step.specs.Numbers.{Checked, function_number_in}
 
@@ -90,14 +82,10 @@ module _ (file words : List ℕ) (rows items : ℕ) (table : List ℕ) (h : Hold
   pub plain-checked : {s : ℕ} → s ≡ some_trigger_in table → s ≡ 0 → b ≡ (eqb (length words) (3 * rows + items) && all_below rows (row_allowed table words)) → Checked file words b
   unfolding plain_plant
   plain-checked e none told = checked-by (counts_in table items) (ap (counts_in table) h.holds.records.items_are ∙ (plain_plant file rows items table h (sym e ∙ none)).copies.total)
-      (plain-check table rows items words b (sym e ∙ none) told)
+      (plain-check table rows items words (sym e ∙ none) told)
 
   pub copies-checked : are_bytes file ≡ true → {c : ℕ} → CopyTotal file rows items table c → b ≡ state_allowed table rows items (items + c) words → Checked file words b
   copies-checked bytes {c} w told = checked-by (items + c) (ap₂ (λ (x y : ℕ). x + y) h.holds.records.items_are (w.of d (held file d bytes h.read) h.holds.records h.uses.uses) ∙ sym (counts-are d)) told
     where
       d : Diagram
       d = h.diagram
-
--- a file that was refused
-pub file-turned : (file words : List ℕ) (r : ℕ) (p : Parse) → Parsed file p → p.number ≢ 0 → refused p.number p.value ≡ transition_diagram file r words
-file-turned file words r p parsed off = rw (parsed.number, parsed.value) (sym (transition-refused file words r (λ e. off (parsed.number ∙ e))))

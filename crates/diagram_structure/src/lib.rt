@@ -32,6 +32,8 @@ fn around_of(table: &[u16], row: usize) -> Around
 }
 
 // What a row stands in, and that it has no close: the number of rows stands for none.
+// A slice whose length is required: `<&mut [u16; CELLS]>::try_from` does not say what the lent words are afterwards.
+#[tactic(auto, unfolding(crate::specs::Structure::put_structure, diagram_table::specs::CellStores::put_all))]
 fn put_structure(table: &mut [u16], rows: u16, row: usize, around: Around)
     requires { (row < most_rows) × (length table.old ≡ cell_total) }
     ensures { table.new ≡ put_structure rows row around.owner around.latest around.looping table.old }
@@ -46,10 +48,7 @@ fn put_structure(table: &mut [u16], rows: u16, row: usize, around: Around)
 fn looping_in(kind: u16, row: u16, looping: u16) -> u16
     ensures { result ≡ looping_in kind row looping }
 {
-    if kind == kinds::LP_OPEN {
-        return row;
-    }
-    looping
+    if kind == kinds::LP_OPEN { row } else { looping }
 }
 
 // The structure of the row after `row`; where `row` is a close, it is that of its owner.
@@ -59,27 +58,26 @@ fn follow(table: &mut [u16], rows: u16, row: u16)
 {
     let at = row as usize;
     let kind = table[at];
-    let mut around = around_of(table, at);
-    let part = nesting::part_of(kind);
-    match part {
-        Part::Opens => {
-            around = Around {
-                owner: row,
-                latest: row + 1,
-                looping: looping_in(kind, row, around.looping),
-            };
-        }
-        Part::Turns => {
-            around.latest = row;
-        }
+    let around = around_of(table, at);
+    let next = match nesting::part_of(kind) {
+        Part::Opens => Around {
+            owner: row,
+            latest: row + 1,
+            looping: looping_in(kind, row, around.looping),
+        },
+        Part::Turns => Around {
+            latest: row,
+            ..around
+        },
         Part::Closes => {
             let own = around.owner as usize;
-            around = around_of(table, own);
+            let opened = around_of(table, own);
             words::put(table, CLOSE as usize + own, row);
+            opened
         }
-        Part::Stays => {}
-    }
-    put_structure(table, rows, at + 1, around);
+        Part::Stays => around,
+    };
+    put_structure(table, rows, at + 1, next);
 }
 
 // The structure of all rows, of which there are some and not too many.
@@ -93,25 +91,17 @@ fn fill_rows(table: &mut [u16], rows: u16)
         looping: 0,
     };
     put_structure(table, rows, 0, nothing);
-    let mut row: u16 = 0;
-    while row + 1 < rows {
+    for row in 0..rows - 1 {
         follow(table, rows, row);
-        row += 1;
     }
 }
 
 // The structure of all rows of a diagram's table; where it is no table's length or number of rows, nothing changes.
+#[tactic(auto, unfolding(crate::specs::Structure::structure_filled))]
 pub fn fill_structure(table: &mut [u16], rows: u16)
     ensures { table.new ≡ structure_filled rows table.old }
 {
-    if table.len() != CELLS {
-        return;
+    if table.len() == CELLS && 0 < rows && rows <= MOST_ROWS {
+        fill_rows(table, rows);
     }
-    if rows == 0 {
-        return;
-    }
-    if MOST_ROWS < rows {
-        return;
-    }
-    fill_rows(table, rows);
 }

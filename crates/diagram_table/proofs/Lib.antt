@@ -1,3 +1,4 @@
+pub mod BranchRows
 pub mod CellStores
 pub mod HeldCells
 pub mod RisingUses

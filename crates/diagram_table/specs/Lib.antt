@@ -1,3 +1,4 @@
+pub mod Branches
 pub mod Cells
 pub mod CellStores
 pub mod Held

@@ -8,6 +8,10 @@ ghost use Rattle.diagram_table.specs.Cells.{kind_in, uses_part_in, uses_bytes, i
 
 use effbd::limits::{MOST_ITEMS, MOST_ROWS};
 
+mod branches;
+
+pub use branches::Branches;
+
 // A column has a cell for each row; where each column starts, behind the kinds.
 pub const COLUMN: u32 = MOST_ROWS as u32;
 
@@ -64,6 +68,37 @@ pub const USE_SIZE: usize = 6;
 pub struct Part {
     pub start: usize,
     pub size: usize,
+}
+
+// A diagram's table beside the file that it was read from, and how many rows and items it has: what every move is told by. Any words and bytes
+// are one.
+#[derive(Clone, Copy)]
+pub struct Plant<'a> {
+    pub table: &'a [u16],
+    pub file: &'a [u8],
+    pub rows: u32,
+    pub items: u32,
+}
+
+impl<'a> Plant<'a> {
+    pub fn kind(&self, row: u32) -> u16
+        ensures { result ≡ kind_in self.now.table.now row }
+    {
+        kind(self.table, row)
+    }
+
+    pub fn cell(&self, column: u32, row: u32) -> u16
+        ensures { result ≡ get_or self.now.table.now (column + row) 0 }
+    {
+        cell(self.table, column, row)
+    }
+
+    // The uses of a row, as the very bytes of the file.
+    pub fn uses(&self, row: u32) -> &'a [u8]
+        ensures { result.now ≡ uses_bytes self.now.table.now self.now.file.now row }
+    {
+        uses(self.file, self.table, row)
+    }
 }
 
 // The kind of a row.

@@ -1,1 +1,3 @@
+mod BranchTurns
+mod Cleared
 mod KilledRows

@@ -3,31 +3,18 @@
 // past the end a cell or word is 0, a store changes nothing.
 #![tactic(auto)]
 
-ghost use Rattle.std.specs.Prelude.{◌≡◌, ◌≤◌, length};
+ghost use Rattle.std.specs.Prelude.{◌≡◌};
 ghost use Rattle.diagram_moves.specs.Changes.{words_cleared, rows_killed, entered, token_passed, branches_entered, rows_left};
 
-use diagram_table::{BRANCH_ENDED, CLOSE, OWNER};
+use diagram_table::{BRANCH_ENDED, Branches, CLOSE, OWNER};
 
-// The words from `first` on, up to but not including `end`, all of which stand.
-fn clear_standing(state: &mut [u16], first: usize, end: usize)
-    requires { end ≤ length state.old }
-    ensures { state.new ≡ words_cleared first end state.old }
-{
-    for at in first..end {
-        state[at] = 0;
-    }
-}
-
-// The same as far as the state has them: one look at its length serves all.
+// The words from `first` on, up to but not including `end`, as far as the state has them: one look at its length serves all.
 fn clear_words(state: &mut [u16], first: usize, end: usize)
     ensures { state.new ≡ words_cleared first end state.old }
 {
-    let size = state.len();
-    if end <= size {
-        clear_standing(state, first, end);
-    } else {
-        clear_standing(state, first, size);
-    }
+    let to = state.len().min(end);
+    let from = to.min(first);
+    state[from..to].fill(0);
 }
 
 // A branch of the AND that row `owner` opens kills: the rows strictly inside are cleared, then all its BRANCH rows are done.
@@ -66,13 +53,8 @@ pub fn pass_token(table: &[u16], state: &mut [u16], from: u32, to: u32)
 pub fn enter_branches(table: &[u16], state: &mut [u16], last: u16)
     ensures { state.new ≡ branches_entered table.now last state.old }
 {
-    let mut row = last;
-    enter(table, state, row as u32 + 1);
-    let mut before = diagram_table::cell(table, BRANCH_ENDED, row as u32);
-    while before < row {
-        row = before;
-        enter(table, state, row as u32 + 1);
-        before = diagram_table::cell(table, BRANCH_ENDED, row as u32);
+    for row in Branches::back_from(table, last as u32) {
+        enter(table, state, row + 1);
     }
 }
 

@@ -1,11 +1,13 @@
 -- The first use that is stopped, one use after another; how long a row's uses can be.
+use Rattle.std.specs.Prelude.{max}
 use Prim.Native.Nat.{ℕ, zero, suc, ◌+◌, ◌-◌, ◌*◌, ◌≤◌, ◌<◌, zero-le}
 use mathlib.Core.Path.{◌≡◌, refl, sym, ◌∙◌, ap}
 use mathlib.Core.Bool.{Bool, true, false, not, cond, ◌&&◌}
 use mathlib.Core.List.{List}
 use native.Mathlib.Omega.{arith}
 use native.Mathlib.Numerals.{add-one}
-use lib.ListN.{length, get_or, drop, length-drop}
+use lib.ListN.{length, get_or, take, drop, length-drop}
+use Rattle.std.proofs.lemmas.List.{take_all}
 use lib.Seq.{length-take-le}
 use lib.Dec.{leb, ltb}
 use mathlib.Core.Logic.{◌≢◌}
@@ -35,13 +37,16 @@ pub blocked-none : (table : List ℕ) (giving : Bool) (rows items : ℕ) (l : Li
 unfolding blocked_item
 blocked-none table giving rows items l r j rest b = rw (uses-over rest b)
 
--- their number is a word
-pub uses-short : (table file : List ℕ) (r : ℕ) → uses_number_in table r ≤ 65535 → length (uses_bytes table file r) < 393216
+-- a row has no more uses than its number
+uses_few : (table file : List ℕ) (r : ℕ) → length (uses_bytes table file r) ≤ 6 * uses_number_in table r
 unfolding uses_bytes
-uses-short table file r h = decide (leb (uses_start_in table r + 6 * uses_number_in table r) (length file))
+uses_few table file r = decide (leb (uses_start_in table r + 6 * uses_number_in table r) (length file))
     (λ y. let b = leb-true (uses_start_in table r + 6 * uses_number_in table r) (length file) y in
     rw (y, length-take-le (6 * uses_number_in table r) (drop (uses_start_in table r) file) (omega (arith, length-drop (uses_start_in table r) file))) (omega arith))
     (λ y. rw y (omega arith))
+
+pub uses-whole : (table file : List ℕ) (r number : ℕ) → number ≡ uses_number_in table r → take (6 * number) (uses_bytes table file r) ≡ uses_bytes table file r
+uses-whole table file r number e = take_all (6 * number) (uses_bytes table file r) (rw e (uses_few table file r))
 
 -- a run of one count
 pub one-blocked : (giving : Bool) (rows first amount : ℕ) (words : List ℕ) {n x : ℕ} {e : Bool} → n ≡ 1 → x ≡ get_or words (count_place rows (first + 0)) 0 → e ≡ exceeds giving x amount
@@ -83,6 +88,11 @@ more_given table true k e ne = refl
 more_given table false k e ne = absurd (ne e)
 
 -- the largest, one count after another
+pub larger_is : (most count : ℕ) → max most count ≡ cond (ltb most count) count most
+larger_is most count = decide (ltb most count)
+    (λ e. let l = ltb-true most count e in rw e (omega arith))
+    (λ e. let l = ltb-false most count e in rw e (omega arith))
+
 pub most-none : (rows first : ℕ) (words : List ℕ) → 0 ≡ most_of rows first words 0
 unfolding most_of
 most-none rows first words = refl

@@ -1,3 +1,3 @@
-mod Faults
+mod Becomes
 mod Turns
 mod Calls

@@ -8,8 +8,9 @@ use native.Mathlib.Omega.{arith}
 use native.Mathlib.Numerals.{add-one}
 use lib.ListN.{length, take, drop, length-append, length-take, length-drop}
 use lib.Seq.{take_at, drop_at, take_all, drop-length, drop-drop}
-use lib.Dec.{ltb}
-use borrow.Author.Tests.{ltb-true, ltb-false}
+use lib.Dec.{ltb, eqb}
+use borrow.Author.Tests.{ltb-true, ltb-false, eqb-true, eqb-false}
+use mathlib.Core.Bool.{Bool, true, false}
 use borrow.Rule.Slice.PartMut.{mid_of, put_mid}
 use Rattle.effbd.specs.Answers.{Outcome, accepted, refused, unless}
 use Rattle.effbd.specs.Editions.{joined, convert_from, telegram_count, stopping}
@@ -20,16 +21,14 @@ use Rattle.edition_laws.specs.Runs.{joined-inv, joined-joined}
 use Rattle.words.specs.Stores.{copied}
 use Rattle.telegrams.proofs.Written.{has_room}
 use Rattle.editions.specs.Checks.{checked}
+use Rattle.editions.specs.Conversions.{Counts}
 
--- what is left of a run, one telegram less
-abbrev Counts : ℕ → Type 0
-Counts size = (run : List ℕ) → 0 < length run → telegram_count size run ≡ suc (telegram_count size (drop size run))
+-- something is left, or nothing
+pub some-left : (b : Bool) (n : ℕ) → b ≡ eqb n 0 → b ≡ false → 0 < n
+some-left b n e f = let z = eqb-false n 0 (sym e ∙ f) in omega (arith, z)
 
-pub counts-8 : Counts 8
-counts-8 run h = let d = length-drop 8 run in omega arith
-
-pub counts-14 : Counts 14
-counts-14 run h = let d = length-drop 14 run in omega arith
+pub none_left : (b : Bool) (n : ℕ) → b ≡ eqb n 0 → b ≡ true → n ≤ 0
+none_left b n e t = let z = eqb-true n 0 (sym e ∙ t) in omega arith
 
 -- nothing is left
 empty : (run : List ℕ) → length run ≤ 0 → run ≡ []

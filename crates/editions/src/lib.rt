@@ -2,12 +2,14 @@
 // written nothing. Each telegram is read from the rest of the run and written into the rest of the area.
 #![tactic(auto)]
 
-ghost use Rattle.std.specs.Prelude.{◌≡◌, true, take};
-ghost use Rattle.effbd.specs.Answers.{said, is_accepted};
-ghost use Rattle.effbd.specs.Editions.{old_fault, new_fault, upward, downward, stopping, telegrams_up, telegrams_down};
+ghost use Rattle.std.specs.Prelude.{◌≡◌, ℕ, List, true, take};
+ghost use Rattle.words.specs.Stores.{copied};
+ghost use Rattle.effbd.specs.Answers.{said, fault, is_accepted};
+ghost use Rattle.effbd.specs.Editions.{old_fault, new_fault, new_of, old_of, stopping, telegrams_up, telegrams_down};
 ghost use Rattle.editions.specs.Checks.{checked};
+ghost use Rattle.editions.specs.Conversions.{converted, laid, Sizes, Telegrams, old-sizes, new-sizes, old-telegrams, new-telegrams};
 
-use effbd::{Answer, limits, refusals};
+use effbd::{Answer, Reason, Refusal, limits};
 
 const OLD: usize = limits::OLD_TELEGRAM_LENGTH as usize;
 
@@ -17,124 +19,175 @@ const NEW: usize = limits::TELEGRAM_LENGTH as usize;
 fn stopped(n: usize) -> u32
     ensures { result ≡ stopping n }
 {
-    if n <= limits::MOST_COUNT as usize {
-        return n as u32;
-    }
-    limits::MOST_COUNT
+    u32::try_from(n).unwrap_or(limits::MOST_COUNT)
 }
 
-// The first telegram of a run, or what is left of one.
-fn front<'a>(run: &'a [u8], size: usize) -> &'a [u8]
-    ensures { result.now ≡ take size run.now }
-{
-    if size <= run.len() {
-        return &run[0..size];
-    }
-    &run[0..run.len()]
+// One way of the conversion: the bytes of a telegram and of what it becomes.
+trait Conversion {
+    ghost SIZE: { ℕ };
+
+    ghost OUT: { ℕ };
+
+    ghost off: { Self → ℕ → List ℕ → ℕ };
+
+    ghost made: { Self → ℕ → List ℕ → List ℕ };
+
+    const SIZE: usize;
+
+    const OUT: usize;
+
+    // What is off at a telegram that is to have this number.
+    fn fault(&self, telegram: &[u8], number: usize) -> Option<Reason>
+        ensures { fault result ≡ off self.now number telegram.now };
+
+    // Writes what the telegram at the front of `rest` becomes.
+    fn write(&self, rest: &[u8], number: u32, area: &mut [u8])
+        ensures { area.new ≡ copied (made self.now number (take SIZE rest.now)) area.old };
+
+    ghost sizes: { Sizes SIZE OUT };
+
+    ghost telegrams: { (s : Self) → Telegrams SIZE OUT (off s) (made s) };
 }
 
-// What is off at an old telegram that is to get this number.
-fn old_fault(telegram: &[u8], number: usize) -> u16
-    ensures { result ≡ old_fault number telegram.now }
-{
-    if !telegrams::is_old_telegram(telegram) {
-        return refusals::NO_TELEGRAM;
-    }
-    if (limits::MOST_COUNT as usize) < number {
-        return refusals::NUMBER_NOT_NEXT;
-    }
-    0
+// To the new edition, with this station and numbers.
+#[derive(Clone, Copy)]
+struct Upward {
+    station: u16,
 }
 
-// What is off at a telegram where this station and number are due.
-fn new_fault(telegram: &[u8], station: u16, number: usize) -> u16
-    ensures { result ≡ new_fault station number telegram.now }
-{
-    if !telegrams::is_telegram(telegram) {
-        return refusals::NO_TELEGRAM;
-    }
-    if words::long(telegram, telegrams::NUMBER) as usize != number {
-        return refusals::NUMBER_NOT_NEXT;
-    }
-    if words::word(telegram, telegrams::STATION) != station {
-        return refusals::STATION_DIFFERS;
-    }
-    0
+// To the old one, which has neither: all telegrams have this station.
+#[derive(Clone, Copy)]
+struct Downward {
+    station: u16,
 }
 
-// Whether an old run can be converted, whatever the station: accepted with 0, or what is off at the first telegram that is.
-fn check_up(old: &[u8], first: u32) -> Answer
-    ensures { said result ≡ checked (upward old.now 0 first) }
-{
-    let mut rest = old;
-    let mut index: usize = 0;
-    while 0 < rest.len() {
-        let fault = old_fault(front(rest, OLD), first as usize + index);
-        if fault != 0 {
-            return Answer::Refused(fault, stopped(index));
+impl Conversion for Upward {
+    ghost SIZE = { 8 };
+
+    ghost OUT = { 14 };
+
+    ghost off = { λ s n t. old_fault n t };
+
+    ghost made = { λ s n t. new_of s.station n t };
+
+    const SIZE: usize = OLD;
+
+    const OUT: usize = NEW;
+
+    ghost sizes = { old-sizes };
+
+    ghost telegrams = { λ s. old-telegrams s.station };
+
+    #[tactic(auto, unfolding(effbd::specs::Editions::old_fault))]
+    fn fault(&self, telegram: &[u8], number: usize) -> Option<Reason> {
+        if !telegrams::is_old_telegram(telegram) {
+            return Some(Reason::NoTelegram);
         }
-        let more = words::tail(rest, OLD);
-        rest = more;
-        index += 1;
-    }
-    Answer::Accepted(0)
-}
-
-// Whether a run can be converted to the old edition, in the same way: station and number of its first telegram give the others.
-fn check_down(run: &[u8]) -> Answer
-    ensures { said result ≡ checked (downward run.now) }
-{
-    let station = words::word(run, telegrams::STATION);
-    let first = words::long(run, telegrams::NUMBER);
-    let mut rest = run;
-    let mut index: usize = 0;
-    while 0 < rest.len() {
-        let fault = new_fault(front(rest, NEW), station, first as usize + index);
-        if fault != 0 {
-            return Answer::Refused(fault, stopped(index));
+        if (limits::MOST_COUNT as usize) < number {
+            return Some(Reason::NumberNotNext);
         }
-        let more = words::tail(rest, NEW);
-        rest = more;
-        index += 1;
+        None
     }
-    Answer::Accepted(0)
-}
 
-// Writes what an old run is converted to, where nothing is off and the area has room.
-fn write_up(old: &[u8], station: u16, first: u32, area: &mut [u8])
-    requires { is_accepted (telegrams_up old.now station first area.old).answer ≡ true }
-    ensures { area.new ≡ (telegrams_up old.now station first area.old).area }
-{
-    let mut rest = old;
-    let mut index: usize = 0;
-    let mut at: usize = 0;
-    while OLD <= rest.len() {
-        let number = (first as usize + index) as u32;
+    fn write(&self, rest: &[u8], number: u32, area: &mut [u8]) {
         let code = words::word(rest, telegrams::OLD_CODE);
         let argument = words::word(rest, telegrams::OLD_ARGUMENT);
-        telegrams::write_telegram(&mut area[at..], number, station, code, argument);
-        let more = words::tail(rest, OLD);
-        rest = more;
-        index += 1;
-        at += NEW;
+        telegrams::write_telegram(area, number, self.station, code, argument);
     }
 }
 
-// The same to the old edition.
-fn write_down(run: &[u8], area: &mut [u8])
-    requires { is_accepted (telegrams_down run.now area.old 0 0).answer ≡ true }
-    ensures { area.new ≡ (telegrams_down run.now area.old 0 0).area }
-{
-    let mut rest = run;
-    let mut at: usize = 0;
-    while NEW <= rest.len() {
+impl Conversion for Downward {
+    ghost SIZE = { 14 };
+
+    ghost OUT = { 8 };
+
+    ghost off = { λ s n t. new_fault s.station n t };
+
+    ghost made = { λ s n t. old_of n t };
+
+    const SIZE: usize = NEW;
+
+    const OUT: usize = OLD;
+
+    ghost sizes = { new-sizes };
+
+    ghost telegrams = { λ s. new-telegrams s.station };
+
+    #[tactic(auto, unfolding(effbd::specs::Editions::new_fault))]
+    fn fault(&self, telegram: &[u8], number: usize) -> Option<Reason> {
+        if !telegrams::is_telegram(telegram) {
+            return Some(Reason::NoTelegram);
+        }
+        if words::long(telegram, telegrams::NUMBER) as usize != number {
+            return Some(Reason::NumberNotNext);
+        }
+        if words::word(telegram, telegrams::STATION) != self.station {
+            return Some(Reason::StationDiffers);
+        }
+        None
+    }
+
+    fn write(&self, rest: &[u8], _number: u32, area: &mut [u8]) {
         let code = words::word(rest, telegrams::CODE);
         let argument = words::word(rest, telegrams::ARGUMENT);
-        telegrams::write_old_telegram(&mut area[at..], code, argument);
-        let more = words::tail(rest, NEW);
-        rest = more;
-        at += OLD;
+        telegrams::write_old_telegram(area, code, argument);
     }
+}
+
+// Whether a run can be converted: accepted with 0, or what is off at the first telegram that is.
+fn check<C: Conversion>(way: &C, run: &[u8], first: u32) -> Answer
+    ensures { said result ≡ checked (converted C.SIZE (C.off way.now) (C.made way.now) first run.now) }
+{
+    let size = C::SIZE;
+    // Tails and an index, no chunks: each telegram is read from the rest of the run and written into the rest of the area (the documents' form).
+    let mut rest = run;
+    let mut index: usize = 0;
+    while !rest.is_empty() {
+        if let Some(reason) = way.fault(words::front(rest, size), first as usize + index) {
+            return Err(Refusal {
+                reason,
+                value: stopped(index),
+            });
+        }
+        rest = words::tail(rest, size);
+        index += 1;
+    }
+    Ok(0)
+}
+
+// Writes what a run is converted to, where nothing is off and the area has room.
+fn write<C: Conversion>(way: &C, run: &[u8], first: u32, area: &mut [u8])
+    requires { is_accepted (laid area.old (converted C.SIZE (C.off way.now) (C.made way.now) first run.now)).answer ≡ true }
+    ensures { area.new ≡ (laid area.old (converted C.SIZE (C.off way.now) (C.made way.now) first run.now)).area }
+{
+    let (size, out) = (C::SIZE, C::OUT);
+    let mut rest = run;
+    let mut index: usize = 0;
+    let mut at: usize = 0;
+    while size <= rest.len() {
+        let number = (first as usize + index) as u32;
+        way.write(rest, number, &mut area[at..]);
+        rest = words::tail(rest, size);
+        index += 1;
+        at += out;
+    }
+}
+
+// Converts a run whose first telegram is to have this number: accepted with the bytes written.
+fn convert<C: Conversion>(way: &C, run: &[u8], first: u32, area: &mut [u8]) -> Answer
+    ensures answer { said result ≡ (laid area.old (converted C.SIZE (C.off way.now) (C.made way.now) first run.now)).answer }
+    ensures area { area.new ≡ (laid area.old (converted C.SIZE (C.off way.now) (C.made way.now) first run.now)).area }
+{
+    check(way, run, first)?;
+    let size = run.len() / C::SIZE * C::OUT;
+    if area.len() < size {
+        return Err(Refusal {
+            reason: Reason::AreaShort,
+            value: stopped(size),
+        });
+    }
+    write(way, run, first, area);
+    Ok(stopped(size))
 }
 
 // A run of old telegrams as telegrams of this station, numbered from the first number on: accepted with the bytes written.
@@ -142,18 +195,7 @@ pub fn telegrams_up(old: &[u8], station: u16, first: u32, area: &mut [u8]) -> An
     ensures result_value { said result ≡ (telegrams_up old.now station first area.old).answer }
     ensures area_after { area.new ≡ (telegrams_up old.now station first area.old).area }
 {
-    let check = check_up(old, first);
-    match check {
-        Answer::Refused(number, value) => Answer::Refused(number, value),
-        Answer::Accepted(_) => {
-            let size = old.len() / OLD * NEW;
-            if area.len() < size {
-                return Answer::Refused(refusals::AREA_SHORT, stopped(size));
-            }
-            write_up(old, station, first, area);
-            Answer::Accepted(stopped(size))
-        }
-    }
+    convert(&Upward { station }, old, first, area)
 }
 
 // A run of telegrams as old ones; the station and the first number give the run back: accepted with the bytes written.
@@ -163,18 +205,10 @@ pub fn telegrams_down(run: &[u8], area: &mut [u8], station: &mut u16, first: &mu
     ensures station_after { station.new ≡ (telegrams_down run.now area.old station.old first.old).station }
     ensures first_after { first.new ≡ (telegrams_down run.now area.old station.old first.old).first }
 {
-    let check = check_down(run);
-    match check {
-        Answer::Refused(number, value) => Answer::Refused(number, value),
-        Answer::Accepted(_) => {
-            let size = run.len() / NEW * OLD;
-            if area.len() < size {
-                return Answer::Refused(refusals::AREA_SHORT, stopped(size));
-            }
-            write_down(run, area);
-            *station = words::word(run, telegrams::STATION);
-            *first = words::long(run, telegrams::NUMBER);
-            Answer::Accepted(stopped(size))
-        }
-    }
+    let due = words::word(run, telegrams::STATION);
+    let number = words::long(run, telegrams::NUMBER);
+    let size = convert(&Downward { station: due }, run, number, area)?;
+    *station = due;
+    *first = number;
+    Ok(size)
 }

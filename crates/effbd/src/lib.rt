@@ -6,11 +6,7 @@ pub mod limits;
 pub mod moves;
 pub mod refusals;
 
-// `said` in specs/Answers.antt states document 01's number and value of each case.
-#[derive(Clone, Copy)]
-pub enum Answer {
-    // A result that is no refusal, with the value that the call returns.
-    Accepted(u32),
-    // Turned away: the number of the refusal and the value returned with it.
-    Refused(u16, u32),
-}
+pub use refusals::{Reason, Refusal};
+
+// What a call answers: the value that it returns, or why it is turned away. `said` in specs/Answers.antt states document 01's number and value.
+pub type Answer = Result<u32, Refusal>;

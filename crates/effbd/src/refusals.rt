@@ -1,66 +1,58 @@
-// The refusals of documents 01 and 02 by name, as refusals.txt at the repository's root lists them.
-pub const CUT_SHORT: u16 = 1;
+// The refusals of documents 01 and 02 by name, as refusals.txt at the repository's root lists them, and what a call that is turned away returns.
+ghost use Rattle.std.specs.Prelude.{◌≡◌};
+ghost use Rattle.effbd.specs.Answers.{number};
 
-pub const KIND_NOT_DUE: u16 = 2;
+// Why a call is turned away. `number` in specs/Answers.antt states the papers' number of each.
+#[derive(Clone, Copy, Debug, PartialEq, Eq)]
+pub enum Reason {
+    CutShort = 1,
+    KindNotDue = 2,
+    LengthWrong = 3,
+    HeadValueOff = 4,
+    FieldOff = 5,
+    BytesAfterLast = 6,
+    NestingBroken = 7,
+    LoopExitMisplaced = 8,
+    TooManyOpen = 9,
+    AreaShort = 10,
+    StateOff = 20,
+    CodeOff = 21,
+    NotStanding = 22,
+    ItemShort = 23,
+    TicksLacking = 24,
+    SumTooLarge = 25,
+    WaitHeld = 26,
+    CountFull = 27,
+    NoTelegram = 30,
+    OtherStation = 31,
+    NumberPast = 32,
+    NumberAhead = 33,
+    LogOff = 40,
+    NotFunction = 41,
+    MoveRefused = 42,
+    TriggerOff = 43,
+    KillingBranchEmpty = 44,
+    LoopSpendsNoTime = 45,
+    NumberNotNext = 46,
+    StationDiffers = 47,
+    BoxExitMisplaced = 48,
+    OutletsUnmatched = 49,
+    ScenarioFallsThrough = 50,
+    // No refusal of the papers, and no exported function's: a table that is lent to a reader has not the length of a table.
+    TableOff = 65535,
+}
 
-pub const LENGTH_WRONG: u16 = 3;
+impl Reason {
+    pub fn number(self) -> u16
+        ensures { result ≡ number self }
+    {
+        self as u16
+    }
+}
 
-pub const HEAD_VALUE_OFF: u16 = 4;
-
-pub const FIELD_OFF: u16 = 5;
-
-pub const BYTES_AFTER_LAST: u16 = 6;
-
-pub const NESTING_BROKEN: u16 = 7;
-
-pub const LOOP_EXIT_MISPLACED: u16 = 8;
-
-pub const TOO_MANY_OPEN: u16 = 9;
-
-pub const AREA_SHORT: u16 = 10;
-
-pub const STATE_OFF: u16 = 20;
-
-pub const CODE_OFF: u16 = 21;
-
-pub const NOT_STANDING: u16 = 22;
-
-pub const ITEM_SHORT: u16 = 23;
-
-pub const TICKS_LACKING: u16 = 24;
-
-pub const SUM_TOO_LARGE: u16 = 25;
-
-pub const WAIT_HELD: u16 = 26;
-
-pub const COUNT_FULL: u16 = 27;
-
-pub const NO_TELEGRAM: u16 = 30;
-
-pub const OTHER_STATION: u16 = 31;
-
-pub const NUMBER_PAST: u16 = 32;
-
-pub const NUMBER_AHEAD: u16 = 33;
-
-pub const LOG_OFF: u16 = 40;
-
-pub const NOT_FUNCTION: u16 = 41;
-
-pub const MOVE_REFUSED: u16 = 42;
-
-pub const TRIGGER_OFF: u16 = 43;
-
-pub const KILLING_BRANCH_EMPTY: u16 = 44;
-
-pub const LOOP_SPENDS_NO_TIME: u16 = 45;
-
-pub const NUMBER_NOT_NEXT: u16 = 46;
-
-pub const STATION_DIFFERS: u16 = 47;
-
-pub const BOX_EXIT_MISPLACED: u16 = 48;
-
-pub const OUTLETS_UNMATCHED: u16 = 49;
-
-pub const SCENARIO_FALLS_THROUGH: u16 = 50;
+// Turned away: why, and the value returned with it.
+#[derive(Clone, Copy, Debug, PartialEq, Eq)]
+pub struct Refusal {
+    pub reason: Reason,
+    pub value: u32,
+}

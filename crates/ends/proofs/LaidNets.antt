@@ -1,7 +1,6 @@
 -- The net of a file in an area, or a refusal; what is read of that net, and both fresh states.
 use Prim.Native.Nat.{ℕ, ◌≤◌}
-use mathlib.Core.Path.{◌≡◌, refl, sym, ◌∙◌, ap, ap₂, subst}
-use mathlib.Core.Logic.{◌≢◌}
+use mathlib.Core.Path.{◌≡◌, refl, sym, ◌∙◌, ap, subst}
 use mathlib.Core.Bool.{Bool, true, cond}
 use mathlib.Core.List.{List, ◌++◌}
 use native.Mathlib.Omega.{arith}
@@ -9,7 +8,7 @@ use lib.ListN.{length, take, drop, length-append}
 use lib.Seq.{take_at}
 use lib.Dec.{eqb}
 use borrow.Author.Tests.{le-ltb}
-use Rattle.effbd.specs.Answers.{Outcome, accepted, refused, and_then, refusal_number, refusal_value}
+use Rattle.effbd.specs.Answers.{Outcome, accepted, refused, and_then, number}
 use Rattle.effbd.specs.Records.{are_bytes}
 use Rattle.effbd.specs.Diagrams.{Diagram}
 use Rattle.effbd.specs.Nesting.{read_diagram}
@@ -25,7 +24,9 @@ use Rattle.agreement.specs.AcceptedFiles.{held}
 use Rattle.agreement.proofs.Theorems.{net-well-formed, net-read-back}
 use Rattle.diagram_file.specs.Tables.{Parsed}
 use Rattle.diagram_table.specs.Held.{HoldsFile}
-use Rattle.diagram.specs.declared.Diagram.{Diagram as Table}
+use Rattle.diagram_file.proofs.Promises.{turned-away}
+use Rattle.std.specs.Prelude.{Err}
+use Rattle.effbd.specs.declared.refusals.Refusal.{Refusal}
 use Rattle.translate.proofs.Sizes.{net-short}
 use Rattle.copies.specs.Counting.{copies_counted}
 use Rattle.copies.specs.Promised.{zeros, WidenedPlant}
@@ -34,13 +35,9 @@ use Rattle.diagram_table.specs.Cells.{wide_total}
 use Rattle.ends.specs.ReadyEnds.{net_length, NetLaidAs, NetOf}
 
 -- a refused file has no net
-pub no-net : (file area : List ℕ) (p : Table) → Parsed file p → p.number ≢ 0 → (refused p.number p.value ≡ net_length (read_diagram file)) × NetLaidAs (read_diagram file) area area
+pub no-net : (file area : List ℕ) (e : Refusal) → Parsed file (Err e) → (refused (number e.reason) e.value ≡ net_length (read_diagram file)) × NetLaidAs (read_diagram file) area area
 unfolding net_length
-no-net file area p h n = go (read_diagram file) h.number h.value
-  where
-    go : (o : Outcome Diagram) → p.number ≡ refusal_number o → p.value ≡ refusal_value o → (refused p.number p.value ≡ net_length o) × NetLaidAs o area area
-    go (accepted d) e f = absurd (n e)
-    go (refused number value) e f = (ap₂ refused e f, refl)
+no-net file area e p = rw (turned-away file e p) (refl, refl)
 
 -- an accepted file's net fits
 module _ (file : List ℕ) (rows items : ℕ) (table : List ℕ) (h : HoldsFile file rows items table) (bytes : are_bytes file ≡ true) where

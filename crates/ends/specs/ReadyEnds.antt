@@ -1,6 +1,7 @@
 -- Both ends before the first call: the net of a file, the fresh states, and how long each is. Assumes nothing.
-use Rattle.std.specs.Prelude.{ℕ, ◌+◌, ◌≤◌, ◌≡◌, List, ◌++◌, length, drop}
+use Rattle.std.specs.Prelude.{ℕ, ◌+◌, ◌≤◌, ◌≡◌, Result, Ok, Err, List, ◌++◌, length, drop}
 use Rattle.effbd.specs.Answers.{Outcome, accepted, refused}
+use Rattle.effbd.specs.declared.refusals.Refusal.{Refusal}
 use Rattle.effbd.specs.Diagrams.{Diagram}
 use Rattle.effbd.specs.Nesting.{read_diagram}
 use Rattle.effbd.specs.Layout.{places}
@@ -10,6 +11,7 @@ use Rattle.effbd.specs.Firing.{net_word_count, fresh_net_words}
 use Rattle.effbd.specs.Patterns.{net_of}
 use Rattle.effbd.specs.History.{net_file_of}
 use Rattle.translate.specs.NetRecords.{net_room}
+use Rattle.ends.specs.declared.EndSizes.{EndSizes}
 
 -- room for the state of every diagram, and of every net
 abbrev pub leader_room : ℕ
@@ -74,3 +76,16 @@ ReadyAs (accepted d) net leader follower net' leader' follower' net_bytes leader
     ReadyEnds d net leader follower net' leader' follower' net_bytes leader_words follower_words
 ReadyAs (refused number value) net leader follower net' leader' follower' net_bytes leader_words follower_words =
     NoEnds net leader follower net' leader' follower' net_bytes leader_words follower_words
+
+-- how long the net and the states are, 0 where the file is refused
+abbrev pub net_bytes : Result EndSizes Refusal → ℕ
+net_bytes (Ok sizes) = sizes.net
+net_bytes (Err refusal) = 0
+
+abbrev pub leader_words : Result EndSizes Refusal → ℕ
+leader_words (Ok sizes) = sizes.states.leader
+leader_words (Err refusal) = 0
+
+abbrev pub follower_words : Result EndSizes Refusal → ℕ
+follower_words (Ok sizes) = sizes.states.follower
+follower_words (Err refusal) = 0

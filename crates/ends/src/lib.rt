@@ -4,12 +4,13 @@
 ghost use Rattle.std.specs.Prelude.{◌≡◌, ◌≤◌, length};
 ghost use Rattle.effbd.specs.Answers.{said, returning_zero, afterwards};
 ghost use Rattle.effbd.specs.Nesting.{read_diagram};
-ghost use Rattle.ends.specs.ReadyEnds.{leader_room, follower_room, net_length, NetLaidAs, NetOf, FreshOf, ReadyAs};
+ghost use Rattle.ends.specs.ReadyEnds.{leader_room, follower_room, net_bytes, leader_words, follower_words, net_length, NetLaidAs, NetOf, FreshOf, ReadyAs};
 ghost use Rattle.translate.specs.NetRecords.{net_room};
 
-use effbd::{Answer, limits};
+use effbd::{Answer, Refusal, limits};
 
-// Room for the net and the states of every file.
+// Room for the net and the states of every file: fixed memory and how much of it is used, since there is no heap. The two states are lent each by
+// itself, as callers have them.
 pub const NET_BYTES: usize = 584072;
 
 pub const LEADER_WORDS: usize = limits::MOST_PLACES as usize;
@@ -23,10 +24,9 @@ pub struct StateSizes {
     pub follower: u32,
 }
 
-// Both ends ready for their first call: the bytes of the net and the words of the states; or the file's refusal.
+// Both ends ready for their first call: the bytes of the net and the words of the states.
 #[derive(Clone, Copy)]
-pub struct ReadyResult {
-    pub answer: Answer,
+pub struct EndSizes {
     pub net: u32,
     pub states: StateSizes,
 }
@@ -35,10 +35,7 @@ pub struct ReadyResult {
 fn words_of(answer: Answer) -> u32
     ensures { result ≡ afterwards 0 (said answer) }
 {
-    match answer {
-        Answer::Accepted(value) => value,
-        Answer::Refused(_, _) => 0,
-    }
+    answer.unwrap_or(0)
 }
 
 // The net of a file, written into an area that has room for every net (of an accepted file's table it is known that its net fits).
@@ -47,10 +44,7 @@ fn translate_into(file: &[u8], area: &mut [u8]) -> Answer
     ensures result_value { said result ≡ net_length (read_diagram file.now) }
     ensures net_laid_as { NetLaidAs (read_diagram file.now) area.old area.new }
 {
-    let diagram = diagram_file::parse(file);
-    if diagram.number != 0 {
-        return Answer::Refused(diagram.number, diagram.value);
-    }
+    diagram_file::parse(file)?;
     translate::translate(file, area)
 }
 
@@ -71,8 +65,9 @@ fn fresh_ends(file: &[u8], net: &[u8], leader: &mut [u16], follower: &mut [u16])
 {
     let leader_words = words_of(diagram_file::read(file));
     let follower_words = words_of(net_file::read(net));
-    diagram_step::fresh(file, &mut leader[0..leader_words as usize]);
-    net_fresh::fresh(net, &mut follower[0..follower_words as usize]);
+    // Both have just the words that they are asked for: nothing is refused.
+    let _ = diagram_step::fresh(file, &mut leader[..leader_words as usize]);
+    let _ = net_fresh::fresh(net, &mut follower[..follower_words as usize]);
     StateSizes {
         leader: leader_words,
         follower: follower_words,
@@ -80,29 +75,21 @@ fn fresh_ends(file: &[u8], net: &[u8], leader: &mut [u16], follower: &mut [u16])
 }
 
 // As `ready`, on lent memory that has room for every file's ends.
-fn ready_in(file: &[u8], net: &mut [u8], leader: &mut [u16], follower: &mut [u16]) -> ReadyResult
+fn ready_in(
+    file: &[u8],
+    net: &mut [u8],
+    leader: &mut [u16],
+    follower: &mut [u16],
+) -> Result<EndSizes, Refusal>
     requires net_room_in_bounds { net_room ≤ length net.old }
     requires leader_room_in_bounds { leader_room ≤ length leader.old }
     requires follower_room_in_bounds { follower_room ≤ length follower.old }
-    ensures answer_value { said result.answer ≡ returning_zero (read_diagram file.now) }
-    ensures ready_as { ReadyAs (read_diagram file.now) net.old leader.old follower.old net.new leader.new follower.new result.net result.states.leader result.states.follower }
+    ensures answer_value { returning_zero (said result) ≡ returning_zero (read_diagram file.now) }
+    ensures ready_as { ReadyAs (read_diagram file.now) net.old leader.old follower.old net.new leader.new follower.new (net_bytes result) (leader_words result) (follower_words result) }
 {
-    let answer = translate_into(file, net);
-    match answer {
-        Answer::Refused(number, value) => ReadyResult {
-            answer: Answer::Refused(number, value),
-            net: 0,
-            states: StateSizes {
-                leader: 0,
-                follower: 0,
-            },
-        },
-        Answer::Accepted(size) => ReadyResult {
-            answer: Answer::Accepted(0),
-            net: size,
-            states: fresh_ends(file, &net[..size as usize], leader, follower),
-        },
-    }
+    let size = translate_into(file, net)?;
+    let states = fresh_ends(file, &net[..size as usize], leader, follower);
+    Ok(EndSizes { net: size, states })
 }
 
 // Makes both ends of an accepted file ready for their first call: its net and both fresh states, each at the start of what is lent for it.
@@ -112,9 +99,9 @@ pub fn ready(
     net: &mut [u8; NET_BYTES],
     leader: &mut [u16; LEADER_WORDS],
     follower: &mut [u16; FOLLOWER_WORDS],
-) -> ReadyResult
-    ensures answer_value { said result.answer ≡ returning_zero (read_diagram file.now) }
-    ensures ready_as { ReadyAs (read_diagram file.now) net.old leader.old follower.old net.new leader.new follower.new result.net result.states.leader result.states.follower }
+) -> Result<EndSizes, Refusal>
+    ensures answer_value { returning_zero (said result) ≡ returning_zero (read_diagram file.now) }
+    ensures ready_as { ReadyAs (read_diagram file.now) net.old leader.old follower.old net.new leader.new follower.new (net_bytes result) (leader_words result) (follower_words result) }
 {
     ready_in(file, net, leader, follower)
 }

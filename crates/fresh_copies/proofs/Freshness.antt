@@ -1,14 +1,13 @@
 -- The fresh state with its copies: every store is of the count's own initial value, and each copy is in the run of its trigger.
 use Prim.Native.Nat.{ℕ, zero, suc, ◌+◌, ◌-◌, ◌*◌, ◌≤◌, ◌<◌}
-use mathlib.Core.Path.{◌≡◌, refl, sym, ◌∙◌, ap, subst}
-use mathlib.Core.Logic.{◌≢◌}
+use mathlib.Core.Path.{◌≡◌, sym, ◌∙◌, ap, subst}
 use mathlib.Core.Bool.{true, false, cond}
-use mathlib.Core.List.{List, [], ◌++◌, append-nil}
+use mathlib.Core.List.{List}
 use native.Mathlib.Omega.{arith}
-use lib.ListN.{length, get_or, take, length-set, length-take, get_or-eq_default}
-use lib.Seq.{ext_get_or, get_or-set_same, get_or-set_other, get_or-take}
-use lib.Dec.{ltb, eqb}
-use borrow.Author.Tests.{ltb-true, ltb-false, eqb-true, eqb-false, le-ltb}
+use lib.ListN.{length, get_or, take, length-take, get_or-eq_default}
+use lib.Seq.{ext_get_or, get_or-take}
+use lib.Dec.{ltb}
+use borrow.Author.Tests.{ltb-true, ltb-false, le-ltb}
 use Rattle.effbd.specs.Diagrams.{Diagram, row_count, item_total, item, is_trigger}
 use Rattle.effbd.specs.Counts.{copy, copies, copies_of, count_total, tally, initial_count}
 use Rattle.effbd.specs.Layout.{places, place_of}
@@ -23,27 +22,9 @@ use Rattle.diagram_table.specs.Cells.{trigger_in, count_in, run_first, run_lengt
 use Rattle.diagram_table.specs.Held.{Holds, HoldsCopies, FreshFront, FreshOf}
 use Rattle.fresh_copies.specs.Runs.{run_put, runs_put, fresh_put, FreshMade}
 use Rattle.copies.specs.Promised.{zeros}
+use Rattle.fresh_copies.proofs.Fills.{run_long, run-other, run-own}
 use Rattle.copies.proofs.CopiesNumbered.{copies-next, copies-few}
 use Rattle.copies.proofs.Fronts.{copied-long, copied_at}
-
--- ---- a run
-run_long : (from many value : ℕ) (l : List ℕ) → length (run_put from many value l) ≡ length l
-unfolding run_put
-run_long from zero value l = refl
-run_long from (suc n) value l = length-set (run_put from n value l) (from + n) value ∙ run_long from n value l
-
-run-other : (from many value : ℕ) (l : List ℕ) (i : ℕ) → ((j : ℕ) → j < many → i ≢ from + j) → get_or (run_put from many value l) i 0 ≡ get_or l i 0
-unfolding run_put
-run-other from zero value l i h = refl
-run-other from (suc n) value l i h = get_or-set_other (run_put from n value l) (from + n) i value 0 (h n (omega arith)) ∙ run-other from n value l i (λ j z. h j (omega arith))
-
-run-own : (from many value : ℕ) (l : List ℕ) (j : ℕ) → j < many → from + j < length l → get_or (run_put from many value l) (from + j) 0 ≡ value
-unfolding run_put
-run-own from zero value l j h n = absurd (omega arith)
-run-own from (suc m) value l j h n = decide (eqb j m)
-    (λ e. let z = eqb-true j m e in rw z (get_or-set_same (run_put from m value l) (from + m) value 0 (omega (arith, run_long from m value l))))
-    (λ e. let z = eqb-false j m e in
-    get_or-set_other (run_put from m value l) (from + m) (from + j) value 0 (λ y. z (omega arith)) ∙ run-own from m value l j (omega arith) n)
 
 module _ (d : Diagram) where
   fresh-long : length (fresh_words d) ≡ places d
@@ -203,11 +184,11 @@ module _ (d : Diagram) where
           let w = runs-said (item_total d) (copied front (zeros most_places)) (omega arith) begun in let x = room in let y = counts-are d in
           all_right _ (omega (arith, w.long)) (λ i z. w.each i (omega arith)) w.behind)
 
-pub fresh-made : (rows items : ℕ) (plain table none state : List ℕ) → none ≡ zeros most_places → state ≡ fresh_put rows items plain table none → FreshMade rows items plain table (state ++ [])
+pub fresh-made : (rows items : ℕ) (plain table none state : List ℕ) → none ≡ zeros most_places → state ≡ fresh_put rows items plain table none → FreshMade rows items plain table state
 fresh-made rows items plain table none state z e = record {
   is = is;
   of = λ d h b c f. subst (FreshOf d) (sym is) (fresh-is d h rows items table b c plain f);
 }
   where
-    is : state ++ [] ≡ fresh_put rows items plain table (zeros most_places)
-    is = append-nil state ∙ (e ∙ ap (fresh_put rows items plain table) z)
+    is : state ≡ fresh_put rows items plain table (zeros most_places)
+    is = e ∙ ap (fresh_put rows items plain table) z

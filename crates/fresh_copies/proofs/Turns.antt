@@ -4,17 +4,8 @@ use mathlib.Core.Path.{◌≡◌, refl, sym, ◌∙◌, ap}
 use mathlib.Core.Bool.{true}
 use mathlib.Core.List.{List}
 use native.Mathlib.Numerals.{add-one}
-use lib.ListN.{set}
 use Rattle.diagram_table.specs.Cells.{count_in, run_first, run_length}
 use Rattle.fresh_copies.specs.Runs.{run_put, runs_put}
-
-pub run_none : (from value : ℕ) (state : List ℕ) → state ≡ run_put from 0 value state
-unfolding run_put
-run_none from value state = refl
-
-pub run-turn : (from i value : ℕ) (start state next : List ℕ) → state ≡ run_put from i value start → next ≡ set state (from + i) value → next ≡ run_put from (i + 1) value start
-unfolding run_put
-run-turn from i value start state next es en = en ∙ (rw es refl ∙ ap (λ (n : ℕ). run_put from n value start) (sym (add-one i)))
 
 pub runs_none : (rows : ℕ) (table state : List ℕ) → state ≡ runs_put rows 0 table state
 unfolding runs_put

@@ -1,5 +1,6 @@
 // The fresh state of a diagram with triggers: the words of its rows and items, and behind them every copy at its trigger's initial count.
 // Nothing is asked of a caller: past the end a cell is 0, a store changes nothing.
+// Table, rows and items go side by side, as in crate copies: both numbers have 16 bits.
 #![tactic(auto)]
 
 ghost use Rattle.std.specs.Prelude.{◌≡◌, ◌+◌, ◌*◌, take};
@@ -9,47 +10,35 @@ ghost use Rattle.fresh_copies.specs.Runs.{run_put, runs_put, fresh_put, FreshMad
 use diagram_table::COUNT;
 use effbd::limits::MOST_PLACES;
 
-// Copies the first `n` words of a list, or all that it has.
-fn copy_front(to: &mut [u16], list: &[u16], n: usize)
-    ensures { to.new ≡ copied (take n list.now) to.old }
-{
-    if n <= list.len() {
-        words::copy(to, &list[0..n]);
-        return;
-    }
-    words::copy(to, list);
-}
-
-// Stores a value at `many` counts of a state, from its count `first` on.
+// Stores a value at `many` counts of a state, from its count `first` on, as far as it has them.
 fn put_run(state: &mut [u16], rows: u16, first: u32, many: u32, value: u16)
     ensures { state.new ≡ run_put (3 * rows + first) many value state.old }
 {
-    let from = 3 * rows as usize + first as usize;
-    let mut i: u32 = 0;
-    while i < many {
-        words::put(state, from + i as usize, value);
-        i += 1;
-    }
+    let from = state.len().min(3 * rows as usize + first as usize);
+    let to = state.len().min(from + many as usize);
+    state[from..to].fill(value);
 }
 
 // The initial count of each item, at the counts that a give of it changes: its own, or a trigger's copies.
 fn put_runs(state: &mut [u16], table: &[u16], rows: u16, items: u16)
     ensures { state.new ≡ runs_put rows items table.now state.old }
 {
-    let mut item: u32 = 0;
-    while item < items as u32 {
+    for item in 0..items as u32 {
         let first = table_counts::run_first(table, true, 0, 0, item);
         let many = table_counts::run_length(table, true, item);
         let count = diagram_table::cell(table, COUNT, item);
         put_run(state, rows, first, many, count);
-        item += 1;
     }
 }
 
+#[tactic(auto, unfolding(crate::specs::Runs::fresh_put))]
 fn put_fresh(state: &mut [u16], plain: &[u16], table: &[u16], rows: u16, items: u16)
     ensures { state.new ≡ fresh_put rows items plain.now table.now state.old }
 {
-    copy_front(state, plain, 3 * rows as usize + items as usize);
+    words::copy(
+        state,
+        words::front(plain, 3 * rows as usize + items as usize),
+    );
     put_runs(state, table, rows, items);
 }
 
@@ -63,12 +52,6 @@ pub fn fresh_state(
     ensures { FreshMade rows items plain.now table.now result }
 {
     let mut state = [0u16; MOST_PLACES as usize];
-    put_fresh(
-        &mut state[0..MOST_PLACES as usize],
-        plain,
-        table,
-        rows,
-        items,
-    );
+    put_fresh(&mut state, plain, table, rows, items);
     state
 }

@@ -2,9 +2,11 @@
 #![tactic(auto)]
 
 ghost use Rattle.std.specs.Prelude.{◌≡◌, ◌+◌, ◌*◌, ◌<◌, get_or};
-ghost use Rattle.effbd.specs.Records.{KindBytes};
+ghost use Rattle.effbd.specs.Records.{KindBytes, length_of, fields_of};
 
 // The kinds by their names: records of a diagram file, of a net file, the arcs of a transition.
+// Numbers, not an enum: they are words of lent files and tables, and `base_length` here, `part_of` of crate nesting and `arc` and `pair` of the
+// crates that read and write nets promise for any number.
 pub const HEAD: u16 = 1;
 
 pub const ITEM: u16 = 2;
@@ -136,4 +138,37 @@ pub fn behind_fields(table: &[u8], kind: u16) -> u16
     ensures { (result ≡ 4 + 2 * get_or table.now (2 * kind + 1) 0) × (result < 516) }
 {
     4 + 2 * field_count(table, kind)
+}
+
+// The table as one value, known to be the table of kinds: laid out once and lent on by a reader, whose every record asks it.
+#[derive(Drop)]
+pub struct Kinds {
+    bytes: [u8; 76],
+    ghost right: { KindBytes bytes },
+}
+
+impl Kinds {
+    pub fn new() -> Kinds
+        ensures { KindBytes result.bytes }
+    {
+        Kinds { bytes: table() }
+    }
+
+    pub fn base_length(&self, kind: u16) -> u16
+        ensures { result ≡ length_of kind }
+    {
+        base_length(&self.bytes, kind)
+    }
+
+    pub fn field_count(&self, kind: u16) -> u16
+        ensures { (result ≡ fields_of kind) × (result < 256) }
+    {
+        field_count(&self.bytes, kind)
+    }
+
+    pub fn behind_fields(&self, kind: u16) -> u16
+        ensures { (result ≡ 4 + 2 * fields_of kind) × (result < 516) }
+    {
+        behind_fields(&self.bytes, kind)
+    }
 }

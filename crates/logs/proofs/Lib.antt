@@ -1,3 +1,2 @@
-pub mod Indexed
 pub mod PartWords
 pub mod Walking

@@ -3,24 +3,23 @@
 #![tactic(auto)]
 
 ghost use Rattle.std.specs.Prelude.{◌≡◌};
-ghost use Rattle.effbd.specs.Answers.{said, returning_zero, afterwards};
+ghost use Rattle.effbd.specs.Answers.{said, returning_zero, afterwards, fault};
 ghost use Rattle.effbd.specs.Logs.{setpoint_at, move_count, log_fault, with_index};
 ghost use Rattle.diagram_moves.specs.Changes.{table_move};
 
+use diagram_table::Plant;
 use effbd::limits::{MOST_MOVES, SETPOINT_LENGTH};
-use effbd::{Answer, refusals};
+use effbd::{Answer, Reason, Refusal};
 
 // 40: too many moves, or bytes left over.
-pub fn fault(log: &[u8]) -> u16
-    ensures { result ≡ log_fault log.now }
+#[tactic(auto, unfolding(effbd::specs::Logs::log_fault))]
+pub fn fault(log: &[u8]) -> Option<Reason>
+    ensures { fault result ≡ log_fault log.now }
 {
-    if log.len() % SETPOINT_LENGTH != 0 {
-        return refusals::LOG_OFF;
+    if log.len() % SETPOINT_LENGTH != 0 || MOST_MOVES < move_count(log) {
+        return Some(Reason::LogOff);
     }
-    if MOST_MOVES < log.len() / SETPOINT_LENGTH {
-        return refusals::LOG_OFF;
-    }
-    0
+    None
 }
 
 // How many moves a log has.
@@ -58,22 +57,12 @@ pub fn setpoint_at(log: &[u8], index: u32) -> Setpoint
 
 // Makes move `index` of a log, as its setpoint says it, on a diagram's table, without a check of the state: every state of a log passes it. A
 // move that is refused is 42 with its index, and leaves the state as it was.
-pub fn make_move(
-    code: u16,
-    argument: u16,
-    index: u32,
-    table: &[u16],
-    state: &mut [u16],
-    rows: u32,
-    items: u32,
-    file: &[u8],
-) -> Answer
-    ensures result_value { said result ≡ returning_zero (with_index index (table_move table.now rows items file.now state.old code argument)) }
-    ensures state_after { state.new ≡ afterwards state.old (table_move table.now rows items file.now state.old code argument) }
+pub fn make_move(setpoint: Setpoint, index: u32, plant: &Plant, state: &mut [u16]) -> Answer
+    ensures result_value { said result ≡ returning_zero (with_index index (table_move plant.now.table.now plant.now.rows plant.now.items plant.now.file.now state.old setpoint.code setpoint.argument)) }
+    ensures state_after { state.new ≡ afterwards state.old (table_move plant.now.table.now plant.now.rows plant.now.items plant.now.file.now state.old setpoint.code setpoint.argument) }
 {
-    let answer = table_move::make_move(code, argument, table, state, rows, items, file);
-    match answer {
-        Answer::Accepted(_) => Answer::Accepted(0),
-        Answer::Refused(_, _) => Answer::Refused(refusals::MOVE_REFUSED, index),
-    }
+    table_move::make_move(setpoint.code, setpoint.argument, plant, state).map_err(|_| Refusal {
+        reason: Reason::MoveRefused,
+        value: index,
+    })
 }

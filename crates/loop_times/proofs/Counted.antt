@@ -1,28 +1,16 @@
--- LPs counted row by row: where there are none, no loop spends no time. The last LP close below a row.
-use Prim.Native.Nat.{ℕ, zero, suc, ◌+◌, ◌-◌, ◌≤◌, ◌<◌}
-use mathlib.Core.Path.{◌≡◌, refl, sym, ◌∙◌, ap}
-use mathlib.Core.Logic.{◌≢◌}
-use mathlib.Core.Bool.{Bool, false}
-use mathlib.Core.List.{List}
-use native.Mathlib.Omega.{arith}
-use native.Mathlib.Numerals.{add-one}
-use lib.ListN.{length, get_or, get_or-eq_default}
-use lib.Dec.{eqb}
-use borrow.Author.Tests.{eqb-true, eqb-false, ne_eqb}
+-- LPs counted: where there are none, no loop spends no time. The last LP close below a row.
+use Rattle.std.specs.Prelude.{ℕ, zero, suc, ◌-◌, ◌<◌, ◌≡◌, refl, ◌≢◌, Bool, false, ◌==◌, List, length, get_or, take, count_by, eqb, Ok}
+use Rattle.std.proofs.Common.{sym, ◌∙◌, ap, arith, eqb-true}
+use Rattle.std.proofs.lemmas.List.{get_or_past}
+use borrow.Author.Tests.{eqb-false}
 use Rattle.effbd.specs.Ranges.{how_many}
 use Rattle.effbd.specs.Diagrams.{Diagram, Kind, function, and_open, branch, and_close, or_open, or_close, it_open, it_close, lp_open, lp_close, loop_exit, end, box_open, box_close, box_exit, number_of, kind}
 use Rattle.effbd.specs.Nesting.{spends_no_time, loop_fault}
 use Rattle.ranges.specs.Tests.{decide}
 use Rattle.agreement.specs.RowFaults.{rows-faultless}
 use Rattle.nesting.specs.Runs.{Kinds}
+use Rattle.nesting.proofs.Counts.{kinds-counted}
 use Rattle.loop_times.specs.Loops.{is_loop, BehindClose, LoopsRead}
-
-module _ (table : List ℕ) (q : ℕ) where
-  pub counted-more : (n : ℕ) → get_or table q 0 ≡ 24 → n ≡ how_many q (is_loop table) → n + 1 ≡ how_many (q + 1) (is_loop table)
-  counted-more n e h = rw (add-one q, e) (omega (arith, h))
-
-  pub counted_same : {n : ℕ} → get_or table q 0 ≢ 24 → n ≡ how_many q (is_loop table) → n ≡ how_many (q + 1) (is_loop table)
-  counted_same e h = rw (add-one q, ne_eqb (get_or table q 0) 24 e) (omega (arith, h))
 
 none-counted : (n : ℕ) (f : ℕ → Bool) → how_many n f ≡ 0 → (q : ℕ) → q < n → f q ≡ false
 none-counted zero f e q l = absurd (omega arith)
@@ -30,7 +18,7 @@ none-counted (suc n) f e q l = decide (f n)
     (λ z. absurd (let y = rw z at e in omega arith))
     (λ z. decide (eqb q n) (λ w. ap f (eqb-true q n w) ∙ z) (λ w. let ne = eqb-false q n w in none-counted n f (let y = rw z at e in omega arith) q (omega arith)))
 
-pub no-loops : (table : List ℕ) (rows : ℕ) → how_many rows (is_loop table) ≡ 0 → LoopsRead table rows (record { number = 0; row = 0 })
+pub no-loops : (table : List ℕ) (rows : ℕ) → count_by (λ k. k == 24) (take rows table) ≡ 0 → LoopsRead table rows (Ok tt)
 unfolding spends_no_time
 no-loops table rows e = record {
   within = omega arith;
@@ -39,7 +27,7 @@ no-loops table rows e = record {
 }
   where
     not-one : (d : Diagram) → Kinds d rows table → (q : ℕ) → q < rows → spends_no_time d q ≡ false
-    not-one d k q l = rw (← k.cell q l, none-counted rows (is_loop table) e q l)
+    not-one d k q l = rw (← k.cell q l, none-counted rows (is_loop table) (kinds-counted table 24 (λ z. absurd (omega arith)) rows ∙ e) q l)
 
 -- ---- no diagram has more rows than the table has words: past the end a kind is 0
 number-some : (k : Kind) → number_of k ≢ 0
@@ -59,12 +47,12 @@ number-some box_open e = absurd (omega arith)
 number-some box_close e = absurd (omega arith)
 number-some box_exit e = absurd (omega arith)
 
-pub short-table : (table : List ℕ) (rows : ℕ) → length table < rows → LoopsRead table rows (record { number = 0; row = 0 })
+pub short-table : (table : List ℕ) (rows : ℕ) → length table < rows → LoopsRead table rows (Ok tt)
 short-table table rows l = record {
   within = omega arith;
   none = λ z. refl;
   judged = λ d k g on. absurd (number-some (kind d (rows - 1))
-      (sym (k.cell (rows - 1) (omega arith)) ∙ get_or-eq_default table 0 (let h : length table ≤ rows - 1 = omega arith in h)));
+      (sym (k.cell (rows - 1) (omega arith)) ∙ get_or_past table (rows - 1) 0 (omega arith)));
 }
 
 -- ---- the last LP close below a row

@@ -1,14 +1,8 @@
 -- The pass over the rows: what it has found at a row, one row more, and at row 0.
-use Prim.Native.Nat.{ℕ, zero, suc, ◌+◌, ◌-◌, ◌≤◌, ◌<◌}
-use mathlib.Core.Path.{◌≡◌, refl, sym, ◌∙◌, ap, subst}
-use mathlib.Core.Logic.{◌≢◌}
-use mathlib.Core.Bool.{Bool, true, false, not, cond}
-use mathlib.Core.List.{List, [], ◌∷◌}
-use native.Mathlib.Omega.{arith}
-use native.Mathlib.Numerals.{add-one}
-use lib.ListN.{get_or}
-use lib.Dec.{eqb}
-use borrow.Author.Tests.{eqb-true, eqb-false, eq-eqb, ne_eqb, le-leb}
+use Rattle.std.specs.Prelude.{ℕ, zero, suc, ◌+◌, ◌-◌, ◌≤◌, ◌<◌, ◌≡◌, refl, ◌≢◌, Bool, true, false, not, cond, List, [], ◌∷◌, get_or, eqb, Option, Some, None, Ok, Err}
+use Rattle.std.proofs.Common.{sym, ◌∙◌, ap, subst, arith, add-one, eqb-true, eq-eqb}
+use borrow.Author.Tests.{eqb-false, ne_eqb, le-leb}
+use Rattle.effbd.specs.declared.refusals.Reason.TheVariants.{LoopSpendsNoTime}
 use Rattle.effbd.specs.Diagrams.{Diagram, Kind, function, and_open, branch, and_close, or_open, or_close, it_open, it_close, lp_open, lp_close, loop_exit, end, box_open, box_close, box_exit, number_of, row_count, kind, alpha}
 use Rattle.effbd.specs.Frames.{Frame}
 use Rattle.effbd.specs.Nesting.{stack, spends_no_time, loop_fault}
@@ -23,15 +17,20 @@ use Rattle.loop_times.specs.declared.Seen.{Seen}
 use Rattle.loop_times.specs.Loops.{looked, BehindClose, Faultless, LoopsRead}
 use Rattle.loop_times.proofs.Timeless.{timeless_in, counted, count-is, lp-opened}
 
+-- the rows below the lowest, or all
+abbrev pub up_to : Option ℕ → ℕ → ℕ
+up_to None rows = rows
+up_to (Some l) rows = l
+
 -- the LPs around row q that have spent no time so far, and the lowest from row q on that spends none
 pub record Found (d : Diagram) (rows q : ℕ) (s : Seen) : Type 0 where
   pub count : s.timeless ≡ timeless_in d q (stack d q)
-  pub lower : (p : ℕ) → q ≤ p → p < s.lowest → spends_no_time d p ≡ false
-  pub lowest : s.lowest ≢ rows → spends_no_time d s.lowest ≡ true
+  pub lower : (p : ℕ) → q ≤ p → p < up_to s.lowest rows → spends_no_time d p ≡ false
+  pub lowest : (l : ℕ) → s.lowest ≡ Some l → spends_no_time d l ≡ true
 
 pub record SeenFrom (table : List ℕ) (rows q : ℕ) (s : Seen) : Type 0 where
   pub few : s.timeless + q ≤ rows
-  pub low : s.lowest ≤ rows
+  pub low : (l : ℕ) → s.lowest ≡ Some l → l < rows
   pub found : (d : Diagram) → Kinds d rows table → Faultless d → Found d rows q s
 
 -- ---- behind the last row
@@ -49,21 +48,21 @@ bare d f = decide (eqb (row_count d) 0)
     (λ e. rw (eqb-true (row_count d) 0 e) (unfold timeless_in stack in refl))
     (λ e. let n = eqb-false (row_count d) 0 e in let acc = well-nested d f.walk f.outlets (omega arith) in bare_of d acc (stack d (row_count d)) refl (good d (walk d acc) (row_count d)))
 
-pub seen_none : (table : List ℕ) (rows : ℕ) → SeenFrom table rows rows (record { timeless = 0; lowest = rows })
+pub seen_none : (table : List ℕ) (rows : ℕ) → SeenFrom table rows rows (record { timeless = 0; lowest = None })
 seen_none table rows = record {
   few = omega arith;
-  low = omega arith;
+  low = λ l e. cc;
   found = λ d k f. record {
     count = sym (ap (λ (n : ℕ). timeless_in d n (stack d n)) k.count ∙ bare d f);
     lower = λ p l m. absurd (omega arith);
-    lowest = λ n. absurd (n refl);
+    lowest = λ l e. cc;
   };
 }
 
 -- ---- one row more
 module _ (d : Diagram) (acc : well_nested d ≡ true) where
   looked-is : (k : Kind) (q : ℕ) (s : Seen) → kind d q ≡ k → s.timeless ≡ timeless_in d (suc q) (stack d (suc q))
-      → looked (number_of k) (alpha d q) q s ≡ record { timeless = counted d acc k q s.timeless; lowest = cond (spends_no_time d q) q s.lowest }
+      → looked (number_of k) (alpha d q) q s ≡ record { timeless = counted d acc k q s.timeless; lowest = cond (spends_no_time d q) (Some q) s.lowest }
   unfolding looked counted spends_no_time
   looked-is function q s e u = rw e (decide (eqb (alpha d q) 0)
       (λ z. let y = eqb-true (alpha d q) 0 z in rw y refl)
@@ -95,11 +94,13 @@ module _ (d : Diagram) (acc : well_nested d ≡ true) where
         lower = λ p a b. decide (spends_no_time d q)
             (λ z. let y : p < q = rw z at b in absurd (omega arith))
             (λ z. decide (eqb p q) (λ w. rw (eqb-true p q w) z) (λ w. let n = eqb-false p q w in f.lower p (omega arith) (rw z at b)));
-        lowest = λ n. decide (spends_no_time d q) (λ z. rw (z, z)) (λ z. rw z (f.lowest (λ w. n (rw z w))));
+        lowest = λ l n. decide (spends_no_time d q)
+            (λ z. let y : ◌≡◌ {A = Option ℕ} (Some q) (Some l) = rw z at n in let x : q ≡ l = cc in rw (← x) z)
+            (λ z. f.lowest l (rw z at n));
       })
 
 looked-all : (P : Seen → Type 0) (k first q : ℕ) (s : Seen) → P s → P (record { timeless = 0; lowest = s.lowest }) → P (record { timeless = s.timeless + 1; lowest = s.lowest })
-    → P (record { timeless = s.timeless - 1; lowest = q }) → P (looked k first q s)
+    → P (record { timeless = s.timeless - 1; lowest = Some q }) → P (looked k first q s)
 unfolding looked
 looked-all P k first q s stay spent shut opened =
     either (eqb k 16) _ _ (either (eqb first 0) _ _ stay spent) (either (eqb k 25) _ _ shut (either (eqb k 24) _ _ (either (eqb s.timeless 0) _ _ stay opened) stay))
@@ -111,7 +112,7 @@ looked-all P k first q s stay spent shut opened =
 seen_next : (table : List ℕ) (rows q : ℕ) (s r : Seen) → q < rows → r ≡ looked (get_or table q 0) (first_in table q) q s → SeenFrom table rows (q + 1) s → SeenFrom table rows q r
 seen_next table rows q s r l e f = subst (SeenFrom table rows q) (sym e) (record {
   few = let h = f.few in looked-all (λ (x : Seen). x.timeless + q ≤ rows) (get_or table q 0) (first_in table q) q s (omega arith) (omega arith) (omega arith) (omega arith);
-  low = let h = f.low in looked-all (λ (x : Seen). x.lowest ≤ rows) (get_or table q 0) (first_in table q) q s h h h (omega arith);
+  low = let h = f.low in looked-all (λ (x : Seen). (n : ℕ) → x.lowest ≡ Some n → n < rows) (get_or table q 0) (first_in table q) q s h h h (λ n z. let y : q ≡ n = cc in omega arith);
   found = λ d k g. rw (k.cell q l, k.first q l)
       (found-next d (well-nested d g.walk g.outlets (omega (arith, k.count))) (kind d q) rows q s (omega (arith, k.count)) refl (f.found d k g));
 })
@@ -146,50 +147,18 @@ module _ (table : List ℕ) (rows row : ℕ) (l : row ≤ rows) (s : Seen) (f : 
 
 -- ---- at row 0
 module _ (table : List ℕ) (rows : ℕ) (s : Seen) (f : SeenFrom table rows 0 s) where
-  pub loops-fine : s.lowest ≡ rows → LoopsRead table rows (record { number = 0; row = 0 })
+  pub loops-fine : s.lowest ≡ None → LoopsRead table rows (Ok tt)
   loops-fine e = record {
     within = omega arith;
     none = λ z. refl;
-    judged = λ d k g on. rows-faultless d (loop_fault d) (λ q l. rw ((f.found d k g).lower q (omega arith) (omega (arith, k.count)))) on;
+    judged = λ d k g on. rows-faultless d (loop_fault d) (λ q l. rw ((f.found d k g).lower q (omega arith) (rw e (omega (arith, k.count))))) on;
   }
 
-  pub loops-faulty : s.lowest ≢ rows → LoopsRead table rows (record { number = 45; row = s.lowest })
-  loops-faulty n = record {
-    within = f.low;
+  pub loops-faulty : (l : ℕ) → s.lowest ≡ Some l → LoopsRead table rows (Err (record { reason = LoopSpendsNoTime; value = l }))
+  loops-faulty l e = let h = f.low l e in record {
+    within = omega arith;
     none = λ z. absurd (omega arith);
     judged = λ d k g on.
-        let w = f.found d k g in let h = f.low in let t = w.lowest n in
-        rows-faulty d (loop_fault d) s.lowest (omega (arith, k.count)) (λ z. absurd (let y : ◌≡◌ {A = ℕ} 45 0 = rw t at z in omega arith)) (λ p l. rw (w.lower p (omega arith) l)) on ∙ rw t;
+        let w = f.found d k g in let t = w.lowest l e in
+        rows-faulty d (loop_fault d) l (omega (arith, k.count)) (λ z. absurd (let y : ◌≡◌ {A = ℕ} 45 0 = rw t at z in omega arith)) (λ p m. rw (w.lower p (omega arith) (rw e m))) on ∙ rw t;
   }
-
--- ---- a row, by its kind and first field
-module _ (table : List ℕ) (q : ℕ) (s : Seen) where
-  abbrev pub k : ℕ
-  k = get_or table q 0
-
-  abbrev pub next : Seen
-  next = looked k (first_in table q) q s
-
-  pub function-waits : k ≡ 16 → first_in table q ≡ 0 → s ≡ next
-  unfolding looked
-  function-waits e f = rw (e, f)
-
-  pub function-spends : k ≡ 16 → first_in table q ≢ 0 → record { timeless = 0; lowest = s.lowest } ≡ next
-  unfolding looked
-  function-spends e n = rw (e, ne_eqb (first_in table q) 0 n)
-
-  pub lp-closes : k ≡ 25 → record { timeless = s.timeless + 1; lowest = s.lowest } ≡ next
-  unfolding looked
-  lp-closes e = rw e
-
-  pub lp-spends : k ≡ 24 → s.timeless ≡ 0 → s ≡ next
-  unfolding looked
-  lp-spends e f = rw (e, eq-eqb s.timeless 0 f)
-
-  pub lp-waits : k ≡ 24 → s.timeless ≢ 0 → record { timeless = s.timeless - 1; lowest = q } ≡ next
-  unfolding looked
-  lp-waits e n = rw (e, ne_eqb s.timeless 0 n)
-
-  pub another : k ≢ 16 → k ≢ 25 → k ≢ 24 → s ≡ next
-  unfolding looked
-  another a b c = rw (ne_eqb k 16 a, ne_eqb k 25 b, ne_eqb k 24 c)

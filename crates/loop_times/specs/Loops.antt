@@ -1,9 +1,9 @@
 -- What the pass over the rows finds of the loops. Assumes nothing.
-use Rattle.std.specs.Prelude.{ℕ, ◌+◌, ◌-◌, ◌≤◌, ◌<◌, ◌≡◌, ◌≢◌, Bool, cond, List, get_or, eqb}
-use Rattle.effbd.specs.Answers.{Outcome, unless}
+use Rattle.std.specs.Prelude.{ℕ, ◌+◌, ◌-◌, ◌≤◌, ◌<◌, ◌≡◌, ◌≢◌, Bool, cond, List, get_or, eqb, Some, Result}
+use Rattle.effbd.specs.Answers.{Outcome, unless, said, refusal_number, refusal_value}
+use Rattle.effbd.specs.declared.refusals.Refusal.{Refusal}
 use Rattle.effbd.specs.Diagrams.{Diagram, row_count}
 use Rattle.effbd.specs.Nesting.{nesting_fault, outlet_fault, loop_fault, unless_row}
-use Rattle.nesting.specs.declared.Judgement.{Judgement}
 use Rattle.nesting.specs.Runs.{Kinds}
 use Rattle.loop_times.specs.declared.Seen.{Seen}
 
@@ -12,7 +12,7 @@ unfoldable pub looked : (kind first row : ℕ) → Seen → Seen
 looked kind first row seen =
     cond (eqb kind 16) (cond (eqb first 0) seen (record { timeless = 0; lowest = seen.lowest }))
     (cond (eqb kind 25) (record { timeless = seen.timeless + 1; lowest = seen.lowest })
-    (cond (eqb kind 24) (cond (eqb seen.timeless 0) seen (record { timeless = seen.timeless - 1; lowest = row }))
+    (cond (eqb kind 24) (cond (eqb seen.timeless 0) seen (record { timeless = seen.timeless - 1; lowest = Some row }))
     seen))
 
 -- a row of the table is an LP open
@@ -31,8 +31,8 @@ pub record Faultless (d : Diagram) : Type 0 where
 
 -- the loops of the table's rows were judged: every diagram that has their kinds and first fields, and no such fault, is turned away at that row with
 -- that number, or goes on
-pub record LoopsRead (table : List ℕ) (rows : ℕ) (r : Judgement) : Type 0 where
-  pub within : r.row ≤ rows
+pub record LoopsRead (table : List ℕ) (rows : ℕ) (r : Result (Unit {0}) Refusal) : Type 0 where
+  pub within : refusal_value (said r) ≤ rows
   -- "0 and 0 for none"
-  pub none : r.number ≡ 0 → r.row ≡ 0
-  pub judged : (d : Diagram) → Kinds d rows table → Faultless d → (on : Outcome Diagram) → unless_row d (loop_fault d) on ≡ unless r.number r.row on
+  pub none : refusal_number (said r) ≡ 0 → refusal_value (said r) ≡ 0
+  pub judged : (d : Diagram) → Kinds d rows table → Faultless d → (on : Outcome Diagram) → unless_row d (loop_fault d) on ≡ unless (refusal_number (said r)) (refusal_value (said r)) on

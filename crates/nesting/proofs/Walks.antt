@@ -1,15 +1,11 @@
 -- The two readers: what holds as they go, and each way on from there.
-use Prim.Native.Nat.{ℕ, ◌+◌, ◌≤◌, ◌<◌}
-use mathlib.Core.Path.{◌≡◌, refl, sym, ◌∙◌, ap, subst}
-use mathlib.Core.Logic.{◌≢◌}
-use mathlib.Core.Bool.{Bool, true, false, cond, ◌&&◌, ◌||◌}
-use mathlib.Core.List.{List, [], ◌∷◌}
-use native.Mathlib.Omega.{arith}
-use native.Mathlib.Numerals.{add-one}
-use lib.ListN.{length}
-use lib.Dec.{leb, ltb, eqb}
-use borrow.Author.Tests.{eqb-true, eqb-false, ltb-true, ltb-false, lt-leb, le-leb}
-use Rattle.effbd.specs.Answers.{Outcome, refused, unless}
+use Rattle.std.specs.Prelude.{ℕ, zero, suc, ◌+◌, ◌≤◌, ◌<◌, ◌≡◌, refl, ◌≢◌, Bool, true, false, cond, ◌&&◌, ◌||◌, List, [], ◌∷◌, length, leb, ltb, eqb, Some, None, Result, Ok, Err}
+use mathlib.Core.Logic.{◌⊎◌, inl, inr}
+use Rattle.std.proofs.Common.{sym, ◌∙◌, ap, subst, arith, add-one, eqb-true}
+use borrow.Author.Tests.{eqb-false, ltb-true, ltb-false, lt-leb, le-leb}
+use Rattle.effbd.specs.declared.refusals.Refusal.{Refusal}
+use Rattle.effbd.specs.declared.refusals.Reason.TheVariants.{NestingBroken, TooManyOpen}
+use Rattle.effbd.specs.Answers.{Outcome, accepted, refused, unless, number, said}
 use Rattle.effbd.specs.Diagrams.{Diagram, number_of, row_count, kind, is_kind, lp_open}
 use Rattle.effbd.specs.Frames.{Frame}
 use Rattle.effbd.specs.Nesting.{stack, in_scenario, own_scenario, some_open, nesting_fault, unless_row}
@@ -17,12 +13,11 @@ use Rattle.ranges.specs.Tests.{decide, and_left, and_right}
 use Rattle.nesting.specs.declared.Part.{Part}
 use Rattle.nesting.specs.declared.Part.TheVariants.{Opens, Turns, Closes, Stays}
 use Rattle.nesting.specs.declared.Open.{Open}
-use Rattle.nesting.specs.declared.Run.{Run}
-use Rattle.nesting.specs.declared.Run.TheVariants.{Judged, Turned, Closed}
-use Rattle.nesting.specs.declared.Construct.{Construct}
-use Rattle.nesting.specs.declared.Construct.TheVariants.{Judged as WasJudged, Closed as WasClosed}
-use Rattle.nesting.specs.Runs.{part_of, kind_in, top_in, is_and_or, inside_in, scenario_in, loops_in, closes_in, last_fault, open_fault, Kinds, Shows, At, Clean, AllJudged, Reached, Ends, RunEnded, RunWithin, RunRead, ConstructEnded, ConstructWithin, ConstructRead, NestingRead}
+use Rattle.nesting.specs.declared.RunEnd.{RunEnd}
+use Rattle.nesting.specs.declared.RunEnd.TheVariants.{Judged, Turned, Closed}
+use Rattle.nesting.specs.Runs.{part_of, kind_in, top_in, is_and_or, inside_in, scenario_in, loops_in, closes_in, last_fault, open_fault, Kinds, Shows, At, Clean, AllJudged, Reached, Ends, Run, Construct, RunEnded, RunWithin, RunRead, ConstructEnded, ConstructWithin, ConstructRead, NestingRead}
 use Rattle.ranges.specs.Outcomes.{unless-refused}
+use Rattle.ranges.specs.Reasons.{number-some}
 use Rattle.agreement.specs.RowFaults.{rows-faultless, rows-faulty}
 use Rattle.nesting.proofs.Rules.{fault_in, passing_by, opening, ending, stack-next, free-behind, free-next, kind-is, open-fault-is, fault-is, last-fault-is, bare-faulty}
 
@@ -43,6 +38,22 @@ judged-from d a b number row l c j = record {
   good = λ e. clean-both d a b (row_count d) c (j.good e);
   bad = λ e. let w = j.bad e in let h : b ≤ row = w.0 in (omega arith, w.1, w.2, clean-both d a b row c w.3);
 }
+
+-- a refusal of row q for this fault; a row passes where it has none
+pub record Refuses (fault q : ℕ) (e : Refusal) : Type 0 where
+  pub reason : number e.reason ≡ fault
+  pub row : e.value ≡ q
+
+pub refuses : {fault q : ℕ} {r : Result (Unit {0}) Refusal} {e : Refusal} → said r ≡ unless fault q (accepted tt) → r ≡ Err e → Refuses fault q e
+refuses {fault = zero} s z = cc
+refuses {fault = suc n} s z = record { reason = cc; row = cc }
+
+pub passes : {fault : ℕ} (q : ℕ) {r : Result (Unit {0}) Refusal} {u : Unit {0}} → said r ≡ unless fault q (accepted tt) → r ≡ Ok u → fault ≡ 0
+passes {fault = zero} q s z = refl
+passes {fault = suc n} q s z = cc
+
+some-fault : {fault q : ℕ} {e : Refusal} → Refuses fault q e → fault ≢ 0
+some-fault {e = e} w z = number-some e.reason (w.reason ∙ z)
 
 -- a construct's frame above what is open around it
 pub shows-inside : (d : Diagram) (rows : ℕ) (table : List ℕ) → Kinds d rows table → (fs : List Frame) (o : Open) (opened latest branches : ℕ) → Shows d fs o
@@ -103,13 +114,13 @@ module _ (table : List ℕ) (rows from : ℕ) (o : Open) (q : ℕ) (st : RunStat
   abbrev Faulty : ℕ → Type 0
   Faulty fault = (d : Diagram) → At table rows from o d → nesting_fault d q ≡ fault
 
-  judged-here : (fault : ℕ) → Faulty fault → fault ≢ 0 → RunRead table rows from o (Judged fault q)
-  judged-here fault f ne = record {
-    within = (let h = st.high in omega arith, λ z. absurd (ne z));
-    ended = λ d a. record {
-      good = λ e. absurd (ne e);
-      bad = λ e. (st.low, omega (arith, a.kinds.count, st.high), f d a, (st.reached d a).clean);
-    };
+  judged-here : (fault : ℕ) → Faulty fault → (e : Refusal) → Refuses fault q e → RunRead table rows from o (Err e)
+  judged-here fault f e w = record {
+    within = let h = st.high in omega (arith, w.row);
+    ended = λ d a. subst (λ (n : ℕ). AllJudged d from n e.value) (sym w.reason) (subst (AllJudged d from fault) (sym w.row) (record {
+      good = λ z. absurd (some-fault w z);
+      bad = λ z. (st.low, omega (arith, a.kinds.count, st.high), f d a, (st.reached d a).clean);
+    }));
   }
 
   clean-here : Faulty 0 → (d : Diagram) → At table rows from o d → Clean d from (q + 1)
@@ -120,12 +131,12 @@ module _ (table : List ℕ) (rows from : ℕ) (o : Open) (q : ℕ) (st : RunStat
     last : Faulty fault
     last d a = let w = here d a in last-fault-is d rows table a.kinds q o w.shows w.free (let h = st.high in omega arith) ∙ sym ef
 
-    pub run-last : fault ≢ 0 → RunRead table rows from o (Judged fault q)
-    run-last ne = judged-here fault last ne
+    pub run-last : (e : Refusal) → Refuses fault q e → RunRead table rows from o (Err e)
+    run-last = judged-here fault last
 
-    pub run_end : fault ≡ 0 → RunRead table rows from o (Judged 0 0)
+    pub run_end : fault ≡ 0 → RunRead table rows from o (Ok Judged)
     run_end z = record {
-      within = (omega arith, λ z. refl);
+      within = tt;
       ended = λ d a. record {
         good = λ e. let n : q + 1 ≡ row_count d = omega (arith, a.kinds.count, st.high) in subst (Clean d from) n (clean-here (λ c b. last c b ∙ z) d a);
         bad = λ ne. absurd (ne refl);
@@ -138,8 +149,8 @@ module _ (table : List ℕ) (rows from : ℕ) (o : Open) (q : ℕ) (st : RunStat
       inside : (fault : ℕ) → fault ≡ fault_in table rows q o part → Faulty fault
       inside fault ef d a = let w = here d a in fault-is d rows table a.kinds q o w.shows w.free part l e ∙ sym ef
 
-      pub run-fault : (fault : ℕ) → fault ≡ fault_in table rows q o part → fault ≢ 0 → RunRead table rows from o (Judged fault q)
-      run-fault fault ef ne = judged-here fault (inside fault ef) ne
+      pub run-fault : (fault : ℕ) → fault ≡ fault_in table rows q o part → (e : Refusal) → Refuses fault q e → RunRead table rows from o (Err e)
+      run-fault fault ef = judged-here fault (inside fault ef)
 
       does : (d : Diagram) → At table rows from o d → part_of (number_of (kind d q)) ≡ part
       does d a = ap part_of (sym (kind-is d rows table a.kinds q)) ∙ e
@@ -151,15 +162,15 @@ module _ (table : List ℕ) (rows from : ℕ) (o : Open) (q : ℕ) (st : RunStat
         ends : (d : Diagram) → At table rows from o d → Ends d part from q
         ends d a = record { clean = clean-past d a; does = does d a; around = (st.reached d a).around }
 
-    pub run-turned : part_of (kind_in table rows q) ≡ Turns → 0 ≡ fault_in table rows q o Turns → RunRead table rows from o (Turned q)
+    pub run-turned : part_of (kind_in table rows q) ≡ Turns → 0 ≡ fault_in table rows q o Turns → RunRead table rows from o (Ok (Turned q))
     run-turned e fine = record { within = (st.low, l); ended = ends Turns e fine }
 
     module _ (e : part_of (kind_in table rows q) ≡ Closes) where
-      pub run-closed : closes_in (kind_in table rows q) (top_in table rows o) (leb 2 o.branches) ≡ true → RunRead table rows from o (Closed q)
+      pub run-closed : closes_in (kind_in table rows q) (top_in table rows o) (leb 2 o.branches) ≡ true → RunRead table rows from o (Ok (Closed q))
       run-closed h = record { within = (st.low, l); ended = ends Closes e (rw h) }
 
-      pub run-unclosed : closes_in (kind_in table rows q) (top_in table rows o) (leb 2 o.branches) ≡ false → RunRead table rows from o (Judged 7 q)
-      run-unclosed h = run-fault Closes e 7 (rw h) (λ z. absurd (omega arith))
+      pub run-unclosed : closes_in (kind_in table rows q) (top_in table rows o) (leb 2 o.branches) ≡ false → RunRead table rows from o (Err (record { reason = NestingBroken; value = q }))
+      run-unclosed h = run-fault Closes e 7 (rw h) _ (record { reason = refl; row = refl })
 
     pub run-stays : part_of (kind_in table rows q) ≡ Stays → 0 ≡ fault_in table rows q o Stays → RunState table rows from o (q + 1)
     run-stays e fine = record {
@@ -169,8 +180,8 @@ module _ (table : List ℕ) (rows from : ℕ) (o : Open) (q : ℕ) (st : RunStat
     }
 
     module _ (e : part_of (kind_in table rows q) ≡ Opens) where
-      pub run-deep : 12 ≤ o.depth → RunRead table rows from o (Judged 9 q)
-      run-deep h = run-fault Opens e 9 (rw (le-leb 12 o.depth h)) (λ z. absurd (omega arith))
+      pub run-deep : 12 ≤ o.depth → RunRead table rows from o (Err (record { reason = TooManyOpen; value = q }))
+      run-deep h = run-fault Opens e 9 (rw (le-leb 12 o.depth h)) _ (record { reason = refl; row = refl })
 
       module _ (h : o.depth < 12) (r : Construct) (read : ConstructRead table rows q o r) where
         fine : 0 ≡ fault_in table rows q o Opens
@@ -179,13 +190,19 @@ module _ (table : List ℕ) (rows from : ℕ) (o : Open) (q : ℕ) (st : RunStat
         inner : (d : Diagram) → At table rows from o d → ConstructEnded d q r
         inner d a = read.ended d (here d a) (does Opens e d a)
 
-        pub run-over : (number row : ℕ) → r ≡ WasJudged number row → RunRead table rows from o (Judged number row)
-        run-over number row j = record {
+        pub run-over : (f : Refusal) → r ≡ Err f → RunRead table rows from o (Err f)
+        run-over f j = record {
           within = subst (ConstructWithin q rows) j read.within;
-          ended = λ d a. judged-from d from (q + 1) number row (let x = st.low in omega arith) (clean-past Opens e fine d a) (subst (ConstructEnded d q) j (inner d a));
+          ended = λ d a. judged-from d from (q + 1) (number f.reason) f.value (let x = st.low in omega arith) (clean-past Opens e fine d a) (subst (ConstructEnded d q) j (inner d a));
         }
 
-        pub run_on : (close : ℕ) → r ≡ WasClosed close → RunState table rows from o (close + 1)
+        pub run-judged : r ≡ Ok None → RunRead table rows from o (Ok Judged)
+        run-judged j = record {
+          within = tt;
+          ended = λ d a. judged-from d from (q + 1) 0 0 (let x = st.low in omega arith) (clean-past Opens e fine d a) (subst (ConstructEnded d q) j (inner d a));
+        }
+
+        pub run_on : (close : ℕ) → r ≡ Ok (Some close) → RunState table rows from o (close + 1)
         run_on close j =
             let w : (q < close) × (close + 1 < rows) = subst (ConstructWithin q rows) j read.within in
             let x = w.0 in
@@ -195,12 +212,6 @@ module _ (table : List ℕ) (rows from : ℕ) (o : Open) (q : ℕ) (st : RunStat
               reached = λ d a. let y : Reached d (q + 1) (close + 1) (stack d q) = subst (ConstructEnded d q) j (inner d a) in
                   subst (Reached d from (close + 1)) (st.reached d a).around (reached-on d from (q + 1) (close + 1) (stack d q) (clean-past Opens e fine d a) y);
             }
-
-pub closed-within : (table : List ℕ) (rows opened : ℕ) (o : Open) (r : Construct) (close : ℕ) → ConstructRead table rows opened o r → r ≡ WasClosed close → (opened < close) × (close + 1 < rows)
-closed-within table rows opened o r close read e = subst (ConstructWithin opened rows) e read.within
-
-pub turned-within : (table : List ℕ) (rows from : ℕ) (o : Open) (r : Run) (j : ℕ) → RunRead table rows from o r → r ≡ Turned j → (from ≤ j) × (j + 1 < rows)
-turned-within table rows from o r j read e = subst (RunWithin from rows) e read.within
 
 -- ---- a construct
 
@@ -258,13 +269,13 @@ module _ (table : List ℕ) (rows opened : ℕ) (o : Open) (l : opened + 1 < row
           });
         }
 
-    pub construct-unbranched : fault ≢ 0 → ConstructRead table rows opened o (WasJudged fault (opened + 1))
-    construct-unbranched ne = record {
-      within = (omega arith, λ z. absurd (ne z));
-      ended = λ d a e. record {
-        good = λ z. absurd (ne z);
+    pub construct-unbranched : (f : Refusal) → Refuses fault (opened + 1) f → ConstructRead table rows opened o (Err f)
+    construct-unbranched f w = record {
+      within = omega (arith, w.row);
+      ended = λ d a e. subst (λ (n : ℕ). AllJudged d (opened + 1) n f.value) (sym w.reason) (subst (AllJudged d (opened + 1) fault) (sym w.row) (record {
+        good = λ z. absurd (some-fault w z);
         bad = λ z. (omega arith, omega (arith, a.kinds.count), at_open d a e, clean-none d (opened + 1));
-      };
+      }));
     }
 
 module _ (table : List ℕ) (rows opened : ℕ) (o : Open) (branches q : ℕ) (st : ConstructState table rows opened o branches q) (r : Run)
@@ -273,10 +284,16 @@ module _ (table : List ℕ) (rows opened : ℕ) (o : Open) (branches q : ℕ) (s
   ran d a e = read.ended d (at-reached d table rows (opened + 1) q (inside_in (kind_in table rows opened) opened branches o) (framed d opened st.latest branches) a.kinds
       (shows-inside d rows table a.kinds (stack d opened) o opened st.latest branches a.shows) (st.reached d a e))
 
-  pub construct-judged : (number row : ℕ) → r ≡ Judged number row → ConstructRead table rows opened o (WasJudged number row)
-  construct-judged number row e = record {
+  pub construct-over : (f : Refusal) → r ≡ Err f → ConstructRead table rows opened o (Err f)
+  construct-over f e = record {
     within = subst (RunWithin q rows) e read.within;
-    ended = λ d a p. judged-from d (opened + 1) q number row (let h = st.low in omega arith) (st.reached d a p).clean (subst (RunEnded d q) e (ran d a p));
+    ended = λ d a p. judged-from d (opened + 1) q (number f.reason) f.value (let h = st.low in omega arith) (st.reached d a p).clean (subst (RunEnded d q) e (ran d a p));
+  }
+
+  pub construct-judged : r ≡ Ok Judged → ConstructRead table rows opened o (Ok None)
+  construct-judged e = record {
+    within = tt;
+    ended = λ d a p. judged-from d (opened + 1) q 0 0 (let h = st.low in omega arith) (st.reached d a p).clean (subst (RunEnded d q) e (ran d a p));
   }
 
   -- behind the BRANCH or close that ended the run
@@ -285,7 +302,7 @@ module _ (table : List ℕ) (rows opened : ℕ) (o : Open) (branches q : ℕ) (s
   behind d a p part j h x = let w = st.reached d a p in
       reached-on d (opened + 1) q (j + 1) (passing_by part j (framed d opened st.latest branches)) w.clean (passed d part q j (framed d opened st.latest branches) h w.around x)
 
-  pub construct-turned : (j : ℕ) → r ≡ Turned j → ConstructState table rows opened o (branches + 1) (j + 1)
+  pub construct-turned : (j : ℕ) → r ≡ Ok (Turned j) → ConstructState table rows opened o (branches + 1) (j + 1)
   construct-turned j e =
       let w : (q ≤ j) × (j + 1 < rows) = subst (RunWithin q rows) e read.within in
       let x = w.0 in
@@ -297,7 +314,7 @@ module _ (table : List ℕ) (rows opened : ℕ) (o : Open) (branches q : ℕ) (s
         reached = λ d a p. subst (λ n. Reached d (opened + 1) (j + 1) (framed d opened j n)) (sym (add-one branches)) (behind d a p Turns j refl (subst (RunEnded d q) e (ran d a p)));
       }
 
-  pub construct-closed : (j : ℕ) → r ≡ Closed j → ConstructRead table rows opened o (WasClosed j)
+  pub construct-closed : (j : ℕ) → r ≡ Ok (Closed j) → ConstructRead table rows opened o (Ok (Some j))
   construct-closed j e =
       let w : (q ≤ j) × (j + 1 < rows) = subst (RunWithin q rows) e read.within in
       let x = w.0 in
@@ -315,7 +332,7 @@ judged-is d number row j on = decide (eqb number 0)
     rows-faulty d (nesting_fault d) row w.1 (λ z. ne (sym w.2 ∙ z)) (λ q l. w.3.fine q (omega arith) l) on
     ∙ (ap (λ (n : ℕ). refused n row) w.2 ∙ sym (unless-refused number row on ne)))
 
-pub no_rows : (table : List ℕ) (rows : ℕ) → rows ≡ 0 → NestingRead table rows (record { number = 0; row = 0 })
+pub no_rows : (table : List ℕ) (rows : ℕ) → rows ≡ 0 → NestingRead table rows (Ok tt)
 no_rows table rows e = record {
   within = omega arith;
   none = λ z. refl;
@@ -327,15 +344,22 @@ module _ (table : List ℕ) (rows : ℕ) (r : Run) (read : RunRead table rows 0 
   unfolding stack
   ran-all d k = read.ended d (record { kinds = k; shows = record { depth = refl; opened = refl; branches = refl; looped = refl; boxed = refl }; free = refl })
 
-  pub all-judged : (number row : ℕ) → r ≡ Judged number row → NestingRead table rows (record { number = number; row = row })
-  all-judged number row e = record {
-    within = (subst (RunWithin 0 rows) e read.within).0;
-    none = (subst (RunWithin 0 rows) e read.within).1;
-    judged = λ d k. judged-is d number row (subst (RunEnded d 0) e (ran-all d k));
+  pub all-over : (f : Refusal) → r ≡ Err f → NestingRead table rows (Err f)
+  all-over f e = record {
+    within = subst (RunWithin 0 rows) e read.within;
+    none = λ z. absurd (number-some f.reason z);
+    judged = λ d k. judged-is d (number f.reason) f.value (subst (RunEnded d 0) e (ran-all d k));
+  }
+
+  pub all-judged : r ≡ Ok Judged → NestingRead table rows (Ok tt)
+  all-judged e = record {
+    within = omega arith;
+    none = λ z. refl;
+    judged = λ d k. judged-is d 0 0 (subst (RunEnded d 0) e (ran-all d k));
   }
 
   -- the whole table is no run that a BRANCH or a close ends
-  never_ends : (part : Part) (j : ℕ) → ending part ≡ true → j + 1 < rows → ((d : Diagram) → Kinds d rows table → Ends d part 0 j) → NestingRead table rows (record { number = 7; row = j })
+  never_ends : (part : Part) (j : ℕ) → ending part ≡ true → j + 1 < rows → ((d : Diagram) → Kinds d rows table → Ends d part 0 j) → NestingRead table rows (Err (record { reason = NestingBroken; value = j }))
   unfolding stack
   never_ends part j h l ends = record {
     within = omega arith;
@@ -345,8 +369,12 @@ module _ (table : List ℕ) (rows : ℕ) (r : Run) (read : RunRead table rows 0 
         let none = x.clean.fine j (omega arith) (omega arith) in absurd (omega arith);
   }
 
-  pub never-turned : (j : ℕ) → r ≡ Turned j → NestingRead table rows (record { number = 7; row = j })
+  never-turned : (j : ℕ) → r ≡ Ok (Turned j) → NestingRead table rows (Err (record { reason = NestingBroken; value = j }))
   never-turned j e = never_ends Turns j refl (subst (RunWithin 0 rows) e read.within).1 (λ d k. subst (RunEnded d 0) e (ran-all d k))
 
-  pub never-closed : (j : ℕ) → r ≡ Closed j → NestingRead table rows (record { number = 7; row = j })
+  never-closed : (j : ℕ) → r ≡ Ok (Closed j) → NestingRead table rows (Err (record { reason = NestingBroken; value = j }))
   never-closed j e = never_ends Closes j refl (subst (RunWithin 0 rows) e read.within).1 (λ d k. subst (RunEnded d 0) e (ran-all d k))
+
+  pub never-ended : (x : RunEnd) (j : ℕ) → r ≡ Ok x → (x ≡ Turned j) ⊎ (x ≡ Closed j) → NestingRead table rows (Err (record { reason = NestingBroken; value = j }))
+  never-ended x j e (inl t) = never-turned j cc
+  never-ended x j e (inr t) = never-closed j cc

@@ -1,17 +1,15 @@
 -- The nesting rules over the table's numbers, and what the two readers of runs and constructs find. Assumes nothing.
-use Rattle.std.specs.Prelude.{ℕ, ◌+◌, ◌≤◌, ◌<◌, ◌≡◌, ◌≢◌, Bool, true, false, not, cond, ◌&&◌, ◌||◌, List, length, get_or, ltb, eqb}
-use Rattle.effbd.specs.Answers.{Outcome, unless}
+use Rattle.std.specs.Prelude.{ℕ, ◌+◌, ◌≤◌, ◌<◌, ◌≡◌, ◌≢◌, Bool, true, false, not, cond, ◌&&◌, ◌||◌, List, length, get_or, ltb, eqb, Option, Some, None, Result, Ok, Err}
+use Rattle.effbd.specs.Answers.{Outcome, unless, number, said, refusal_number, refusal_value}
+use Rattle.effbd.specs.declared.refusals.Refusal.{Refusal}
 use Rattle.effbd.specs.Diagrams.{most_rows, Diagram, lp_open, number_of, row_count, row, kind}
 use Rattle.effbd.specs.Frames.{Frame, innermost_open, branch_count}
 use Rattle.effbd.specs.Nesting.{stack, own_scenario, some_open, some_scenario, follows, nesting_fault, unless_row}
 use Rattle.nesting.specs.declared.Part.{Part}
 use Rattle.nesting.specs.declared.Part.TheVariants.{Opens, Turns, Closes, Stays}
 use Rattle.nesting.specs.declared.Open.{Open}
-use Rattle.nesting.specs.declared.Run.{Run}
-use Rattle.nesting.specs.declared.Run.TheVariants.{Judged, Turned, Closed}
-use Rattle.nesting.specs.declared.Construct.{Construct}
-use Rattle.nesting.specs.declared.Construct.TheVariants.{Judged as WasJudged, Closed as WasClosed}
-use Rattle.nesting.specs.declared.Judgement.{Judgement}
+use Rattle.nesting.specs.declared.RunEnd.{RunEnd}
+use Rattle.nesting.specs.declared.RunEnd.TheVariants.{Judged, Turned, Closed}
 
 unfoldable pub part_of : ℕ → Part
 part_of k = cond (eqb k 17) Opens (cond (eqb k 18) Turns (cond (eqb k 19) Closes (cond (eqb k 20) Opens (cond (eqb k 21) Closes (cond (eqb k 22) Opens
@@ -129,15 +127,24 @@ pub record Ends (d : Diagram) (part : Part) (a j : ℕ) : Type 0 where
   pub does : part_of (number_of (kind d j)) ≡ part
   pub around : stack d j ≡ stack d a
 
+-- a run, and a construct, as they were read: up to their end, or turned away at a row
+abbrev pub Run : Type 0
+Run = Result RunEnd Refusal
+
+abbrev pub Construct : Type 0
+Construct = Result (Option ℕ) Refusal
+
 abbrev pub RunEnded : Diagram → ℕ → Run → Type 0
-RunEnded d a (Judged number row) = AllJudged d a number row
-RunEnded d a (Turned j) = Ends d Turns a j
-RunEnded d a (Closed j) = Ends d Closes a j
+RunEnded d a (Err e) = AllJudged d a (number e.reason) e.value
+RunEnded d a (Ok Judged) = AllJudged d a 0 0
+RunEnded d a (Ok (Turned j)) = Ends d Turns a j
+RunEnded d a (Ok (Closed j)) = Ends d Closes a j
 
 abbrev pub RunWithin : ℕ → ℕ → Run → Type 0
-RunWithin a rows (Judged number row) = (row ≤ rows) × (number ≡ 0 → row ≡ 0)
-RunWithin a rows (Turned j) = (a ≤ j) × (j + 1 < rows)
-RunWithin a rows (Closed j) = (a ≤ j) × (j + 1 < rows)
+RunWithin a rows (Err e) = e.value ≤ rows
+RunWithin a rows (Ok Judged) = Unit {0}
+RunWithin a rows (Ok (Turned j)) = (a ≤ j) × (j + 1 < rows)
+RunWithin a rows (Ok (Closed j)) = (a ≤ j) × (j + 1 < rows)
 
 pub record RunRead (table : List ℕ) (rows from : ℕ) (o : Open) (r : Run) : Type 0 where
   pub within : RunWithin from rows r
@@ -145,20 +152,22 @@ pub record RunRead (table : List ℕ) (rows from : ℕ) (o : Open) (r : Run) : T
 
 -- behind the close of the construct that row a opens the same is open as at a
 abbrev pub ConstructEnded : Diagram → ℕ → Construct → Type 0
-ConstructEnded d a (WasJudged number row) = AllJudged d (a + 1) number row
-ConstructEnded d a (WasClosed j) = Reached d (a + 1) (j + 1) (stack d a)
+ConstructEnded d a (Err e) = AllJudged d (a + 1) (number e.reason) e.value
+ConstructEnded d a (Ok None) = AllJudged d (a + 1) 0 0
+ConstructEnded d a (Ok (Some j)) = Reached d (a + 1) (j + 1) (stack d a)
 
 abbrev pub ConstructWithin : ℕ → ℕ → Construct → Type 0
-ConstructWithin a rows (WasJudged number row) = (row ≤ rows) × (number ≡ 0 → row ≡ 0)
-ConstructWithin a rows (WasClosed j) = (a < j) × (j + 1 < rows)
+ConstructWithin a rows (Err e) = e.value ≤ rows
+ConstructWithin a rows (Ok None) = Unit {0}
+ConstructWithin a rows (Ok (Some j)) = (a < j) × (j + 1 < rows)
 
 pub record ConstructRead (table : List ℕ) (rows opened : ℕ) (o : Open) (r : Construct) : Type 0 where
   pub within : ConstructWithin opened rows r
   pub ended : (d : Diagram) → At table rows opened o d → part_of (number_of (kind d opened)) ≡ Opens → ConstructEnded d opened r
 
 -- the nesting of the table's rows was judged: every diagram that has their kinds and first fields is turned away at that row with that number, or goes on
-pub record NestingRead (table : List ℕ) (rows : ℕ) (r : Judgement) : Type 0 where
-  pub within : r.row ≤ rows
+pub record NestingRead (table : List ℕ) (rows : ℕ) (r : Result (Unit {0}) Refusal) : Type 0 where
+  pub within : refusal_value (said r) ≤ rows
   -- "0 and 0 for none"
-  pub none : r.number ≡ 0 → r.row ≡ 0
-  pub judged : (d : Diagram) → Kinds d rows table → (on : Outcome Diagram) → unless_row d (nesting_fault d) on ≡ unless r.number r.row on
+  pub none : refusal_number (said r) ≡ 0 → refusal_value (said r) ≡ 0
+  pub judged : (d : Diagram) → Kinds d rows table → (on : Outcome Diagram) → unless_row d (nesting_fault d) on ≡ unless (refusal_number (said r)) (refusal_value (said r)) on

@@ -1,11 +1,6 @@
 -- THEOREM (killed-range, kill-gives, kill-is): what is written of a kill is what a pattern clears and gives that clears the rows of an AND.
-use Prim.Native.Nat.{ℕ, suc, ◌+◌, ◌*◌, ◌-◌, ◌≤◌, ◌<◌}
-use mathlib.Core.Path.{◌≡◌, refl, ap, ap₂, ◌∙◌, fun_ext}
-use mathlib.Core.Bool.{true, false, ◌&&◌}
-use mathlib.Core.List.{List, [], ◌++◌, append-nil}
-use native.Mathlib.Omega.{arith}
-use lib.Dec.{leb, ltb}
-use borrow.Author.Tests.{leb-true, leb-false, le-ltb, lt-ltb}
+use Rattle.std.proofs.Common.{ℕ, suc, ◌+◌, ◌*◌, ◌-◌, ◌≤◌, ◌<◌, ◌≡◌, refl, ap, ap₂, ◌∙◌, true, false, ◌&&◌, List, [], ◌++◌, append-nil, arith, leb, ltb, leb-true, leb-false, le-ltb, lt-ltb}
+use Rattle.std.proofs.Math.Path.{fun_ext}
 use Rattle.effbd.specs.Ranges.{within, between}
 use Rattle.effbd.specs.Diagrams.{Diagram, and_open, it_open, row_count, kind, is_kind}
 use Rattle.effbd.specs.Nesting.{close, branch_of}

@@ -1,9 +1,5 @@
 -- The records of a row's patterns.
-use Prim.Native.Nat.{ℕ, ◌+◌, ◌*◌, ◌%◌, ◌≤◌, ◌<◌}
-use mathlib.Core.Path.{◌≡◌, ap, sym, ◌∙◌}
-use mathlib.Core.Bool.{Bool}
-use mathlib.Core.List.{List, [], ◌∷◌, ◌++◌, map, append_assoc}
-use native.Mathlib.Omega.{arith}
+use Rattle.std.proofs.Common.{ℕ, ◌+◌, ◌*◌, ◌%◌, ◌≤◌, ◌<◌, ◌≡◌, ap, sym, ◌∙◌, Bool, List, [], ◌∷◌, ◌++◌, map, append_assoc, arith}
 use Rattle.effbd.specs.Ranges.{within}
 use Rattle.effbd.specs.Diagrams.{Diagram, row_count, most_rows}
 use Rattle.effbd.specs.Layout.{Place, places, place_of}

@@ -1,12 +1,6 @@
 -- The arcs of weights at a diagram's places, as the turns of loops over rows and counts.
-use Prim.Native.Nat.{ℕ, zero, suc, ◌+◌, ◌*◌, ◌%◌, ◌≤◌, ◌<◌}
-use mathlib.Core.Path.{◌≡◌, refl, ap, ap₂, ◌∙◌}
-use mathlib.Core.Logic.{◌≢◌}
-use mathlib.Core.Bool.{Bool, cond}
-use mathlib.Core.List.{[], ◌∷◌, ◌++◌, map, map-append, append-nil}
-use native.Mathlib.Omega.{arith}
-use lib.Dec.{eqb}
-use borrow.Author.Tests.{ne_eqb}
+use Rattle.std.proofs.Common.{ℕ, zero, suc, ◌+◌, ◌*◌, ◌%◌, ◌≤◌, ◌<◌, ◌≡◌, refl, ap, ap₂, ◌∙◌, ◌≢◌, Bool, cond, [], ◌∷◌, ◌++◌, map, append-nil, arith, eqb, ne_eqb}
+use Rattle.std.proofs.lemmas.List.{map-append}
 use Rattle.effbd.specs.Ranges.{only}
 use Rattle.effbd.specs.Diagrams.{Diagram, row_count}
 use Rattle.effbd.specs.Counts.{count_total}

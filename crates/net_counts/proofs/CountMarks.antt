@@ -1,10 +1,5 @@
 -- The marks of all counts: an item's place has its initial count, that of a trigger none, and each of its copies has it.
-use Prim.Native.Nat.{ℕ, ◌+◌, ◌<◌}
-use mathlib.Core.Path.{◌≡◌, ap₂, ◌∙◌}
-use mathlib.Core.List.{List, ◌++◌}
-use native.Mathlib.Omega.{arith}
-use lib.Dec.{eqb}
-use borrow.Author.Tests.{eqb-true}
+use Rattle.std.proofs.Common.{ℕ, ◌+◌, ◌<◌, ◌≡◌, ap₂, ◌∙◌, List, ◌++◌, arith, eqb, eqb-true}
 use Rattle.effbd.specs.Diagrams.{Diagram, is_trigger, item_total, row_count}
 use Rattle.effbd.specs.Counts.{count_total, initial_count}
 use Rattle.ranges.specs.Tests.{decide}

@@ -1,8 +1,6 @@
 -- THEOREM (enter-is): what a transition writes of entering a row is what its pattern clears and gives.
-use Prim.Native.Nat.{ℕ, ◌+◌, ◌*◌, ◌-◌, ◌<◌}
-use mathlib.Core.Path.{◌≡◌, refl, ap, sym, ◌∙◌, fun_ext}
-use mathlib.Core.Bool.{true, false}
-use mathlib.Core.List.{List, ◌++◌, append_assoc, append-nil}
+use Rattle.std.proofs.Common.{ℕ, ◌+◌, ◌*◌, ◌-◌, ◌<◌, ◌≡◌, refl, ap, sym, ◌∙◌, true, false, List, ◌++◌, append_assoc, append-nil}
+use Rattle.std.proofs.Math.Path.{fun_ext}
 use Rattle.effbd.specs.Ranges.{only, between, nobody}
 use Rattle.effbd.specs.Diagrams.{Diagram, and_open, row_count, kind}
 use Rattle.effbd.specs.Layout.{Place, P, Q, R, Count, by_place}

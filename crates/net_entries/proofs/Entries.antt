@@ -1,9 +1,5 @@
 -- The places that entering a row marks, in the table and in the diagram that it holds.
-use Prim.Native.Nat.{ℕ, suc, ◌+◌, ◌*◌, ◌<◌}
-use mathlib.Core.Path.{◌≡◌}
-use mathlib.Core.Logic.{◌≢◌}
-use mathlib.Core.List.{List}
-use native.Mathlib.Numerals.{add-one}
+use Rattle.std.proofs.Common.{ℕ, suc, ◌+◌, ◌*◌, ◌<◌, ◌≡◌, ◌≢◌, List, add-one}
 use Rattle.effbd.specs.Diagrams.{end, Diagram, row_count, kind}
 use Rattle.effbd.specs.States.{entered_row}
 use Rattle.agreement.specs.AcceptedFiles.{Held}

@@ -8,8 +8,10 @@ ghost use Rattle.net_entries.specs.Entering.{entry as entry_of, entering as ente
 
 use diagram_table::OWNER;
 use kinds::GIVE;
+use net_records::Writer;
 
 // P of the row that entering a row changes where no branch kills.
+#[tactic(auto, unfolding(crate::specs::Entering::entry))]
 pub fn entry(table: &[u16], row: u32) -> usize
     ensures { result ≡ entry_of table.now row }
 {
@@ -17,13 +19,15 @@ pub fn entry(table: &[u16], row: u32) -> usize
 }
 
 // Entering a row.
-pub fn enter(table: &[u16], row: u32, area: &mut [u8], at: usize) -> usize
-    ensures { Wrote area.old at area.new result (entering_records table.now row) }
+#[tactic(auto, unfolding(crate::specs::Entering::entering))]
+pub fn enter(table: &[u16], row: u32, net: &mut Writer)
+    ensures { Wrote net.old net.new (entering_records table.now row) }
 {
     let changed = diagram_table::entered_row(table, row);
     if diagram_table::kills(table, changed) {
         let opened = diagram_table::cell(table, OWNER, changed);
-        return net_clears::kill(table, opened, area, at);
+        net_clears::kill(table, opened, net);
+    } else {
+        net.arc(GIVE, 3 * changed as usize, 1);
     }
-    net_records::arc(area, at, GIVE, 3 * changed as usize, 1)
 }

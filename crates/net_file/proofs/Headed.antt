@@ -6,7 +6,7 @@ use mathlib.Core.List.{List}
 use native.Mathlib.Omega.{arith}
 use lib.ListN.{length, drop, length-drop}
 use Rattle.effbd.specs.Answers.{Outcome, accepted, refused, and_then, returning_zero}
-use Rattle.effbd.specs.Records.{word, Got, KindBytes, read_many}
+use Rattle.effbd.specs.Records.{word, Got, read_many}
 use Rattle.effbd.specs.Nets.{Net, mark_at, mark_fault, net_head_fault, Tail, read_tail, net_with, after_places, read_net}
 use Rattle.effbd.specs.Firing.{net_word_count, words_of}
 use Rattle.net_file.specs.Due.{start, own_length, verdict, places_verdict, answering, Lent, head_end}
@@ -40,11 +40,11 @@ module _ (file : List ℕ) (wrong : ℕ) (ew : wrong ≡ net_head_fault file) wh
     behind : rest ≡ drop 8 file
     behind = er ∙ ap (λ (n : ℕ). drop n file) (es ∙ (head_read file (sym ew ∙ none)).own)
 
-    pub head-lent : (table : List ℕ) → KindBytes table → Lent (length file) places transitions head_end table rest
-    head-lent table kinds =
+    pub head-lent : Lent (length file) places transitions head_end rest
+    head-lent =
         let h = head_read file (sym ew ∙ none) in
         let l = h.long in
-        rw (behind, ep, et) (record { kinds = kinds; places = h.places; more = h.transitions; inside = rw (length-drop 8 file) (omega arith); near = rw (length-drop 8 file) (omega arith) })
+        rw (behind, ep, et) (record { places = h.places; more = h.transitions; inside = rw (length-drop 8 file) (omega arith); near = rw (length-drop 8 file) (omega arith) })
 
     pub head_done : (said : Outcome ℕ) → said ≡ answering (places + transitions) (places_verdict places (length file) transitions places rest) → said ≡ words_of (read_net file)
     unfolding words_of places_verdict verdict start after_places

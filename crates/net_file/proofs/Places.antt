@@ -2,7 +2,7 @@
 use Prim.Native.Nat.{ℕ, suc, ◌+◌, ◌-◌, ◌*◌, ◌≤◌, ◌<◌}
 use mathlib.Core.Path.{◌≡◌, refl, sym, ◌∙◌, ap}
 use mathlib.Core.Logic.{◌≢◌}
-use mathlib.Core.Bool.{true}
+use mathlib.Core.Bool.{true, ◌&&◌}
 use mathlib.Core.List.{List}
 use native.Mathlib.Nat.{sub-zero}
 use native.Mathlib.Omega.{arith}
@@ -10,9 +10,11 @@ use lib.ListN.{length, drop, length-drop}
 use lib.Dec.{eqb}
 use borrow.Author.Tests.{eqb-true, eq-eqb}
 use Rattle.effbd.specs.Answers.{Outcome, accepted, refused, unless, and_then}
-use Rattle.effbd.specs.Records.{length_at, kind_at, length_of, kind_table, entry_in, Got, adding, read_many}
-use Rattle.effbd.specs.Nets.{most_places, mark_at, mark_fault}
-use Rattle.net_file.specs.Due.{start, place_fault, place_size, verdict, places_verdict, answering, Lent, head_end, places_end}
+use Rattle.effbd.specs.Records.{word, length_at, kind_at, length_of, kind_table, entry_in, Got, adding, read_many}
+use Rattle.effbd.specs.Nets.{most_places, mark_at, mark_fault, net_head_fault}
+use Rattle.net_file.specs.Contents.{head_fine}
+use Rattle.ranges.specs.Tests.{and_left, and_right}
+use Rattle.net_file.specs.Due.{start, own_length, place_fault, size_by, head_size, place_size, verdict, places_verdict, answering, Lent, head_end, places_end}
 use Rattle.agreement.specs.ByteLaws.{Clean, clean-none, none-clean}
 use Rattle.ranges.specs.Outcomes.{unless-none, unless-refused, unless-then}
 use Rattle.net_file.proofs.Turns.{own-length, sized, has-size, through}
@@ -35,7 +37,7 @@ place-fault : (rest : List ℕ) → place_fault rest ≡ mark_fault rest
 unfolding place_fault mark_fault
 place-fault rest = own-length rest 33 5 true
 
-six : length_of 33 ≡ 6
+pub six : length_of 33 ≡ 6
 unfolding length_of entry_in kind_table
 six = refl
 
@@ -64,6 +66,40 @@ wrong-place size rest e h z =
     let s : size ≡ 6 = e ∙ rw (eq-eqb (kind_at rest) 33 p.kind) (has-size (kind_at rest) rest (omega arith) (omega arith) ∙ y) in
     omega arith
 
+-- the same of the head
+pub eight : length_of 32 ≡ 8
+unfolding length_of entry_in kind_table
+eight = refl
+
+pub head-there : (kind size : ℕ) (net : List ℕ) → kind ≡ 32 → size ≡ size_by kind net → size ≢ 0 → 8 ≤ length net
+head-there kind size net ek es h = let s = sized kind size net es h in let y = ap length_of ek ∙ eight in let l = s.whole in omega arith
+
+pub right-head : (size : ℕ) (net : List ℕ) → size ≡ head_size net → size ≢ 0 → (0 ≡ net_head_fault net) × (size ≡ own_length net)
+unfolding head_size net_head_fault head_fine
+right-head size net e h =
+    let t = through (eqb (kind_at net) 32 && head_fine (word net 4) (word net 6)) size _ e h in
+    let k = and_left (eqb (kind_at net) 32) (head_fine (word net 4) (word net 6)) t.test in
+    let s = sized (kind_at net) size net t.is h in
+    let y : length_of (kind_at net) ≡ 8 = ap length_of (eqb-true (kind_at net) 32 k) ∙ eight in
+    let l = s.whole in let z = s.has in (
+      sym (clean-none net (eqb (kind_at net) 32) (eqb (length_at net) (length_of 32)) (head_fine (word net 4) (word net 6)) 4
+          (record { long = omega arith; is_due = k; is_right = eq-eqb (length_at net) (length_of 32) (z ∙ ap length_of (eqb-true (kind_at net) 32 k)); whole = omega arith; is_fine = and_right (eqb (kind_at net) 32) (head_fine (word net 4) (word net 6)) t.test })),
+      s.own,
+    )
+
+pub wrong-head : (net : List ℕ) → 0 ≡ head_size net → net_head_fault net ≢ 0
+unfolding head_size net_head_fault head_fine
+wrong-head net e z =
+    let c = none-clean net (eqb (kind_at net) 32) (eqb (length_at net) (length_of 32)) (head_fine (word net 4) (word net 6)) 3 z in
+    let k = eqb-true (kind_at net) 32 c.is_due in
+    let y : length_of (kind_at net) ≡ 8 = ap length_of k ∙ eight in
+    let x = eqb-true (length_at net) (length_of 32) c.is_right in let w = c.whole in let v = eight in
+    let s : ◌≡◌ {A = ℕ} 0 8 = e ∙ rw (c.is_due, c.is_fine) (has-size (kind_at net) net (omega arith) (omega arith) ∙ y) in
+    omega arith
+
+pub place-faulty : (size : ℕ) (rest : List ℕ) → size ≡ place_size rest → size ≡ 0 → place_fault rest ≢ 0
+place-faulty size rest e h z = wrong-place size rest e h (sym (place-fault rest) ∙ z)
+
 adding-then : {A : Type 0} {B : Type 0} (a : A) (o : Outcome (Got (List A))) (g : List ℕ → Outcome B)
     → and_then (adding a o) (λ got. g got.rest) ≡ and_then o (λ got. g got.rest)
 adding-then a (accepted got) g = refl
@@ -89,8 +125,8 @@ pub record AtPlace (count total transitions : ℕ) (behind : List ℕ) (n : ℕ)
   pub near : total ≤ length rest + head_end + 6 * n
   pub same : places_verdict count total transitions (count - n) rest ≡ places_verdict count total transitions count behind
 
-pub first-place : (count total transitions : ℕ) (table behind : List ℕ) → Lent total count transitions head_end table behind → AtPlace count total transitions behind 0 behind
-first-place count total transitions table behind lent =
+pub first-place : (count total transitions : ℕ) (behind : List ℕ) → Lent total count transitions head_end behind → AtPlace count total transitions behind 0 behind
+first-place count total transitions behind lent =
     let n = lent.near in
     record { few = omega arith; inside = lent.inside; near = omega arith; same = rw sub-zero }
 
@@ -130,7 +166,7 @@ module _ (count total transitions : ℕ) (behind : List ℕ) (few : count ≤ mo
   places-done l said e = e ∙ ap (answering (count + transitions))
       (sym (none-due count total transitions rest) ∙ ((let z : 0 ≡ count - n = omega arith in ap (λ (m : ℕ). places_verdict count total transitions m rest) z) ∙ at.same))
 
-  pub lend-on : (table : List ℕ) → Lent total count transitions head_end table behind → Lent total count transitions places_end table rest
-  lend-on table lent =
+  pub lend-on : Lent total count transitions head_end behind → Lent total count transitions places_end rest
+  lend-on lent =
       let a = at.near in let b = at.few in
-      record { kinds = lent.kinds; places = lent.places; more = lent.more; inside = at.inside; near = omega arith }
+      record { places = lent.places; more = lent.more; inside = at.inside; near = omega arith }

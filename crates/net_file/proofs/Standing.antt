@@ -95,10 +95,10 @@ pub record Stands (count total transitions : ℕ) (behind : List ℕ) (due : Due
   pub near : Near total due rest
   pub same : verdict count total due rest ≡ verdict count total (start transitions) behind
 
-pub first-due : (count total transitions : ℕ) (table behind : List ℕ) (due : Due) → Lent total count transitions places_end table behind → due ≡ start transitions
+pub first-due : (count total transitions : ℕ) (behind : List ℕ) (due : Due) → Lent total count transitions places_end behind → due ≡ start transitions
     → Stands count total transitions behind due behind
 unfolding start
-first-due count total transitions table behind due lent e = rw e
+first-due count total transitions behind due lent e = rw e
     (let i = lent.inside in let n = lent.near in let m = lent.more in
     record { near = record { least = omega arith; low = omega arith; width = omega arith; inside = i; bound = omega arith }; same = refl })
 

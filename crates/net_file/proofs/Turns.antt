@@ -155,21 +155,6 @@ pub has-size : (kind : ℕ) (rest : List ℕ) → length_at rest ≡ length_of k
 unfolding size_by
 has-size kind rest e l = rw (eq-eqb (length_at rest) (length_of kind) e, le-leb (length_of kind) (length rest) l)
 
--- no size, whatever else is tested
-no_size : (b : Bool) (size given : ℕ) → size ≡ given → size ≡ 0 → 0 ≡ cond b given 0
-no_size true size given e z = sym z ∙ e
-no_size false size given e z = refl
-
-pub no-arc-size : (count : ℕ) (due : Due) (rest : List ℕ) (kind size : ℕ) → kind ≡ kind_at rest → size ≡ size_by kind rest → size ≡ 0 → 0 ≡ arc_size count due rest
-unfolding arc_size
-no-arc-size count due rest kind size ek es z =
-    no_size (arc_next due.kind rest && arc_fine count due.kind due.from (arc_at rest)) size (size_by (kind_at rest) rest) (es ∙ ap (λ (k : ℕ). size_by k rest) ek) z
-
-pub no-transition-size : (due : Due) (rest : List ℕ) (kind size : ℕ) → kind ≡ kind_at rest → size ≡ size_by kind rest → size ≡ 0 → 0 ≡ transition_size due rest
-unfolding transition_size
-no-transition-size due rest kind size ek es z =
-    no_size (eqb (kind_at rest) 34 && (not (eqb due.transitions 0) && transition_fine due.label (transition_at rest))) size (size_by (kind_at rest) rest) (es ∙ ap (λ (k : ℕ). size_by k rest) ek) z
-
 -- a test that lets a size through
 pub record Through (b : Bool) (size given : ℕ) : Type 0 where
   pub test : b ≡ true
@@ -179,15 +164,16 @@ pub through : (b : Bool) (size given : ℕ) → size ≡ cond b given 0 → size
 through true size given e h = record { test = refl; is = e }
 through false size given e h = absurd (h e)
 
+-- the length of an arc that is due
+pub arc-long : (due kind : ℕ) (rest : List ℕ) → 35 ≤ due → arc_next due rest ≡ true → kind ≡ kind_at rest → length_of kind ≡ 8
+unfolding arc_next
+arc-long due kind rest least a ek = ap length_of ek ∙ arc-length (kind_at rest) (arc-kind due (kind_at rest) least (and_right (leb 4 (length rest)) _ a)).0
+
 -- the fields of an arc and of a transition that stands whole are there
 pub arc-there : (due kind size : ℕ) (rest : List ℕ) → 35 ≤ due → arc_next due rest ≡ true → kind ≡ kind_at rest → size ≡ size_by kind rest → size ≢ 0 → 8 ≤ length rest
-unfolding arc_next
-arc-there due kind size rest least a ek es h =
-    let s = sized kind size rest es h in
-    let k = (arc-kind due (kind_at rest) least (and_right (leb 4 (length rest)) _ a)).0 in
-    let y = ap length_of ek ∙ arc-length (kind_at rest) k in let l = s.whole in omega arith
+arc-there due kind size rest least a ek es h = let s = sized kind size rest es h in let y = arc-long due kind rest least a ek in let l = s.whole in omega arith
 
-ten : length_of 34 ≡ 10
+pub ten : length_of 34 ≡ 10
 unfolding length_of entry_in kind_table
 ten = refl
 

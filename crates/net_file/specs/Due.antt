@@ -1,9 +1,10 @@
 -- A net file behind its head, read record by record: what is due next decides what a record is checked for. Assumes nothing.
 use Rattle.std.specs.Prelude.{ℕ, suc, ◌+◌, ◌-◌, ◌*◌, ◌≤◌, Bool, true, not, cond, ◌&&◌, List, [], length, leb, eqb}
 use Rattle.effbd.specs.Answers.{Outcome, accepted, and_then, returning_zero}
-use Rattle.effbd.specs.Records.{word, length_at, kind_at, length_of, KindBytes, fault_at, read_many}
+use Rattle.effbd.specs.Records.{word, length_at, kind_at, length_of, fault_at, read_many}
 use Rattle.effbd.specs.Nets.{Arc, Transition, take_arc, give_arc, most_places, most_transitions, arc_due, arc_fine, above, transition_fine, arc_at, transition_at, mark_at, mark_fault, read_tail}
 use Rattle.net_file.specs.declared.Due.{Due}
+use Rattle.net_file.specs.Contents.{head_fine}
 
 -- what is due behind the places: before the first transition no arc is
 unfoldable pub start : (transitions : ℕ) → Due
@@ -41,7 +42,10 @@ fault_in count due rest = cond (arc_next due.kind rest)
 unfoldable pub size_by : ℕ → List ℕ → ℕ
 size_by kind rest = cond (eqb (length_at rest) (length_of kind) && leb (length_of kind) (length rest)) (length_of kind) 0
 
--- the length of a place, an arc, a transition at the start that is due and has nothing off; 0 where none stands there
+-- the length of the head, a place, an arc, a transition at the start that is due and has nothing off; 0 where none stands there
+unfoldable pub head_size : List ℕ → ℕ
+head_size net = cond (eqb (kind_at net) 32 && head_fine (word net 4) (word net 6)) (size_by (kind_at net) net) 0
+
 unfoldable pub place_size : List ℕ → ℕ
 place_size rest = cond (eqb (kind_at rest) 33) (size_by (kind_at rest) rest) 0
 
@@ -75,8 +79,7 @@ answering words o = and_then o (λ z. accepted words)
 
 -- what the readers behind the head are called with: the constant table, values that the head may have, and the rest of a file of
 -- `total` bytes of which at most `read` were read
-pub record Lent (total count transitions read : ℕ) (table rest : List ℕ) : Type 0 where
-  pub kinds : KindBytes table
+pub record Lent (total count transitions read : ℕ) (rest : List ℕ) : Type 0 where
   pub places : count ≤ most_places
   pub more : transitions ≤ most_transitions
   pub inside : length rest ≤ total

@@ -5,29 +5,26 @@ ghost use Rattle.std.specs.Prelude.{◌≡◌};
 ghost use Rattle.effbd.specs.Answers.{said};
 ghost use Rattle.effbd.specs.Transitions.{transition_net};
 
-use effbd::Answer;
-use effbd::refusals::{NOT_STANDING, STATE_OFF};
+use effbd::{Answer, Reason, Refusal};
 use net_walk::{HEAD_LENGTH, PLACE_LENGTH};
 
 // The number of the lowest-numbered enabled transition labelled with the row.
 pub fn transition(net: &[u8], state: &[u16], row: u16) -> Answer
     ensures { said result ≡ transition_net net.now row state.now }
 {
-    let read = net_file::read(net);
-    match read {
-        Answer::Refused(number, value) => Answer::Refused(number, value),
-        Answer::Accepted(size) => {
-            if state.len() != size as usize {
-                return Answer::Refused(STATE_OFF, 0);
-            }
-            let places = words::word(net, 4) as usize;
-            let count = words::word(net, 6);
-            let transitions = words::tail(net, HEAD_LENGTH + PLACE_LENGTH * places);
-            let lowest = net_walk::lowest(&state[..places], transitions, count, row);
-            if lowest == count {
-                return Answer::Refused(NOT_STANDING, row as u32);
-            }
-            Answer::Accepted(lowest as u32)
-        }
+    let size = net_file::read(net)?;
+    if state.len() != size as usize {
+        return Err(Refusal {
+            reason: Reason::StateOff,
+            value: 0,
+        });
     }
+    let places = words::word(net, 4) as usize;
+    let count = words::word(net, 6);
+    let transitions = words::tail(net, HEAD_LENGTH + PLACE_LENGTH * places);
+    let lowest = net_walk::lowest(&state[..places], transitions, count, row).ok_or(Refusal {
+        reason: Reason::NotStanding,
+        value: row as u32,
+    })?;
+    Ok(lowest as u32)
 }

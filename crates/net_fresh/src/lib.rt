@@ -7,11 +7,11 @@ ghost use Rattle.effbd.specs.Ranges.{tabulate};
 ghost use Rattle.effbd.specs.Firing.{fresh_net};
 ghost use Rattle.net_fresh.specs.FreshWords.{fresh_word};
 
-use effbd::Answer;
-use effbd::refusals::STATE_OFF;
+use effbd::{Answer, Reason, Refusal};
 use net_walk::{HEAD_LENGTH, PLACE_LENGTH};
 
 // Word i of a fresh state. A place's mark stands behind its length and its kind.
+#[tactic(auto, unfolding(crate::specs::FreshWords::fresh_word))]
 fn fresh_word(net: &[u8], places: u16, i: usize) -> u16
     ensures { result ≡ fresh_word net.now places i }
 {
@@ -25,10 +25,8 @@ fn fresh_word(net: &[u8], places: u16, i: usize) -> u16
 fn fill(net: &[u8], places: u16, state: &mut [u16])
     ensures { state.new ≡ tabulate (length state.old) (fresh_word net.now places) }
 {
-    let mut i: usize = 0;
-    while i < state.len() {
-        state[i] = fresh_word(net, places, i);
-        i += 1;
+    for (i, word) in state.iter_mut().enumerate() {
+        *word = fresh_word(net, places, i);
     }
 }
 
@@ -37,15 +35,13 @@ pub fn fresh(net: &[u8], state: &mut [u16]) -> Answer
     ensures result_value { said result ≡ returning_zero (fresh_net net.now state.old) }
     ensures state_after { state.new ≡ afterwards state.old (fresh_net net.now state.old) }
 {
-    let read = net_file::read(net);
-    match read {
-        Answer::Refused(number, value) => Answer::Refused(number, value),
-        Answer::Accepted(size) => {
-            if state.len() != size as usize {
-                return Answer::Refused(STATE_OFF, 0);
-            }
-            fill(net, words::word(net, 4), state);
-            Answer::Accepted(0)
-        }
+    let size = net_file::read(net)?;
+    if state.len() != size as usize {
+        return Err(Refusal {
+            reason: Reason::StateOff,
+            value: 0,
+        });
     }
+    fill(net, words::word(net, 4), state);
+    Ok(0)
 }

@@ -1,9 +1,5 @@
 -- THEOREM (head-is): the head over the table is the first record of the diagram's net.
-use Prim.Native.Nat.{ℕ, ◌+◌, ◌*◌, ◌%◌, ◌≤◌, ◌<◌}
-use mathlib.Core.Path.{◌≡◌, ap, ap₂, ◌∙◌}
-use mathlib.Core.List.{List, [], ◌∷◌}
-use native.Mathlib.Omega.{arith}
-use lib.ListN.{length}
+use Rattle.std.proofs.Common.{ℕ, ◌+◌, ◌*◌, ◌%◌, ◌≤◌, ◌<◌, ◌≡◌, ap, ap₂, ◌∙◌, List, [], ◌∷◌, arith, length}
 use Rattle.effbd.specs.Diagrams.{Diagram, row_count}
 use Rattle.effbd.specs.Layout.{places}
 use Rattle.effbd.specs.Nets.{most_places, most_transitions}

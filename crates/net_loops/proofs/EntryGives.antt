@@ -1,11 +1,5 @@
 -- Gives of a transition that enters one row: its entry stands before or behind the gives at other rows' Q and R.
-use Prim.Native.Nat.{ℕ, ◌+◌, ◌*◌, ◌≤◌, ◌<◌}
-use mathlib.Core.Path.{◌≡◌, refl, ap, ◌∙◌}
-use mathlib.Core.Logic.{◌≢◌}
-use mathlib.Core.List.{[], ◌++◌, append-nil}
-use native.Mathlib.Omega.{arith}
-use lib.Dec.{leb}
-use borrow.Author.Tests.{leb-true, leb-false, ne_eqb}
+use Rattle.std.proofs.Common.{ℕ, ◌+◌, ◌*◌, ◌≤◌, ◌<◌, ◌≡◌, refl, ap, ◌∙◌, ◌≢◌, [], ◌++◌, append-nil, arith, leb, leb-true, leb-false, ne_eqb}
 use Rattle.effbd.specs.Ranges.{only}
 use Rattle.effbd.specs.Diagrams.{Diagram, row_count}
 use Rattle.effbd.specs.Layout.{by_place}

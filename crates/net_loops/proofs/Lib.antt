@@ -1,3 +1,2 @@
 mod EntryGives
-mod ComputedTransitions
 pub mod LoopRecords

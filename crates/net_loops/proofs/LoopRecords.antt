@@ -1,13 +1,7 @@
 -- THEOREM (it-open-is, loop-exit-is, box-exit-is): the records of an IT open, of an LE and of an EXIT over the table are those of their patterns.
-use Prim.Native.Nat.{ℕ, suc, ◌+◌, ◌*◌, ◌-◌, ◌≤◌, ◌<◌}
-use mathlib.Core.Path.{◌≡◌, refl, ap, ap₂, sym, ◌∙◌, fun_ext}
-use mathlib.Core.Logic.{◌≢◌, ◌⊎◌, inl, inr}
-use mathlib.Core.Bool.{Bool, true, false}
-use mathlib.Core.List.{List, [], ◌++◌, append_assoc, append-nil}
-use native.Mathlib.Omega.{arith}
-use native.Mathlib.Numerals.{add-one}
-use lib.Dec.{leb, ltb}
-use borrow.Author.Tests.{eqb-true, leb-true, le-leb, lt-leb, ltb-true, ltb-false, ne_eqb}
+use Rattle.std.proofs.Common.{ℕ, suc, ◌+◌, ◌*◌, ◌-◌, ◌≤◌, ◌<◌, ◌≡◌, refl, ap, ap₂, sym, ◌∙◌, ◌≢◌, ◌⊎◌, inl, inr, Bool, true, false, List, [], ◌++◌, append_assoc, append-nil, arith, add-one, leb, ltb, eqb-true, leb-true, le-leb, ltb-true, ltb-false, ne_eqb}
+use Rattle.std.proofs.Math.Path.{fun_ext}
+use Rattle.std.proofs.lemmas.Bool.{lt-leb}
 use Rattle.effbd.specs.Ranges.{only, within, nobody, either}
 use Rattle.effbd.specs.Diagrams.{Diagram, and_open, branch, it_open, loop_exit, end, box_exit, row_count, kind, is_kind, turn_limit}
 use Rattle.effbd.specs.Layout.{Place, by_place}

@@ -9,171 +9,124 @@ ghost use Rattle.net_loops.specs.LoopTransitions.{early as early_of, late as lat
 
 use diagram_table::{CLOSE, FIRST, LOOP, OUTLET, OWNER, SCENARIO_LAST};
 use kinds::{CLEAR, GIVE, TAKE};
+use net_records::Writer;
 
 // Gives stand by rising places: the weight of the give to `to` before the gives to the places behind `place`, and after them.
+#[tactic(auto, unfolding(crate::specs::LoopTransitions::early))]
 fn early(to: usize, place: usize) -> u16
     ensures { result ≡ early_of to place }
 {
-    if to <= place {
-        return 1;
-    }
-    0
+    (to <= place) as u16
 }
 
+#[tactic(auto, unfolding(crate::specs::LoopTransitions::late))]
 fn late(to: usize, place: usize) -> u16
     ensures { result ≡ late_of to place }
 {
-    if to <= place {
-        return 0;
-    }
-    1
+    (to > place) as u16
 }
 
 // One transition of an IT open: beside P and the entry it takes from one of Q and R and gives to the other.
-fn it_turn(
-    row: u16,
-    from: usize,
-    into: usize,
-    weight: u16,
-    to: usize,
-    area: &mut [u8],
-    at: usize,
-) -> usize
-    ensures { Wrote area.old at area.new result (it_turn row from into weight to) }
+fn it_turn(row: u16, from: usize, into: usize, weight: u16, to: usize, net: &mut Writer)
+    ensures { Wrote net.old net.new (it_turn row from into weight to) }
 {
-    let before = early(to, 3 * row as usize);
-    let after = late(to, 3 * row as usize);
-    let own = net_records::transition(area, at, row as usize, 0, 0);
-    let takes = net_records::arc(area, own, TAKE, 3 * row as usize, 1);
-    let gives = net_records::arc(area, takes, TAKE, from, weight);
-    let middle = net_records::arc(area, gives, GIVE, to, before);
-    let last = net_records::arc(area, middle, GIVE, into, weight);
-    net_records::arc(area, last, GIVE, to, after)
+    let ready = 3 * row as usize;
+    net.transition(row as usize, 0, 0);
+    net.arc(TAKE, ready, 1);
+    net.arc(TAKE, from, weight);
+    net.arc(GIVE, to, early(to, ready));
+    net.arc(GIVE, into, weight);
+    net.arc(GIVE, to, late(to, ready));
 }
 
 // A transition that ends a branch that kills, in the AND that row `opened` opens: an IT open takes its count from Q, an LE nothing.
-fn kill_turn(table: &[u16], row: u16, weight: u16, opened: u16, area: &mut [u8], at: usize) -> usize
-    ensures { Wrote area.old at area.new result (kill_turn table.now row weight opened) }
+fn kill_turn(table: &[u16], row: u16, weight: u16, opened: u16, net: &mut Writer)
+    ensures { Wrote net.old net.new (kill_turn table.now row weight opened) }
 {
-    let own = net_records::transition(area, at, row as usize, 0, 0);
-    let takes = net_records::arc(area, own, TAKE, 3 * row as usize, 1);
-    let kills = net_records::arc(area, takes, TAKE, 3 * row as usize + 1, weight);
-    net_clears::kill(table, opened, area, kills)
+    net.transition(row as usize, 0, 0);
+    net.arc(TAKE, 3 * row as usize, 1);
+    net.arc(TAKE, 3 * row as usize + 1, weight);
+    net_clears::kill(table, opened, net);
 }
 
 // The second transition of an IT open, its turns being over: `changed` is the row that entering the row after its close changes.
-fn it_over(table: &[u16], row: u16, changed: u32, area: &mut [u8], at: usize) -> usize
-    ensures { Wrote area.old at area.new result (it_over table.now row changed) }
+#[tactic(auto, unfolding(crate::specs::LoopTransitions::it_over))]
+fn it_over(table: &[u16], row: u16, changed: u32, net: &mut Writer)
+    ensures { Wrote net.old net.new (it_over table.now row changed) }
 {
     let count = diagram_table::cell(table, FIRST, row as u32);
     if diagram_table::kills(table, changed) {
         let opened = diagram_table::cell(table, OWNER, changed);
-        return kill_turn(table, row, count, opened, area, at);
+        kill_turn(table, row, count, opened, net);
+    } else {
+        let ready = 3 * row as usize;
+        it_turn(row, ready + 1, ready + 2, count, 3 * changed as usize, net);
     }
-    it_turn(
-        row,
-        3 * row as usize + 1,
-        3 * row as usize + 2,
-        count,
-        3 * changed as usize,
-        area,
-        at,
-    )
 }
 
-pub fn it_open(table: &[u16], row: u16, area: &mut [u8], at: usize) -> usize
-    ensures { Wrote area.old at area.new result (it_open_records table.now row) }
+pub fn it_open(table: &[u16], row: u16, net: &mut Writer)
+    ensures { Wrote net.old net.new (it_open_records table.now row) }
 {
+    let ready = 3 * row as usize;
     let inside = net_entries::entry(table, row as u32 + 1);
-    let next = it_turn(
-        row,
-        3 * row as usize + 2,
-        3 * row as usize + 1,
-        1,
-        inside,
-        area,
-        at,
-    );
+    it_turn(row, ready + 2, ready + 1, 1, inside, net);
     let closed = diagram_table::cell(table, CLOSE, row as u32);
     let changed = diagram_table::entered_row(table, closed as u32 + 1);
-    it_over(table, row, changed, area, next)
+    it_over(table, row, changed, net);
 }
 
-fn restores(table: &[u16], opened: u16, closed: u16, area: &mut [u8], at: usize) -> usize
-    ensures { Wrote area.old at area.new result (span (restore_records table.now) opened (closed + 1)) }
+fn restores(table: &[u16], opened: u16, closed: u16, net: &mut Writer)
+    ensures { Wrote net.old net.new (span (restore_records table.now) opened (closed + 1)) }
 {
-    let mut next = at;
-    let mut row = opened as u32;
-    while row < closed as u32 + 1 {
-        next = net_clears::restore(table, row, area, next);
-        row += 1;
+    for row in opened as u32..closed as u32 + 1 {
+        net_clears::restore(table, row, net);
     }
-    next
 }
 
 // An LE or EXIT that leaves the rows `opened` to `closed`.
-fn leave(
-    table: &[u16],
-    row: u16,
-    opened: u16,
-    closed: u16,
-    to: usize,
-    area: &mut [u8],
-    at: usize,
-) -> usize
-    ensures { Wrote area.old at area.new result (leave_records table.now row opened closed to) }
+fn leave(table: &[u16], row: u16, opened: u16, closed: u16, to: usize, net: &mut Writer)
+    ensures { Wrote net.old net.new (leave_records table.now row opened closed to) }
 {
-    let before = early(to, 3 * opened as usize);
-    let after = late(to, 3 * opened as usize);
-    let takes = net_records::transition(area, at, row as usize, 0, 0);
-    let clears = net_records::arc(area, takes, TAKE, 3 * row as usize, 1);
-    let gives = net_records::pair(
-        area,
-        clears,
-        CLEAR,
-        3 * opened as usize,
-        3 * closed as usize + 2,
-    );
-    let middle = net_records::arc(area, gives, GIVE, to, before);
-    let last = restores(table, opened, closed, area, middle);
-    net_records::arc(area, last, GIVE, to, after)
+    let first = 3 * opened as usize;
+    net.transition(row as usize, 0, 0);
+    net.arc(TAKE, 3 * row as usize, 1);
+    net.pair(CLEAR, first, 3 * closed as usize + 2);
+    net.arc(GIVE, to, early(to, first));
+    restores(table, opened, closed, net);
+    net.arc(GIVE, to, late(to, first));
 }
 
 // An LE of the loop that row `opened` opens: `changed` is the row that entering the row after the loop changes.
-fn exit_turn(
-    table: &[u16],
-    row: u16,
-    opened: u16,
-    closed: u16,
-    changed: u32,
-    area: &mut [u8],
-    at: usize,
-) -> usize
-    ensures { Wrote area.old at area.new result (exit_turn table.now row opened closed changed) }
+#[tactic(auto, unfolding(crate::specs::LoopTransitions::exit_turn))]
+fn exit_turn(table: &[u16], row: u16, opened: u16, closed: u16, changed: u32, net: &mut Writer)
+    ensures { Wrote net.old net.new (exit_turn table.now row opened closed changed) }
 {
     if diagram_table::kills(table, changed) {
         let around = diagram_table::cell(table, OWNER, changed);
-        return kill_turn(table, row, 0, around, area, at);
+        kill_turn(table, row, 0, around, net);
+    } else {
+        leave(table, row, opened, closed, 3 * changed as usize, net);
     }
-    leave(table, row, opened, closed, 3 * changed as usize, area, at)
 }
 
-pub fn loop_exit(table: &[u16], row: u16, area: &mut [u8], at: usize) -> usize
-    ensures { Wrote area.old at area.new result (loop_exit_records table.now row) }
+#[tactic(auto, unfolding(crate::specs::LoopTransitions::loop_exit_records))]
+pub fn loop_exit(table: &[u16], row: u16, net: &mut Writer)
+    ensures { Wrote net.old net.new (loop_exit_records table.now row) }
 {
     let opened = diagram_table::cell(table, LOOP, row as u32);
     let closed = diagram_table::cell(table, CLOSE, opened as u32);
     let changed = diagram_table::entered_row(table, closed as u32 + 1);
-    exit_turn(table, row, opened, closed, changed, area, at)
+    exit_turn(table, row, opened, closed, changed, net);
 }
 
 // An EXIT enters the row after its outlet's BRANCH, which is one of a box: no branch that kills ends there.
-pub fn box_exit(table: &[u16], row: u16, area: &mut [u8], at: usize) -> usize
-    ensures { Wrote area.old at area.new result (box_exit_records table.now row) }
+#[tactic(auto, unfolding(crate::specs::LoopTransitions::box_exit_records))]
+pub fn box_exit(table: &[u16], row: u16, net: &mut Writer)
+    ensures { Wrote net.old net.new (box_exit_records table.now row) }
 {
     let branch = diagram_table::cell(table, OUTLET, row as u32);
     let opened = diagram_table::cell(table, OWNER, branch as u32);
     let closed = diagram_table::cell(table, SCENARIO_LAST, row as u32);
     let to = net_entries::entry(table, branch as u32 + 1);
-    leave(table, row, opened, closed, to, area, at)
+    leave(table, row, opened, closed, to, net);
 }

@@ -1,9 +1,5 @@
 -- THEOREM (marks-are): the marks over the table, of rows and of counts, are the marks of the diagram's net.
-use Prim.Native.Nat.{ℕ, zero, suc, ◌<◌}
-use mathlib.Core.Path.{◌≡◌, refl, ap, ap₂, sym, ◌∙◌}
-use mathlib.Core.Bool.{cond}
-use mathlib.Core.List.{List, ◌∷◌, ◌++◌, map, append_assoc}
-use native.Mathlib.Omega.{arith}
+use Rattle.std.proofs.Common.{ℕ, zero, suc, ◌<◌, ◌≡◌, refl, ap, ap₂, sym, ◌∙◌, cond, List, ◌∷◌, ◌++◌, map, append_assoc, arith}
 use Rattle.effbd.specs.Ranges.{only, tabulate}
 use Rattle.effbd.specs.Diagrams.{it_open, Diagram, row_count, is_kind, turn_limit}
 use Rattle.effbd.specs.Layout.{places, place_of}

@@ -7,18 +7,18 @@ ghost use Rattle.net_records.specs.Writing.{Wrote, runs};
 ghost use Rattle.net_marks.specs.Marks.{first_mark, remaining as remaining_of, row_marks};
 
 use diagram_table::FIRST;
+use net_records::Writer;
 
 // P of the row that entering row 0 changes has a token.
+#[tactic(auto, unfolding(crate::specs::Marks::first_mark))]
 fn first_mark(first: u32, row: u16) -> u16
     ensures { result ≡ first_mark first row }
 {
-    if row as u32 == first {
-        return 1;
-    }
-    0
+    (row as u32 == first) as u16
 }
 
 // R of an IT open has its count.
+#[tactic(auto, unfolding(crate::specs::Marks::remaining))]
 fn remaining(table: &[u16], row: u16) -> u16
     ensures { result ≡ remaining_of table.now row }
 {
@@ -28,25 +28,19 @@ fn remaining(table: &[u16], row: u16) -> u16
     0
 }
 
-fn row_marks(table: &[u16], first: u32, row: u16, area: &mut [u8], at: usize) -> usize
-    ensures { Wrote area.old at area.new result (row_marks table.now first row) }
+fn row_marks(table: &[u16], first: u32, row: u16, net: &mut Writer)
+    ensures { Wrote net.old net.new (row_marks table.now first row) }
 {
-    let ready = first_mark(first, row);
-    let count = remaining(table, row);
-    let at_q = net_records::mark(area, at, ready);
-    let at_r = net_records::mark(area, at_q, 0);
-    net_records::mark(area, at_r, count)
+    net.mark(first_mark(first, row));
+    net.mark(0);
+    net.mark(remaining(table, row));
 }
 
-pub fn of_rows(table: &[u16], rows: u16, area: &mut [u8], at: usize) -> usize
-    ensures { Wrote area.old at area.new result (runs (row_marks table.now (entered_in table.now 0)) rows) }
+pub fn of_rows(table: &[u16], rows: u16, net: &mut Writer)
+    ensures { Wrote net.old net.new (runs (row_marks table.now (entered_in table.now 0)) rows) }
 {
     let first = diagram_table::entered_row(table, 0);
-    let mut next = at;
-    let mut row: u16 = 0;
-    while row < rows {
-        next = row_marks(table, first, row, area, next);
-        row += 1;
+    for row in 0..rows {
+        row_marks(table, first, row, net);
     }
-    next
 }

@@ -1,10 +1,5 @@
 -- THEOREM (first-is): the numbers that are told from a table are those of the diagram's net.
-use Prim.Native.Nat.{ℕ, zero, suc, ◌+◌, ◌*◌, ◌≤◌, zero-le}
-use mathlib.Core.Path.{◌≡◌, refl, ap, ap₂, sym, ◌∙◌}
-use mathlib.Core.List.{List, ◌++◌}
-use native.Mathlib.Omega.{arith}
-use native.Mathlib.Numerals.{add-one}
-use lib.ListN.{length, length-append}
+use Rattle.std.proofs.Common.{ℕ, zero, suc, ◌+◌, ◌*◌, ◌≤◌, zero-le, ◌≡◌, refl, ap, ap₂, sym, ◌∙◌, List, ◌++◌, arith, length, length-append}
 use Rattle.effbd.specs.Ranges.{tabulate}
 use Rattle.effbd.specs.Diagrams.{Kind, function, and_open, branch, and_close, or_open, or_close, it_open, it_close, lp_open, lp_close, loop_exit, end, box_open, box_close, box_exit, Diagram, number_of, row_count, kind, is_kind}
 use Rattle.effbd.specs.Nesting.{owner}
@@ -12,16 +7,9 @@ use Rattle.effbd.specs.Patterns.{Name, names, patterns, patterns_as}
 use Rattle.effbd.specs.Transitions.{first_number}
 use Rattle.ranges.specs.Tests.{decide}
 use Rattle.ranges.specs.RangeLaws.{length-tab}
-use Rattle.diagram_table.specs.Cells.{kind_in, owner_in}
 use Rattle.diagram_table.specs.Held.{Holds}
 use Rattle.diagram_table.proofs.HeldCells.{kind-cell, owner-kind}
 use Rattle.net_numbers.specs.Numbers.{own_number, branch_number, number_as, first_number_in}
-
--- a turn over the rows
-pub first-turn : (table : List ℕ) (row sum opened owner kind number : ℕ) → sum ≡ first_number_in table row → opened ≡ owner_in table row → owner ≡ kind_in table opened
-    → kind ≡ kind_in table row → number ≡ number_as owner kind → sum + number ≡ first_number_in table (row + 1)
-unfolding first_number_in
-first-turn table row sum opened owner kind number e f g h i = rw (e, i, g, h, f, add-one)
 
 module _ (d : Diagram) where
   number_by : (k : Kind) (r : ℕ) → (length (patterns_as d k r) ≡ number_as (number_of (kind d (owner d r))) (number_of k)) × (length (patterns_as d k r) ≤ 2)

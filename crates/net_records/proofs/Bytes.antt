@@ -1,11 +1,6 @@
 -- The bytes of records; where they fit below the limit of offsets, the area holds them and the next offset is behind them.
-use Prim.Native.Nat.{ℕ, ◌+◌, ◌≤◌}
-use mathlib.Core.Path.{◌≡◌, refl, ap, sym, ◌∙◌}
-use mathlib.Core.List.{List, [], ◌∷◌, ◌++◌, append_assoc}
-use native.Mathlib.Omega.{arith}
-use lib.ListN.{length, length-append}
-use lib.Seq.{sets}
-use borrow.Author.Tests.{le-leb}
+use Rattle.std.proofs.Common.{ℕ, ◌+◌, ◌≤◌, ◌≡◌, refl, ap, sym, ◌∙◌, List, [], ◌∷◌, ◌++◌, append_assoc, arith, length, length-append, le-leb}
+use Rattle.std.proofs.lemmas.List.Edits.{sets}
 use Rattle.net_records.specs.Writing.{Records, encode, flat, offset_limit, past, laid, reach}
 use Rattle.net_records.proofs.Stores.{sets-append}
 

@@ -1,8 +1,5 @@
 -- The records of any net, and their bytes.
-use Prim.Native.Nat.{ℕ}
-use mathlib.Core.Path.{◌≡◌, refl, ap, ap₂, ◌∙◌}
-use mathlib.Core.List.{List, [], ◌∷◌, ◌++◌, map, append_assoc}
-use lib.ListN.{length}
+use Rattle.std.proofs.Common.{ℕ, ◌≡◌, refl, ap, ap₂, ◌∙◌, List, [], ◌∷◌, ◌++◌, map, append_assoc, length}
 use Rattle.effbd.specs.Nets.{Arc, Transition, Net, arc_bytes, transition_bytes, mark_bytes, net_bytes}
 use Rattle.net_records.specs.Writing.{Records, encode, flat}
 use Rattle.net_records.proofs.Bytes.{flat_append}

@@ -1,11 +1,5 @@
 -- How many bytes records have at most.
-use Prim.Native.Nat.{ℕ, zero, suc, ◌+◌, ◌*◌, ◌≤◌, ◌<◌, zero-le}
-use mathlib.Core.Path.{◌≡◌, refl, subst}
-use mathlib.Core.Bool.{Bool, true, false, cond}
-use mathlib.Core.List.{[], ◌++◌}
-use native.Mathlib.Omega.{arith}
-use lib.ListN.{length, length-append}
-use lib.Dec.{eqb}
+use Rattle.std.proofs.Common.{ℕ, zero, suc, ◌+◌, ◌*◌, ◌≤◌, ◌<◌, zero-le, ◌≡◌, refl, subst, Bool, true, false, cond, [], ◌++◌, arith, length, length-append, eqb}
 use Rattle.net_records.specs.Writing.{Records, encode, flat, runs}
 use Rattle.net_records.specs.Records.{transition, pair, arc, mark}
 use Rattle.net_records.proofs.Bytes.{flat_append}

@@ -1,14 +1,10 @@
 -- One record: its words, written into the lent rest of an area.
-use Prim.Native.Nat.{ℕ, suc, ◌+◌, ◌-◌, ◌*◌, ◌≤◌, ◌<◌}
-use mathlib.Core.Path.{◌≡◌, refl, ap, sym, ◌∙◌}
-use mathlib.Core.List.{List, [], ◌∷◌, ◌++◌, append-nil}
-use native.Mathlib.Numerals.{add-one}
-use native.Mathlib.Omega.{arith}
-use native.Mathlib.Nat.{le_of_eq, le-add_right, add-zero, add-suc}
-use lib.ListN.{length, get_or, take, drop, set, length-take, take-append-drop, length-drop}
-use lib.Seq.{sets, take-suc, take-set-le, drop-set-add, take_all, set_out, drop-length}
+use Rattle.std.proofs.Common.{ℕ, suc, ◌+◌, ◌-◌, ◌*◌, ◌≤◌, ◌<◌, ◌≡◌, refl, ap, sym, ◌∙◌, List, [], ◌∷◌, ◌++◌, append-nil, add-one, arith, le_of_eq, le-add_right, add-zero, add-suc, length, get_or, take, drop, set, length-take, take-append-drop, length-drop, take-suc, take_all}
+use Rattle.std.proofs.lemmas.List.Edits.{sets}
+use Rattle.std.proofs.Math.Seq.{take-set-le, drop-set-add, set_out, drop-length}
 use borrow.Rule.Slice.PartMut.{put_mid, mid_of}
 use Rattle.words.specs.Stores.{word_put}
+use Rattle.net_records.specs.declared.Writer.{Writer}
 use Rattle.net_records.specs.Writing.{encode, past, laid, reach, Wrote}
 
 -- words
@@ -28,12 +24,12 @@ sets-append (x ∷ xs) ys area at = sets-append xs ys (set area at x) (suc at)
     ∙ (let e : suc at + length xs ≡ at + suc (length xs) = omega arith in ap (λ (k : ℕ). sets (sets (set area at x) (suc at) xs) k ys) e)
 
 -- one more word of a record
-pub word-turn : (area before fields : List ℕ) (i : ℕ) → i < length fields → area ≡ sets before 0 (encode (take i fields))
-    → word_put area (2 * i) (get_or fields i 0) ≡ sets before 0 (encode (take (i + 1) fields))
+pub word_more : (before fields : List ℕ) (i : ℕ) → i < length fields
+    → sets before 0 (encode (take (i + 1) fields)) ≡ word_put (sets before 0 (encode (take i fields))) (2 * i) (get_or fields i 0)
 unfolding encode
-word-turn area before fields i l e =
+word_more before fields i l =
     let n : 0 + length (encode (take i fields)) ≡ 2 * i = let a = encode-length (take i fields) in let b = length-take i fields in omega arith in
-    sym (rw (add-one, take-suc fields i 0 l, encode-append (take i fields) (get_or fields i 0 ∷ []), sets-append (encode (take i fields)) (encode (get_or fields i 0 ∷ [])) before 0, n, ← e, add-one) refl)
+    rw (add-one, take-suc fields i 0 l, encode-append (take i fields) (get_or fields i 0 ∷ []), sets-append (encode (take i fields)) (encode (get_or fields i 0 ∷ [])) before 0, n, add-one) refl
 
 -- the rest of an area was lent, written from its start, and is back
 sets-tail : (bytes area : List ℕ) (at i : ℕ) → take at area ++ sets (drop at area) i bytes ≡ sets area (at + i) bytes
@@ -55,7 +51,7 @@ laid_out [] area at h = refl
 laid_out (b ∷ bytes) area at h = rw (set_out area at b h) (laid_out bytes area (suc at) (omega arith))
 
 -- one record
-pub one : (before after : List ℕ) (at next : ℕ) (fields : List ℕ) → after ≡ sets before at (encode fields) → next ≡ past at (2 * length fields)
-    → Wrote before at after next (fields ∷ [])
+pub one : {a b : Writer} (fields : List ℕ) → b.area.now ≡ sets a.area.now a.at (encode fields) → b.at ≡ past a.at (2 * length fields)
+    → b.area.ghost_name ≡ a.area.ghost_name → Wrote a b (fields ∷ [])
 unfolding laid reach
-one before after at next fields e h = record { area = e; reached = h ∙ ap (past at) (sym (encode-length fields)) }
+one {a} fields e h g = record { area = e; reached = h ∙ ap (past a.at) (sym (encode-length fields)); lender = g }

@@ -2,6 +2,7 @@
 use Rattle.std.specs.Prelude.{ℕ, zero, suc, ◌+◌, ◌-◌, ◌≡◌, cond, List, [], ◌∷◌, ◌++◌, length, leb}
 use Rattle.std.proofs.lemmas.List.Edits.{sets}
 use Rattle.effbd.specs.Records.{word_bytes}
+use Rattle.net_records.specs.declared.Writer.{Writer}
 
 -- records in the order of the file, each its words
 abbrev pub Records : Type 0
@@ -32,10 +33,11 @@ unfoldable pub reach : ℕ → Records → ℕ
 reach at [] = at
 reach at (r ∷ rs) = reach (past at (length (encode r))) rs
 
--- what every writer promises: the area is the records laid into what it was, the result is where the next one is due
-pub record Wrote (before : List ℕ) (at : ℕ) (after : List ℕ) (next : ℕ) (records : Records) : Type 0 where
-  pub area : after ≡ laid before at records
-  pub reached : next ≡ reach at records
+-- what every writer promises: the area is the records laid into what it was, the next one is due behind them, and the area is still the caller's
+pub record Wrote (before after : Writer) (records : Records) : Type 0 where
+  pub area : after.area.now ≡ laid before.area.now before.at records
+  pub reached : after.at ≡ reach before.at records
+  pub lender : after.area.ghost_name ≡ before.area.ghost_name
 
 -- what the first n turns of a loop write
 unfoldable pub runs : (ℕ → Records) → ℕ → Records

@@ -1,12 +1,5 @@
 -- An AND's gives: entering the rows behind its BRANCH rows marks places that rise with them.
-use Prim.Native.Nat.{ℕ, zero, suc, ◌≤◌, ◌<◌}
-use mathlib.Core.Path.{◌≡◌, refl, ap, sym, ◌∙◌}
-use mathlib.Core.Logic.{◌⊎◌, inl, inr}
-use mathlib.Core.Bool.{Bool, true, false, not, cond, ◌&&◌}
-use mathlib.Core.List.{[], ◌++◌, append_assoc, append-nil}
-use native.Mathlib.Omega.{arith}
-use lib.Dec.{eqb}
-use borrow.Author.Tests.{eqb-true, eq-eqb, ne_eqb}
+use Rattle.std.proofs.Common.{ℕ, zero, suc, ◌≤◌, ◌<◌, ◌≡◌, refl, ap, sym, ◌∙◌, ◌⊎◌, inl, inr, Bool, true, false, not, cond, ◌&&◌, [], ◌++◌, append_assoc, append-nil, arith, eqb, eqb-true, eq-eqb, ne_eqb}
 use Rattle.effbd.specs.Ranges.{all_below, only}
 use Rattle.ranges.specs.Tests.{decide, clash, and_left, and_right}
 use Rattle.ranges.specs.RangeLaws.{all-intro, all-fail, only-refl}

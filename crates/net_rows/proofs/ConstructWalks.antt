@@ -1,14 +1,8 @@
 -- What a walk over a construct's rows writes, which leaves out the rows of the constructs in it.
-use Prim.Native.Nat.{ℕ, zero, suc, ◌+◌, ◌-◌, ◌*◌, ◌≤◌, ◌<◌, zero-le}
-use mathlib.Core.Path.{◌≡◌, refl, ap, sym}
-use mathlib.Core.Bool.{◌&&◌}
-use mathlib.Core.List.{List, [], ◌++◌, append-nil}
-use native.Mathlib.Omega.{arith}
-use native.Mathlib.Nat.{add-zero}
-use lib.Dec.{ltb}
-use borrow.Author.Tests.{ltb-true, ltb-false, lt-ltb, le-ltb}
+use Rattle.std.proofs.Common.{ℕ, zero, suc, ◌+◌, ◌-◌, ◌*◌, ◌≤◌, ◌<◌, zero-le, ◌≡◌, refl, ap, sym, ◌&&◌, List, [], ◌++◌, append-nil, arith, add-zero, ltb, ltb-true, ltb-false, lt-ltb, le-ltb}
 use Rattle.ranges.specs.Tests.{decide, and_left, and_right}
 use Rattle.diagram_table.specs.Cells.{close_in}
+use Rattle.net_records.specs.declared.Writer.{Writer}
 use Rattle.net_records.specs.Writing.{Records, Wrote, runs, span}
 use Rattle.net_records.proofs.Runs.{runs_same, runs_none, runs-plus, runs-front}
 use Rattle.net_records.proofs.Small.{Small, none-small, more, ◌then◌, either}
@@ -66,22 +60,21 @@ module _ (table : List ℕ) (closed : ℕ) where
     walk-small k (suc n) q h = either (ltb q closed) (more (omega arith) (h q then walk-small k n (behind_in table q closed) h)) (more zero-le none-small)
 
     -- the walk has come to row q
-    pub record Walking (whole : Records) (area : List ℕ) (at : ℕ) (after : List ℕ) (next q : ℕ) : Type 0 where
+    pub record Walking (whole : Records) (before after : Writer) (q : ℕ) : Type 0 where
       pub turns : ℕ
       pub enough : closed ≤ q + turns
-      pub underway : Underway whole (walk table closed f turns q) area at after next
+      pub underway : Underway whole (walk table closed f turns q) before after
 
-    pub walk_start : (area : List ℕ) (at q : ℕ) → Walking (walk table closed f closed q) area at area at q
-    walk_start area at q = record { turns = closed; enough = omega arith; underway = begun _ area at }
+    pub walk_start : (w : Writer) (q : ℕ) → Walking (walk table closed f closed q) w w q
+    walk_start w q = record { turns = closed; enough = omega arith; underway = begun w refl }
 
-    pub walk-again : {whole : Records} {a b c : List ℕ} {at n m : ℕ} (q : ℕ) → q < closed → Walking whole a at b n q → Wrote b n c m (f q)
-        → Walking whole a at c m (behind_in table q closed)
+    pub walk-again : {whole : Records} {a b c : Writer} (q : ℕ) → q < closed → Walking whole a b q → Wrote b c (f q) → Walking whole a c (behind_in table q closed)
     unfolding walk
-    walk-again {whole} {a} {b} {c} {at} {n} {m} q l w v = go w.turns w.enough w.underway
+    walk-again {whole} {a} {b} {c} q l w v = go w.turns w.enough w.underway
       where
-        go : (k : ℕ) → closed ≤ q + k → Underway whole (walk table closed f k q) a at b n → Walking whole a at c m (behind_in table q closed)
+        go : (k : ℕ) → closed ≤ q + k → Underway whole (walk table closed f k q) a b → Walking whole a c (behind_in table q closed)
         go zero e u = absurd (omega arith)
         go (suc k) e u = let on = (behind q l).on in record { turns = k; enough = omega arith; underway = further (rw (lt-ltb q closed l)) u v }
 
-    pub walk-done : {whole : Records} {a b : List ℕ} {at n : ℕ} (q : ℕ) → closed ≤ q → Walking whole a at b n q → Wrote a at b n whole
+    pub walk-done : {whole : Records} {a b : Writer} (q : ℕ) → closed ≤ q → Walking whole a b q → Wrote a b whole
     walk-done q l w = finished (walk-ended w.turns q l) w.underway

@@ -4,4 +4,3 @@ mod BranchGives
 mod RowRecords
 pub mod NetTransitions
 pub mod RowSizes
-mod ComputedRecords

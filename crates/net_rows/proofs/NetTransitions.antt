@@ -1,9 +1,6 @@
 -- THEOREM (transitions-are): the transitions over the table are the records of the diagram's net.
-use Prim.Native.Nat.{ℕ, zero, suc, ◌%◌, ◌≤◌, ◌<◌}
-use mathlib.Core.Path.{◌≡◌, refl, ap, ap₂, sym, ◌∙◌}
-use mathlib.Core.List.{List, [], ◌∷◌, ◌++◌, map, map-append}
-use native.Mathlib.Omega.{arith}
-use lib.ListN.{length, get_or}
+use Rattle.std.proofs.Common.{ℕ, zero, suc, ◌%◌, ◌≤◌, ◌<◌, ◌≡◌, refl, ap, ap₂, sym, ◌∙◌, List, [], ◌∷◌, ◌++◌, map, arith, length, get_or}
+use Rattle.std.proofs.lemmas.List.{map-append}
 use Rattle.effbd.specs.Ranges.{tabulate}
 use Rattle.effbd.specs.Diagrams.{Diagram, most_rows, row_count}
 use Rattle.effbd.specs.Layout.{places, place_of}

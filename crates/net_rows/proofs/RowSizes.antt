@@ -1,13 +1,6 @@
 -- How many bytes the records of a row have at most.
-use Prim.Native.Nat.{ℕ, suc, ◌+◌, ◌-◌, ◌*◌, ◌≤◌, ◌<◌, zero-le}
-use mathlib.Core.Path.{◌≡◌, refl, ap, ap₂, sym, ◌∙◌, subst}
-use mathlib.Core.Logic.{◌≢◌}
-use mathlib.Core.Bool.{true, cond, and-false}
-use mathlib.Core.List.{List, [], ◌++◌, append_assoc, append-nil}
-use native.Mathlib.Omega.{arith}
-use native.Mathlib.Numerals.{add-one}
-use lib.Dec.{leb, eqb}
-use borrow.Author.Tests.{leb-true, leb-false}
+use Rattle.std.proofs.Common.{ℕ, suc, ◌+◌, ◌-◌, ◌*◌, ◌≤◌, ◌<◌, zero-le, ◌≡◌, refl, ap, ap₂, sym, ◌∙◌, subst, ◌≢◌, true, cond, List, [], ◌++◌, append_assoc, append-nil, arith, add-one, leb, eqb, leb-true, leb-false}
+use Rattle.std.proofs.Math.Bool.{and-false}
 use Rattle.effbd.specs.Ranges.{between}
 use Rattle.effbd.specs.Diagrams.{Kind, function, and_open, branch, and_close, or_open, or_close, it_open, it_close, lp_open, lp_close, loop_exit, end, box_open, box_close, box_exit, Diagram, number_of, row_count, kind}
 use Rattle.effbd.specs.Counts.{count_total}

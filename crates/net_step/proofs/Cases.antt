@@ -3,16 +3,15 @@ use Prim.Native.Nat.{ℕ, suc, ◌+◌, ◌-◌, ◌≤◌, ◌<◌}
 use mathlib.Core.Path.{◌≡◌, refl, ap, sym, ◌∙◌}
 use mathlib.Core.Bool.{Bool, true, false, cond}
 use mathlib.Core.List.{List, [], ◌∷◌, ◌++◌, append-nil}
-use native.Mathlib.Nat.{sub-zero}
 use native.Mathlib.Omega.{arith}
 use borrow.Author.Tests.{eq-eqb, ne_eqb, lt-ltb, le-ltb, le-leb}
 use borrow.Rule.Slice.PartMut.{put_mid, mid_of as part_of, Post-is}
 use lib.ListN.{length, take, drop, get_or, length-append, drop_of_length-le}
 use lib.Seq.{drop_at, length-take-le, drop-length, get_or-drop}
 use Rattle.words.specs.Stores.{copied}
-use Rattle.effbd.specs.Answers.{Outcome, accepted, refused, and_then, afterwards, returning_zero}
-use Rattle.effbd.specs.declared.Answer.{Answer}
-use Rattle.effbd.specs.declared.Answer.TheVariants.{Accepted, Refused}
+use Rattle.std.specs.Prelude.{Result, Ok, Err}
+use Rattle.effbd.specs.Answers.{Outcome, accepted, refused, and_then, afterwards, returning_zero, number}
+use Rattle.effbd.specs.declared.refusals.Refusal.{Refusal}
 use Rattle.effbd.specs.Nets.{Transition, take_arc, clear_arc, give_arc}
 use Rattle.net_file.specs.Contents.{arcs_in, transition_in, transitions_in, part_at}
 use Rattle.net_file.proofs.Walks.{length-transitions, transition-at}
@@ -22,13 +21,13 @@ use Rattle.net_step.specs.declared.Renewal.TheVariants.{Fired, Waited}
 use Rattle.ranges.specs.RangeLaws.{tail-is}
 
 -- a call that is turned away, that moves, whose outcome is another's
-pub turned-away : (before : List ℕ) (number value : ℕ) (outcome : Outcome (List ℕ)) → outcome ≡ refused number value → Answered (Refused number value) before before outcome
-turned-away before number value outcome e = record { says = sym (ap returning_zero e); leaves = sym (ap (afterwards before) e) }
+pub turned-away : (before : List ℕ) (r : Refusal) (outcome : Outcome (List ℕ)) → outcome ≡ refused (number r.reason) r.value → Answered (Err r) before before outcome
+turned-away before r outcome e = record { says = sym (ap returning_zero e); leaves = sym (ap (afterwards before) e) }
 
-pub moved_to : (before after words : List ℕ) (outcome : Outcome (List ℕ)) → outcome ≡ accepted words → after ≡ words → Answered (Accepted 0) before after outcome
+pub moved_to : (before after words : List ℕ) (outcome : Outcome (List ℕ)) → outcome ≡ accepted words → after ≡ words → Answered (Ok 0) before after outcome
 moved_to before after words outcome e h = record { says = sym (ap returning_zero e); leaves = h ∙ sym (ap (afterwards before) e) }
 
-pub answered-as : {answer : Answer} {before after : List ℕ} {o p : Outcome (List ℕ)} → Answered answer before after o → o ≡ p → Answered answer before after p
+pub answered-as : {answer : Result ℕ Refusal} {before after : List ℕ} {o p : Outcome (List ℕ)} → Answered answer before after o → o ≡ p → Answered answer before after p
 answered-as {answer} {before} r e = record { says = r.says ∙ ap returning_zero e; leaves = r.leaves ∙ ap (afterwards before) e }
 
 -- a lent tail that came back
@@ -136,7 +135,7 @@ pub move-none : (ts : List Transition) (code argument : ℕ) (marks clocks : Lis
 unfolding moved_words
 move-none ts code argument marks clocks a b = rw (ne_eqb code 1 a, ne_eqb code 2 b)
 
-pub marks-are : (p : ℕ) (marks state out : List ℕ) → length marks ≡ p → p ≤ length state → out ≡ copied (take (p - 0) state) marks → out ≡ take p state
+pub marks-are : (p : ℕ) (marks state out : List ℕ) → length marks ≡ p → p ≤ length state → out ≡ copied (take p state) marks → out ≡ take p state
 marks-are p marks state out lm l e =
     let f = length-take-le p state l in
-    e ∙ rw (sub-zero p, le-leb (length (take p state)) (length marks) (omega arith), drop_of_length-le marks (let h : length marks ≤ length (take p state) = omega arith in h), append-nil (take p state))
+    e ∙ rw (le-leb (length (take p state)) (length marks) (omega arith), drop_of_length-le marks (let h : length marks ≤ length (take p state) = omega arith in h), append-nil (take p state))

@@ -1,19 +1,17 @@
 -- Walks over the words of a state: who holds a wait, new clocks.
 use Prim.Native.Nat.{ℕ, suc, ◌+◌, ◌-◌, ◌≤◌, ◌<◌}
 use mathlib.Core.Path.{◌≡◌, refl, ap, sym, ◌∙◌}
-use mathlib.Core.Bool.{Bool, true, false, cond, ◌||◌}
+use mathlib.Core.Bool.{Bool, true, false, ◌||◌}
 use mathlib.Core.List.{List, [], ◌∷◌, ◌++◌}
 use native.Mathlib.Nat.{sub-zero}
 use native.Mathlib.Numerals.{add-one}
 use native.Mathlib.Omega.{arith}
 use lib.ListN.{length, drop, get_or, set, length-append, drop_of_length-le}
 use lib.Seq.{drop-cons, get_or_at, set_at, append_snoc}
-use lib.Dec.{eqb}
-use Rattle.net_walk.specs.Walked.{covered}
 use Rattle.effbd.specs.Nets.{Transition}
 use Rattle.net_file.specs.Contents.{transition_in, after_transition, transitions_in}
 use Rattle.net_file.proofs.Walks.{transitions-more, transitions-none}
-use Rattle.net_step.specs.Stepping.{kept_clock, clocks_by, holds_wait, wait_held}
+use Rattle.net_step.specs.Stepping.{clocks_by, holds_wait, wait_held}
 
 -- who holds a wait
 module _ (ticks : ℕ) (marks : List ℕ) (count x : ℕ) (rest clocks : List ℕ) where
@@ -71,13 +69,3 @@ module _ (f : ℕ → Transition → ℕ → ℕ) (count : ℕ) (transitions clo
     write-end ln l =
         let h : length clocks₀ ≤ x = omega arith in
         w.is ∙ rw (drop_of_length-le clocks₀ h) (rw (transitions-none (count - x) rest (omega arith)) at w.same)
-
--- a clock that stands at 0 stays there when a transition fires
-pub still-zero : (j : ℕ) (marks : List ℕ) (x : ℕ) (t : Transition) → 0 ≡ kept_clock j marks x t 0
-unfolding kept_clock
-still-zero j marks x t = go (eqb x j) (covered t.arcs marks)
-  where
-    go : (a b : Bool) → ◌≡◌ {A = ℕ} 0 (cond a 0 (cond b 0 0))
-    go true b = refl
-    go false true = refl
-    go false false = refl

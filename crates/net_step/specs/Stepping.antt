@@ -1,7 +1,7 @@
 -- A net's moves as the code makes them, transition by transition in the file's order, on the words of a state. Assumes nothing.
-use Rattle.std.specs.Prelude.{ℕ, ◌+◌, ◌-◌, ◌≤◌, ◌≡◌, Bool, false, cond, ◌&&◌, ◌||◌, List, [], ◌∷◌, ◌++◌, length, get_or, leb, ltb, eqb}
+use Rattle.std.specs.Prelude.{ℕ, ◌+◌, ◌-◌, ◌≤◌, ◌≡◌, Bool, false, cond, ◌&&◌, ◌||◌, List, [], ◌∷◌, ◌++◌, length, get_or, leb, ltb, eqb, Result}
 use Rattle.effbd.specs.Answers.{Outcome, accepted, refused, and_then, afterwards, returning_zero, said}
-use Rattle.effbd.specs.declared.Answer.{Answer}
+use Rattle.effbd.specs.declared.refusals.Refusal.{Refusal}
 use Rattle.effbd.specs.Nets.{Transition, give_arc}
 use Rattle.net_walk.specs.Walked.{covered, applied, reduced, sums, lowest}
 use Rattle.net_step.specs.declared.Renewal.{Renewal}
@@ -55,13 +55,9 @@ module _ (ts : List Transition) where
       cond (eqb code 1) (stepped_words argument marks clocks) (cond (eqb code 2) (waited_words argument marks clocks) (refused 21 0))
 
 -- a call answers and leaves the state as the outcome has it
-pub record Answered (answer : Answer) (before after : List ℕ) (outcome : Outcome (List ℕ)) : Type 0 where
+pub record Answered (answer : Result ℕ Refusal) (before after : List ℕ) (outcome : Outcome (List ℕ)) : Type 0 where
   pub says : said answer ≡ returning_zero outcome
   pub leaves : after ≡ afterwards before outcome
-
--- the places that a net without copies has at most
-abbrev pub small_places : ℕ
-small_places = 208
 
 -- a state of marks for `places` places, `most` at most, and so many clocks
 pub record Sized (most places count : ℕ) (state : List ℕ) : Type 0 where

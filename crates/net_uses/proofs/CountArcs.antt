@@ -1,13 +1,5 @@
 -- THEOREM (takes-are, gives-are): a FUNCTION's arcs at all counts are those that the passes over its uses write: its items', then its triggers' copies'.
-use Prim.Native.Nat.{ℕ, ◌+◌, ◌*◌, ◌<◌}
-use mathlib.Core.Path.{◌≡◌, refl, sym, ap, ap₂, subst, ◌∙◌}
-use mathlib.Core.Bool.{Bool, true, false, cond}
-use mathlib.Core.List.{List, [], ◌∷◌, ◌++◌, append-nil}
-use native.Mathlib.Omega.{arith}
-use native.Mathlib.Nat.{add-zero}
-use lib.ListN.{length, get_or}
-use lib.Dec.{leb, eqb}
-use borrow.Author.Tests.{eqb-true}
+use Rattle.std.proofs.Common.{ℕ, ◌+◌, ◌*◌, ◌<◌, ◌≡◌, refl, sym, ap, ap₂, subst, ◌∙◌, Bool, true, false, cond, List, [], ◌∷◌, ◌++◌, append-nil, arith, add-zero, length, get_or, leb, eqb, eqb-true}
 use Rattle.effbd.specs.Diagrams.{Diagram, Use, function, is_trigger, item_total, kind, row, row_count, row_fine, row_fine_as, uses_fine}
 use Rattle.effbd.specs.Counts.{copies_of, give_of, gives, take_of, takes}
 use Rattle.effbd.specs.Nets.{take_arc, give_arc}

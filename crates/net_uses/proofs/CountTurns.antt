@@ -1,13 +1,6 @@
 -- Turns over all counts: over the items, then over the copies of triggers, each trigger's together.
-use Prim.Native.Nat.{ℕ, zero, suc, ◌+◌, ◌*◌, ◌<◌}
-use mathlib.Core.Path.{◌≡◌, refl, sym, ap, ap₂, ◌∙◌}
-use mathlib.Core.Logic.{◌≢◌}
-use mathlib.Core.Bool.{true, cond}
-use mathlib.Core.List.{[], ◌∷◌, ◌++◌}
-use native.Mathlib.Omega.{arith}
-use lib.ListN.{length, length-append}
-use lib.Dec.{eqb}
-use borrow.Author.Tests.{eqb-true, eqb-false, eq-eqb, ne_eqb}
+use Rattle.std.proofs.Common.{ℕ, zero, suc, ◌+◌, ◌*◌, ◌<◌, ◌≡◌, refl, sym, ap, ap₂, ◌∙◌, ◌≢◌, true, cond, [], ◌∷◌, ◌++◌, arith, length, length-append, eqb, eqb-true, eq-eqb, ne_eqb}
+use Rattle.std.proofs.lemmas.Bool.{eqb-false}
 use Rattle.effbd.specs.Diagrams.{Diagram, function, is_trigger, item_total, kind, row, row_count}
 use Rattle.effbd.specs.Counts.{copies, copies_of, copy, count_total, give_of, gives, item_of, receives, take_of, takes, tally}
 use Rattle.effbd.specs.Nets.{take_arc, give_arc}

@@ -1,9 +1,5 @@
 -- THEOREM (function-is): the records of a FUNCTION over the table are those of its patterns.
-use Prim.Native.Nat.{ℕ, suc, ◌+◌, ◌*◌, ◌<◌}
-use mathlib.Core.Path.{◌≡◌, refl, ap₂, sym, ◌∙◌}
-use mathlib.Core.Logic.{◌≢◌}
-use mathlib.Core.List.{List, ◌++◌, append_assoc, append-nil}
-use native.Mathlib.Numerals.{add-one}
+use Rattle.std.proofs.Common.{ℕ, suc, ◌+◌, ◌*◌, ◌<◌, ◌≡◌, refl, ap₂, sym, ◌∙◌, ◌≢◌, List, ◌++◌, append_assoc, append-nil, add-one}
 use Rattle.effbd.specs.Ranges.{only}
 use Rattle.effbd.specs.Diagrams.{function, end, Diagram, row_count, row, kind}
 use Rattle.effbd.specs.Counts.{takes, gives}

@@ -1,27 +1,20 @@
 -- The arcs of a FUNCTION's uses. Item numbers rise, so in each pass they stand in the order of the file; the uses are the bytes of a part, walked by
 -- its tails.
-use Prim.Native.Nat.{ℕ, zero, suc, ◌+◌, ◌-◌, ◌*◌, ◌≤◌, ◌<◌, zero-le}
-use mathlib.Core.Path.{◌≡◌, refl, sym, ap, ap₂, ◌∙◌}
-use mathlib.Core.Bool.{true, not, cond}
-use mathlib.Core.List.{List, [], ◌∷◌, ◌++◌, append-nil}
-use native.Mathlib.Omega.{arith}
-use native.Mathlib.Nat.{add-zero}
-use lib.ListN.{length, get_or, drop, length-drop}
-use lib.Seq.{length-take-le}
-use lib.Dec.{leb, ltb, eqb}
-use borrow.Author.Tests.{leb-true, ltb-true, eqb-true, ne_eqb, eq-eqb}
+use Rattle.std.proofs.Common.{Bool, false, length-append, ℕ, zero, suc, ◌+◌, ◌-◌, ◌*◌, ◌≤◌, ◌<◌, zero-le, ◌≡◌, refl, sym, ap₂, ◌∙◌, true, not, cond, List, [], ◌∷◌, ◌++◌, append-nil, arith, add-zero, length, get_or, drop, length-drop, length-take-le, leb, ltb, eqb, leb-true, ltb-true, eqb-true, ne_eqb, eq-eqb}
+use Rattle.std.proofs.lemmas.List.{get_or_append_left}
+use Rattle.std.proofs.Math.Seq.{drop-append_seam}
 use Rattle.effbd.specs.Records.{word}
 use Rattle.effbd.specs.Diagrams.{Use, uses_fine}
 use Rattle.effbd.specs.Nets.{take_arc, give_arc}
 use Rattle.ranges.specs.Tests.{decide, and_left, and_right}
-use Rattle.diagram_table.specs.Cells.{some_trigger_in, uses_start_in, uses_number_in, uses_bytes, uses_of}
+use Rattle.diagram_table.specs.Cells.{some_trigger_in, uses_start_in, uses_number_in, uses_bytes, uses_of, uses_in}
 use Rattle.diagram_table.specs.Held.{no_use}
 use Rattle.diagram_table.proofs.UsesWalked.{uses-next, uses-over}
 use Rattle.net_records.specs.Writing.{Records, runs}
 use Rattle.net_records.specs.Records.{arc}
 use Rattle.net_records.proofs.Runs.{runs_same, runs_none, runs-first}
 use Rattle.net_clears.proofs.Weights.{arc-none}
-use Rattle.net_uses.specs.FunctionTransitions.{weight_at, use_weight, equal_arcs, copy_arcs, use_arc, pass_arcs, trigger_arcs, plain_arcs, use_arcs, function_of, function_records}
+use Rattle.net_uses.specs.FunctionTransitions.{weight_at, use_weight, equal_arcs, copy_arcs, use_arc, pass_arcs, plain_arcs, arcs_of, use_arcs, function_of, function_records}
 
 -- the first of uses whose item numbers rise from `from` on and stay below M
 pub record Rising (M from : ℕ) (u : Use) (us : List Use) : Type 0 where
@@ -118,30 +111,43 @@ weight-read : (kind : ℕ) (bytes : List ℕ) → use_weight kind (record { item
 unfolding use_weight weight_at
 weight-read kind bytes = decide (eqb kind take_arc) (λ e. rw e) (λ e. rw e)
 
--- the first use is written, the rest is left
-pub use-turn : (table : List ℕ) (rows kind row pass j : ℕ) (rest more : List ℕ) (item field weight : ℕ) → 6 ≤ length rest → item ≡ word rest 0 → field ≡ weight_at kind
-    → weight ≡ word rest field → more ≡ drop 6 rest
+-- a use in front: it is written, the rest is left
+get_front : (part more : List ℕ) (i : ℕ) → i < length part → get_or (part ++ more) i 0 ≡ get_or part i 0
+get_front part more i l = get_or_append_left part more 0 i l
+
+uses-front : (part more : List ℕ) → length part ≡ 6 → uses_of (part ++ more) ≡ record { item = word part 0; take = word part 2; give = word part 4 } ∷ uses_of more
+uses-front part more e =
+    let l : 6 ≤ length (part ++ more) = omega (arith, e, length-append part more) in
+    uses-next (part ++ more) l ∙ rw (
+      get_front part more 0 (omega (arith, e)),
+      get_front part more 1 (omega (arith, e)),
+      get_front part more 2 (omega (arith, e)),
+      get_front part more 3 (omega (arith, e)),
+      get_front part more 4 (omega (arith, e)),
+      get_front part more 5 (omega (arith, e)),
+      ← e,
+      drop-append_seam part more,
+    ) refl
+
+pub use-turn : (table : List ℕ) (rows kind row pass j : ℕ) (rest part more : List ℕ) (item field weight : ℕ) → rest ≡ part ++ more → length part ≡ 6 → item ≡ word part 0
+    → field ≡ weight_at kind → weight ≡ word part field
     → pass_arcs table rows kind row pass j (uses_of rest) ≡ use_arc table rows kind row pass j item weight ++ pass_arcs table rows kind row pass (j + 1) (uses_of more)
 unfolding pass_arcs
-use-turn table rows kind row pass j rest more item field weight l e f g h = rw (uses-next rest l, weight-read kind rest, e, g, f, h)
+use-turn table rows kind row pass j rest part more item field weight d l e f g = rw (d, uses-front part more l, weight-read kind part, e, g, f)
 
 pub uses-ended : (table : List ℕ) (rows kind row pass j : ℕ) (rest : List ℕ) → length rest < 6 → pass_arcs table rows kind row pass j (uses_of rest) ≡ []
 unfolding pass_arcs
 uses-ended table rows kind row pass j rest l = rw (uses-over rest l)
 
 -- the same of plain uses
-pub plain_turn : (rows kind : ℕ) (rest more : List ℕ) (item field weight : ℕ) → 6 ≤ length rest → item ≡ word rest 0 → field ≡ weight_at kind → weight ≡ word rest field
-    → more ≡ drop 6 rest → plain_arcs rows kind (uses_of rest) ≡ arc kind (3 * rows + item) weight ++ plain_arcs rows kind (uses_of more)
+pub plain_turn : (rows kind : ℕ) (rest part more : List ℕ) (item field weight : ℕ) → rest ≡ part ++ more → length part ≡ 6 → item ≡ word part 0 → field ≡ weight_at kind → weight ≡ word part field
+    → plain_arcs rows kind (uses_of rest) ≡ arc kind (3 * rows + item) weight ++ plain_arcs rows kind (uses_of more)
 unfolding plain_arcs
-plain_turn rows kind rest more item field weight l e f g h = rw (uses-next rest l, weight-read kind rest, e, g, f, h)
+plain_turn rows kind rest part more item field weight d l e f g = rw (d, uses-front part more l, weight-read kind part, e, g, f)
 
 pub plain-ended : (rows kind : ℕ) (rest : List ℕ) → length rest < 6 → plain_arcs rows kind (uses_of rest) ≡ []
 unfolding plain_arcs
 plain-ended rows kind rest l = rw (uses-over rest l)
-
--- the uses walked and those left are not more than all
-pub uses-on : (rest more : List ℕ) (index total : ℕ) → 6 ≤ length rest → more ≡ drop 6 rest → 6 * index + length rest ≤ total → 6 * (index + 1) + length more ≤ total
-uses-on rest more index total l e h = omega (arith, ap length e, length-drop 6 rest)
 
 -- their number is a word of the table
 pub uses-short : (table file : List ℕ) (r : ℕ) → uses_number_in table r < 65536 → length (uses_bytes table file r) < 393216
@@ -154,11 +160,12 @@ uses-short table file r l = decide (leb (uses_start_in table r + 6 * uses_number
 
 -- the records of a FUNCTION, its uses having been found
 module _ (table file : List ℕ) (rows row : ℕ) {uses : List ℕ} (e : uses ≡ uses_bytes table file row) where
-  pub plain-function : some_trigger_in table ≡ 0 → function_of table row (plain_arcs rows take_arc (uses_of uses)) (plain_arcs rows give_arc (uses_of uses)) ≡ function_records table file rows row
-  unfolding function_records use_arcs
-  plain-function z = rw (e, eq-eqb (some_trigger_in table) 0 z)
+  pub arcs-are : (kind : ℕ) (triggers : Bool) → eqb (some_trigger_in table) 0 ≡ not triggers → arcs_of triggers table rows kind row (uses_of uses) ≡ use_arcs table rows kind row (uses_in table file row)
+  unfolding arcs_of use_arcs
+  arcs-are kind true z = rw (e, z)
+  arcs-are kind false z = rw (e, z)
 
-  pub trigger-function : (some_trigger_in table ≡ 0 → ⊥)
-      → function_of table row (trigger_arcs table rows take_arc row (uses_of uses)) (trigger_arcs table rows give_arc row (uses_of uses)) ≡ function_records table file rows row
-  unfolding function_records use_arcs
-  trigger-function n = rw (e, ne_eqb (some_trigger_in table) 0 n)
+  pub function-is : (triggers : Bool) → eqb (some_trigger_in table) 0 ≡ not triggers
+      → function_of table row (arcs_of triggers table rows take_arc row (uses_of uses)) (arcs_of triggers table rows give_arc row (uses_of uses)) ≡ function_records table file rows row
+  unfolding function_records
+  function-is triggers z = rw (arcs-are take_arc triggers z, arcs-are give_arc triggers z)

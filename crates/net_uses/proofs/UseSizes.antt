@@ -1,11 +1,5 @@
 -- How many bytes the arcs of a FUNCTION's uses have at most.
-use Prim.Native.Nat.{ℕ, ◌+◌, ◌-◌, ◌*◌, ◌≤◌, ◌<◌, zero-le}
-use mathlib.Core.Path.{◌≡◌, subst}
-use mathlib.Core.Bool.{false}
-use mathlib.Core.List.{List, [], ◌∷◌}
-use native.Mathlib.Omega.{arith}
-use lib.ListN.{length}
-use lib.Dec.{eqb}
+use Rattle.std.proofs.Common.{ℕ, ◌+◌, ◌-◌, ◌*◌, ◌≤◌, ◌<◌, zero-le, ◌≡◌, subst, false, List, [], ◌∷◌, arith, length, eqb}
 use Rattle.effbd.specs.Diagrams.{function, Diagram, Use, row_count, item_total, row, kind}
 use Rattle.effbd.specs.Counts.{count_total}
 use Rattle.effbd.specs.Nets.{take_arc, give_arc}

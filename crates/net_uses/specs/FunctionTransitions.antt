@@ -1,6 +1,6 @@
 -- The records of a FUNCTION's transitions, in the order of the file, from a diagram's table and its file's bytes.
 -- Any words are a table: past its end a word is 0. Assumes nothing.
-use Rattle.std.specs.Prelude.{ℕ, ◌+◌, ◌*◌, cond, List, [], ◌∷◌, ◌++◌, eqb}
+use Rattle.std.specs.Prelude.{ℕ, ◌+◌, ◌*◌, Bool, cond, List, [], ◌∷◌, ◌++◌, eqb}
 use Rattle.effbd.specs.Diagrams.{Use}
 use Rattle.effbd.specs.Nets.{take_arc, give_arc}
 use Rattle.diagram_table.specs.Cells.{first_in, second_in, uses_in, trigger_in, some_trigger_in, run_first, run_length}
@@ -42,6 +42,10 @@ trigger_arcs table rows kind row us = pass_arcs table rows kind row 0 0 us ++ pa
 unfoldable pub plain_arcs : (rows kind : ℕ) → List Use → Records
 plain_arcs rows kind [] = []
 plain_arcs rows kind (u ∷ us) = arc kind (3 * rows + u.item) (use_weight kind u) ++ plain_arcs rows kind us
+
+-- either, as there are triggers or none
+unfoldable pub arcs_of : (triggers : Bool) (table : List ℕ) (rows kind row : ℕ) → List Use → Records
+arcs_of triggers table rows kind row us = cond triggers (trigger_arcs table rows kind row us) (plain_arcs rows kind us)
 
 unfoldable pub use_arcs : (table : List ℕ) (rows kind row : ℕ) → List Use → Records
 use_arcs table rows kind row us = cond (eqb (some_trigger_in table) 0) (plain_arcs rows kind us) (trigger_arcs table rows kind row us)

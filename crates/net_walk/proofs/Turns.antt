@@ -1,20 +1,19 @@
 -- A turn and the end of each walk.
-use Prim.Native.Nat.{ℕ, suc, ◌+◌, ◌-◌, ◌≤◌, ◌<◌, min}
-use mathlib.Core.Path.{◌≡◌, sym, ◌∙◌}
+use Prim.Native.Nat.{ℕ, suc, ◌+◌, ◌-◌, ◌≤◌, ◌<◌}
+use mathlib.Core.Path.{◌≡◌}
 use mathlib.Core.Bool.{Bool, true, false, cond}
 use mathlib.Core.List.{List}
 use native.Mathlib.Omega.{arith}
-use borrow.Author.Tests.{eqb-true, eq-eqb, ne_eqb, le-leb, lt-leb}
+use borrow.Author.Tests.{eqb-true, le-leb, lt-leb}
 use lib.ListN.{length, drop, get_or, set}
 use lib.Dec.{eqb, leb}
 use Rattle.ranges.specs.Tests.{decide, clash, and_left, and_right, and_intro}
 use Rattle.effbd.specs.Answers.{accepted, refused}
 use Rattle.effbd.specs.Records.{word, kind_at}
-use Rattle.effbd.specs.Moves.{most_word}
 use Rattle.effbd.specs.Nets.{take_arc, arc_due, arc_at}
 use Rattle.net_file.specs.Contents.{arc_here, arcs_in, transition_in, after_transition, transitions_in, part_at}
 use Rattle.net_file.proofs.Walks.{here-long, arcs-more, arcs-done, transitions-more, transitions-none, part-more, part_none}
-use Rattle.net_walk.specs.Walked.{take_here, covered, zeros, changed, changed_if, applied, too_much, sums, stands, lowest}
+use Rattle.net_walk.specs.Walked.{take_here, covered, zeros, changed_if, applied, too_much, sums, stands, lowest}
 
 pub take-kind : (rest : List ℕ) → take_here rest ≡ true → eqb (kind_at rest) take_arc ≡ true
 unfolding take_here
@@ -73,29 +72,6 @@ module _ (marks rest : List ℕ) (h : arc_here rest ≡ false) where
   pub sums-end : sums (arcs_in rest) marks ≡ accepted 0
   unfolding sums
   sums-end = rw (arcs-done rest h)
-
--- what one arc does
-module _ (marks : List ℕ) (kind first second mark : ℕ) (em : mark ≡ get_or marks first 0) where
-  pub change-take : (v : ℕ) → kind ≡ 35 → v ≡ mark - second → set marks first v ≡ changed kind first second marks
-  unfolding changed
-  change-take v e ev = rw (e, ev, em)
-
-  pub change-give : (v : ℕ) → (kind ≡ 35 → ⊥) → (kind ≡ 36 → ⊥) → v ≡ min most_word (mark + second) → set marks first v ≡ changed kind first second marks
-  unfolding changed
-  change-give v a b ev = rw (ne_eqb kind 35 a, ne_eqb kind 36 b, ev, em)
-
-pub change-clear : (marks : List ℕ) (kind first second : ℕ) → kind ≡ 36 → zeros (second + 1 - first) first marks ≡ changed kind first second marks
-unfolding changed
-change-clear marks kind first second e = rw e
-
-module _ (marks rest : List ℕ) (kind found : ℕ) (ef : found ≡ kind_at rest) where
-  pub change-own : (first second : ℕ) → found ≡ kind → first ≡ word rest 4 → second ≡ word rest 6 → changed kind first second marks ≡ changed_if kind (arc_at rest) marks
-  unfolding changed_if
-  change-own first second e e1 e2 = rw (eq-eqb (kind_at rest) kind (sym ef ∙ e), ← ef, e, e1, e2)
-
-  pub change-none : (found ≡ kind → ⊥) → marks ≡ changed_if kind (arc_at rest) marks
-  unfolding changed_if
-  change-none h = rw (ne_eqb (kind_at rest) kind (λ q. h (ef ∙ q)))
 
 zeros-suc : (a b place : ℕ) (marks : List ℕ) → a ≡ suc b → zeros a place marks ≡ zeros b (place + 1) (set marks place 0)
 unfolding zeros

@@ -8,7 +8,7 @@ use native.Mathlib.Numerals.{add-one}
 use lib.Dec.{ltb, eqb}
 use borrow.Author.Tests.{eqb-true, eqb-false, eq-eqb, ne_eqb, ltb-true, ltb-false, lt-ltb, le-ltb}
 use Rattle.effbd.specs.Ranges.{all_below, how_many, least}
-use Rattle.ranges.specs.Tests.{decide, clash, and_intro, and_left, and_right, not-true, not-false}
+use Rattle.ranges.specs.Tests.{decide, clash, and_intro, and_left, not-true, not-false}
 use Rattle.ranges.specs.RangeLaws.{all-elim, all-find, least-found, least-is, least-none}
 
 pub many-yes : (n : ℕ) (f : ℕ → Bool) → f n ≡ true → how_many (suc n) f ≡ how_many n f + 1
@@ -23,10 +23,6 @@ count-more n f t e = ap (λ (x : ℕ). x + 1) e ∙ (sym (many-yes n f t) ∙ ap
 pub count_same : (n : ℕ) (f : ℕ → Bool) {c : ℕ} → f n ≡ false → c ≡ how_many n f → c ≡ how_many (n + 1) f
 count_same n f t e = e ∙ (sym (many-no n f t) ∙ ap (λ (x : ℕ). how_many x f) (sym (add-one n)))
 
-pub many-ext : (n : ℕ) (f g : ℕ → Bool) → ((i : ℕ) → i < n → f i ≡ g i) → how_many n f ≡ how_many n g
-many-ext zero f g h = refl
-many-ext (suc n) f g h = rw (h n (omega arith), many-ext n f g (λ i l. h i (omega arith)))
-
 pub many-none : (n : ℕ) (f : ℕ → Bool) → ((i : ℕ) → i < n → f i ≡ false) → how_many n f ≡ 0
 many-none zero f h = refl
 many-none (suc n) f h = many-no n f (h n (omega arith)) ∙ many-none n f (λ i l. h i (omega arith))
@@ -36,12 +32,6 @@ many-up n zero f l = let z : n ≡ 0 = omega arith in rw z (omega arith)
 many-up n (suc k) f l = decide (eqb n (suc k)) (λ e. rw (eqb-true n (suc k) e) (omega arith))
     (λ e. let ne = eqb-false n (suc k) e in let a = many-up n k f (omega arith) in
     decide (f k) (λ t. rw (many-yes k f t) (omega arith)) (λ t. rw (many-no k f t) a))
-
--- past where none passes nothing more is counted
-pub many-cut : (n k : ℕ) (f : ℕ → Bool) → n ≤ k → ((i : ℕ) → n ≤ i → f i ≡ false) → how_many n f ≡ how_many k f
-many-cut n zero f l h = let z : n ≡ 0 = omega arith in ap (λ (x : ℕ). how_many x f) z
-many-cut n (suc k) f l h = decide (eqb n (suc k)) (λ e. ap (λ (x : ℕ). how_many x f) (eqb-true n (suc k) e))
-    (λ e. let ne = eqb-false n (suc k) e in many-cut n k f (omega arith) h ∙ sym (many-no k f (h k (omega arith))))
 
 -- the number that so many before it pass is there once, or not at all
 abbrev pub nth : (n : ℕ) (f : ℕ → Bool) → ℕ → Bool
@@ -58,12 +48,6 @@ nth-once (suc m) n f = decide (f m)
     (λ l. let w = ltb-true n (how_many m f) l in l ∙ sym (lt-ltb n (how_many m f + 1) (omega arith)))
     (λ l. let w = ltb-false n (how_many m f) l in l ∙ sym (le-ltb n (how_many m f + 1) (omega arith))))))))
     (λ t. many-no m (nth n f) (rw t) ∙ (nth-once m n f ∙ rw (many-no m f t)))
-
--- the first that passes is the one that none before it does
-pub first-none : (b : ℕ) (f : ℕ → Bool) → nth 0 f b ≡ true → (j : ℕ) → j < b → f j ≡ false
-first-none b f h j l = decide (f j)
-    (λ t. let z = eqb-true (how_many b f) 0 (and_right (f b) _ h) in let u = many-up (suc j) b f l in let v = many-yes j f t in absurd (omega arith))
-    (λ t. t)
 
 pub first-nth : (m : ℕ) (f : ℕ → Bool) → least m (nth 0 f) ≡ least m f
 first-nth m f = least-same m (nth 0 f) f (λ i h. and_left (f i) _ h) (λ i h none. and_intro h (eq-eqb (how_many i f) 0 (many-none i f none)))
@@ -86,6 +70,3 @@ nth-found m n row seen f l t s e h = sym (least-is m (nth n f) row l (and_intro 
 
 pub nth-other : (n row seen : ℕ) (f : ℕ → Bool) → seen ≡ how_many row f → seen ≢ n → nth n f row ≡ false
 nth-other n row seen f s ne = rw (ne_eqb (how_many row f) n (λ z. ne (s ∙ z)), and-false (f row))
-
-pub true-next : (row : ℕ) (g : ℕ → Bool) → ((q : ℕ) → q < row → g q ≡ true) → g row ≡ true → (q : ℕ) → q < row + 1 → g q ≡ true
-true-next row g h e q l = decide (eqb q row) (λ z. ap g (eqb-true q row z) ∙ e) (λ z. let ne = eqb-false q row z in h q (omega arith))

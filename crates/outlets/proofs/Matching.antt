@@ -7,7 +7,9 @@ use mathlib.Core.List.{List}
 use native.Mathlib.Omega.{arith}
 use lib.Dec.{ltb, eqb}
 use borrow.Author.Tests.{eqb-true, eqb-false, eq-eqb, ne_eqb, ltb-true, ltb-false}
-use Rattle.effbd.specs.Answers.{Outcome, unless, refused}
+use Rattle.std.specs.Prelude.{Result}
+use Rattle.effbd.specs.Answers.{Outcome, unless, refused, said, refusal_number, refusal_value}
+use Rattle.effbd.specs.declared.refusals.Refusal.{Refusal}
 use Rattle.effbd.specs.Diagrams.{Diagram, branch, box_open, box_exit, number_of, row_count, kind, is_kind, outlet_named}
 use Rattle.effbd.specs.Nesting.{owner, branch_of, box, leads, outlet, first_outlet, not_one_to_one, outlet_fault, unless_row}
 use Rattle.effbd.specs.Ranges.{all_below, how_many, least, only}
@@ -17,10 +19,10 @@ use Rattle.ranges.specs.Outcomes.{unless-refused}
 use Rattle.agreement.specs.Basics.{kind-past}
 use Rattle.agreement.specs.RowFaults.{rows-faultless, rows-faulty}
 use Rattle.diagram_table.specs.Cells.{kind_in, first_in, outlet_in, is_branch}
-use Rattle.nesting.specs.declared.Judgement.{Judgement}
 use Rattle.diagram_structure.specs.Walked.{Walked}
 use Rattle.outlets.specs.Outlets.{branches_below, is_exit_of, names_in, exits_for, matched_at, matched_in, outlet_of, Matched}
-use Rattle.outlets.proofs.Counting.{many-ext, nth, nth-once, first-nth}
+use Rattle.nesting.proofs.Chains.{many-ext}
+use Rattle.outlets.proofs.Counting.{nth, nth-once, first-nth}
 use Rattle.outlets.proofs.Scenarios.{branch-is, below-is}
 
 eqb-flip : (a b : ℕ) → eqb a b ≡ eqb b a
@@ -114,12 +116,12 @@ module _ (d : Diagram) (rows : ℕ) (u : List ℕ) (w : Walked d rows u) (boxes 
   no-box q k = rw k
 
   -- THEOREM: the walk over the boxes judges as the definition does
-  pub judged-is : (j : Judgement) → Matched u rows j → (on : Outcome Diagram) → unless_row d (outlet_fault d) on ≡ unless j.number j.row on
-  judged-is j m on = decide (eqb j.number 0)
-      (λ e. let z = eqb-true j.number 0 e in rw z (rows-faultless d (outlet_fault d) (λ q l. none q (λ k. m.fine z q (let c = w.kinds.count in omega arith) (number q k))) on))
-      (λ e. let ne = eqb-false j.number 0 e in let b = m.bad ne in let c = w.kinds.count in
-      rows-faulty d (outlet_fault d) j.row (let l = b.1 in omega arith) (λ z. let y = fault j.row b.1 b.2 b.3 in absurd (omega arith)) (λ q l. none q (λ k. b.4 q l (number q k))) on
-      ∙ (ap (λ (n : ℕ). refused n j.row) (fault j.row b.1 b.2 b.3 ∙ sym b.0) ∙ sym (unless-refused j.number j.row on ne)))
+  pub judged-is : (j : Result (Unit {0}) Refusal) → Matched u rows j → (on : Outcome Diagram) → unless_row d (outlet_fault d) on ≡ unless (refusal_number (said j)) (refusal_value (said j)) on
+  judged-is j m on = decide (eqb (refusal_number (said j)) 0)
+      (λ e. let z = eqb-true (refusal_number (said j)) 0 e in rw z (rows-faultless d (outlet_fault d) (λ q l. none q (λ k. m.fine z q (let c = w.kinds.count in omega arith) (number q k))) on))
+      (λ e. let ne = eqb-false (refusal_number (said j)) 0 e in let b = m.bad ne in let c = w.kinds.count in
+      rows-faulty d (outlet_fault d) (refusal_value (said j)) (let l = b.1 in omega arith) (λ z. let y = fault (refusal_value (said j)) b.1 b.2 b.3 in absurd (omega arith)) (λ q l. none q (λ k. b.4 q l (number q k))) on
+      ∙ (ap (λ (n : ℕ). refused n (refusal_value (said j))) (fault (refusal_value (said j)) b.1 b.2 b.3 ∙ sym b.0) ∙ sym (unless-refused (refusal_number (said j)) (refusal_value (said j)) on ne)))
     where
       number : (q : ℕ) → is_kind d box_open q ≡ true → kind_in u q ≡ 29
       number q k = decide (ltb q rows) (λ l. w.kinds.cell q (ltb-true q rows l) ∙ eqb-true (number_of (kind d q)) 29 k)

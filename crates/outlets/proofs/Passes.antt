@@ -9,16 +9,18 @@ use lib.ListN.{length, get_or, set, length-set}
 use lib.Seq.{get_or-set_same, get_or-set_other}
 use lib.Dec.{eqb}
 use borrow.Author.Tests.{eqb-true, eqb-false, eq-eqb}
-use Rattle.effbd.specs.Answers.{Outcome, unless}
+use Rattle.std.specs.Prelude.{Result, Ok}
+use Rattle.effbd.specs.Answers.{Outcome, unless, said, refusal_number, refusal_value}
+use Rattle.effbd.specs.declared.refusals.Refusal.{Refusal}
 use Rattle.effbd.specs.Diagrams.{most_rows, Diagram, box_exit, number_of, kind, is_kind}
 use Rattle.effbd.specs.Nesting.{box, outlet_fault, unless_row}
 use Rattle.ranges.specs.Tests.{decide, clash, and_left}
 use Rattle.ranges.specs.RangeLaws.{least-ext}
 use Rattle.diagram_table.specs.Cells.{cell_of, cell_total, kind_in, first_in, owner_in, outlet_in, scenario_last_in, is_branch}
-use Rattle.nesting.specs.declared.Judgement.{Judgement}
 use Rattle.diagram_structure.specs.Walked.{Walked}
 use Rattle.outlets.specs.Outlets.{branches_below, is_exit_of, matched_in, outlet_of, OwnBox, BoxTurn, OutletTurn, Kept, Matched, BoxesPut, OutletsPut, OutletsRead}
-use Rattle.outlets.proofs.Counting.{many-ext, nth}
+use Rattle.nesting.proofs.Chains.{many-ext}
+use Rattle.outlets.proofs.Counting.{nth}
 use Rattle.outlets.proofs.Matching.{outlet-is, first-outlet-is, judged-is}
 
 -- a BRANCH is no EXIT
@@ -169,24 +171,12 @@ module _ (rows : ℕ) (t : List ℕ) (n : ℕ) (u : List ℕ) (few : rows ≤ mo
       (λ e. let k = eqb-true (kind_in u n) 31 e in subst (Outward rows t (n + 1)) (sym (b.exit k)) (outlets-next (cell_of 8 n) (cell_of 2 n) _ _ long k refl refl refl refl))
       (λ e. let k = eqb-false (kind_in u n) 31 e in subst (Outward rows t (n + 1)) (sym (b.other k)) (outlets-other k))
 
-pub outlet-stored : (t : List ℕ) {u v : List ℕ} (rows row : ℕ) {opened number own first last : ℕ} → opened ≡ outlet_in t row → number ≡ first_in t row → own ≡ outlet_of t rows opened number → first ≡ outlet_of t rows opened 0
-    → last ≡ first - 1 → u ≡ set t (cell_of 8 row) own → v ≡ set u (cell_of 2 row) last
-    → v ≡ set (set t (cell_of 8 row) (outlet_of t rows (outlet_in t row) (first_in t row))) (cell_of 2 row) (outlet_of t rows (outlet_in t row) 0 - 1)
-outlet-stored t rows row a b c e f g h = rw (h, g, f, e, c, a, b)
-
 -- ---- the lowest box that is not matched
 module _ (t : List ℕ) (rows : ℕ) where
   abbrev Fine : ℕ → Type 0
   Fine n = (o : ℕ) → o < n → kind_in t o ≡ 29 → matched_in t rows o ≡ true
 
-  pub box-next : (n : ℕ) → Fine n → (kind_in t n ≡ 29 → matched_in t rows n ≡ true) → Fine (n + 1)
-  box-next n h e o l k = decide (eqb o n) (λ z. let y = eqb-true o n z in subst (λ (x : ℕ). matched_in t rows x ≡ true) (sym y) (e (subst (λ (x : ℕ). kind_in t x ≡ 29) y k)))
-      (λ z. let y = eqb-false o n z in h o (omega arith) k)
-
-  pub box-unmatched : (n : ℕ) → n < rows → kind_in t n ≡ 29 → matched_in t rows n ≡ false → Fine n → Matched t rows (record { number = 49; row = n })
-  box-unmatched n l k h f = record { within = omega arith; none = λ z. absurd (omega arith); fine = λ z. absurd (omega arith); bad = λ z. (refl, l, k, h, f) }
-
-  pub boxes-matched : Fine rows → Matched t rows (record { number = 0; row = 0 })
+  pub boxes-matched : Fine rows → Matched t rows (Ok tt)
   boxes-matched f = record { within = omega arith; none = λ z. refl; fine = λ z. f; bad = λ z. absurd (z refl) }
 
 -- ---- all of it
@@ -195,7 +185,7 @@ kept-both few a b = record { long = b.long ∙ a.long; cell = λ i f. b.cell i (
 
 module _ (rows : ℕ) (t : List ℕ) where
   -- a table of another length, or too many rows: no diagram has them
-  pub not-read : ((d : Diagram) → Walked d rows t → ⊥) → OutletsRead rows t t (record { number = 0; row = 0 })
+  pub not-read : ((d : Diagram) → Walked d rows t → ⊥) → OutletsRead rows t t (Ok tt)
   not-read none = record {
     within = omega arith;
     none = λ z. refl;
@@ -204,11 +194,11 @@ module _ (rows : ℕ) (t : List ℕ) where
     outlets = λ z d w. absurd (none d w);
   }
 
-  module _ (u : List ℕ) (few : rows ≤ most_rows) (b : BoxesPut rows t rows u) (j : Judgement) (m : Matched u rows j) where
-    judged : (d : Diagram) → Walked d rows t → (on : Outcome Diagram) → unless_row d (outlet_fault d) on ≡ unless j.number j.row on
+  module _ (u : List ℕ) (few : rows ≤ most_rows) (b : BoxesPut rows t rows u) (j : Result (Unit {0}) Refusal) (m : Matched u rows j) where
+    judged : (d : Diagram) → Walked d rows t → (on : Outcome Diagram) → unless_row d (outlet_fault d) on ≡ unless (refusal_number (said j)) (refusal_value (said j)) on
     judged d w = judged-is d rows u (walked-kept few b.kept d w) (λ r l e. b.boxes d w r l e) j m
 
-    pub outlets-refused : j.number ≢ 0 → OutletsRead rows t u j
+    pub outlets-refused : refusal_number (said j) ≢ 0 → OutletsRead rows t u j
     outlets-refused ne = record { within = m.within; none = m.none; kept = b.kept; judged = judged; outlets = λ z. absurd (ne z) }
 
     pub outlets-read : {v : List ℕ} → OutletsPut rows u rows v → OutletsRead rows t v j

@@ -23,7 +23,8 @@ use Rattle.nesting.proofs.Rules.{passing_by, stack-next}
 use Rattle.nesting.proofs.Stacks.{does, Good, good, owner-low, held}
 use Rattle.diagram_structure.specs.Walked.{Walked}
 use Rattle.outlets.specs.Outlets.{branches_below, in_scenario_of, OwnBox}
-use Rattle.outlets.proofs.Counting.{count-more, count_same, many-ext, many-none}
+use Rattle.nesting.proofs.Chains.{many-ext}
+use Rattle.outlets.proofs.Counting.{count-more, count_same, many-none}
 
 abbrev turning : Part → Bool
 turning Opens = false

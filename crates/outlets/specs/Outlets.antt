@@ -1,11 +1,11 @@
 -- Outlets and EXITs over the table of a diagram whose rows the walk let pass. Assumes nothing.
-use Rattle.std.specs.Prelude.{ℕ, ◌-◌, ◌≤◌, ◌<◌, ◌≡◌, ◌≢◌, Bool, true, false, not, ◌&&◌, ◌||◌, List, length, get_or, set, ltb, eqb}
-use Rattle.effbd.specs.Answers.{Outcome, unless}
+use Rattle.std.specs.Prelude.{ℕ, ◌-◌, ◌≤◌, ◌<◌, ◌≡◌, ◌≢◌, Bool, true, false, not, ◌&&◌, ◌||◌, List, length, get_or, set, ltb, eqb, Result}
+use Rattle.effbd.specs.Answers.{Outcome, unless, said, refusal_number, refusal_value}
+use Rattle.effbd.specs.declared.refusals.Refusal.{Refusal}
 use Rattle.effbd.specs.Diagrams.{Diagram, box_exit, is_kind}
 use Rattle.effbd.specs.Nesting.{box, first_outlet, outlet, outlet_fault, unless_row}
 use Rattle.effbd.specs.Ranges.{all_below, how_many, least}
 use Rattle.diagram_table.specs.Cells.{cell_of, kind_in, first_in, outlet_in, scenario_last_in, is_branch}
-use Rattle.nesting.specs.declared.Judgement.{Judgement}
 use Rattle.diagram_structure.specs.Walked.{Walked}
 
 -- a row that opens a box; some of the rows does
@@ -45,12 +45,12 @@ unfoldable pub matched_in : List ℕ → (rows o : ℕ) → Bool
 matched_in t rows o = all_below rows (matched_at t rows o)
 
 -- the lowest box whose outlets and EXITs are not one to one, or none
-pub record Matched (t : List ℕ) (rows : ℕ) (r : Judgement) : Type 0 where
-  pub within : r.row ≤ rows
-  pub none : r.number ≡ 0 → r.row ≡ 0
-  pub fine : r.number ≡ 0 → (o : ℕ) → o < rows → kind_in t o ≡ 29 → matched_in t rows o ≡ true
-  pub bad : r.number ≢ 0 → (r.number ≡ 49) × (r.row < rows) × (kind_in t r.row ≡ 29) × (matched_in t rows r.row ≡ false)
-      × ((o : ℕ) → o < r.row → kind_in t o ≡ 29 → matched_in t rows o ≡ true)
+pub record Matched (t : List ℕ) (rows : ℕ) (r : Result (Unit {0}) Refusal) : Type 0 where
+  pub within : refusal_value (said r) ≤ rows
+  pub none : refusal_number (said r) ≡ 0 → refusal_value (said r) ≡ 0
+  pub fine : refusal_number (said r) ≡ 0 → (o : ℕ) → o < rows → kind_in t o ≡ 29 → matched_in t rows o ≡ true
+  pub bad : refusal_number (said r) ≢ 0 → (refusal_number (said r) ≡ 49) × (refusal_value (said r) < rows) × (kind_in t (refusal_value (said r)) ≡ 29) × (matched_in t rows (refusal_value (said r)) ≡ false)
+      × ((o : ℕ) → o < (refusal_value (said r)) → kind_in t o ≡ 29 → matched_in t rows o ≡ true)
 
 -- the innermost box in whose scenario an EXIT is
 pub record OwnBox (t : List ℕ) (row r : ℕ) : Type 0 where
@@ -88,10 +88,10 @@ pub record OutletsPut (rows : ℕ) (t : List ℕ) (n : ℕ) (u : List ℕ) : Typ
 
 -- the outlets of the table's boxes were judged: every diagram that the table has is turned away at that box with that number, or goes on; and then each EXIT
 -- has its outlet's BRANCH and the last row of the scenario that it leaves
-pub record OutletsRead (rows : ℕ) (t u : List ℕ) (r : Judgement) : Type 0 where
-  pub within : r.row ≤ rows
-  pub none : r.number ≡ 0 → r.row ≡ 0
+pub record OutletsRead (rows : ℕ) (t u : List ℕ) (r : Result (Unit {0}) Refusal) : Type 0 where
+  pub within : refusal_value (said r) ≤ rows
+  pub none : refusal_number (said r) ≡ 0 → refusal_value (said r) ≡ 0
   pub kept : Kept rows t u
-  pub judged : (d : Diagram) → Walked d rows t → (on : Outcome Diagram) → unless_row d (outlet_fault d) on ≡ unless r.number r.row on
-  pub outlets : r.number ≡ 0 → (d : Diagram) → Walked d rows t → (r : ℕ) → r < rows → is_kind d box_exit r ≡ true
+  pub judged : (d : Diagram) → Walked d rows t → (on : Outcome Diagram) → unless_row d (outlet_fault d) on ≡ unless (refusal_number (said r)) (refusal_value (said r)) on
+  pub outlets : refusal_number (said r) ≡ 0 → (d : Diagram) → Walked d rows t → (r : ℕ) → r < rows → is_kind d box_exit r ≡ true
       → (outlet_in u r ≡ outlet d r) × (scenario_last_in u r ≡ first_outlet d (box d r) - 1)

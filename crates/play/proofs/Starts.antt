@@ -37,12 +37,13 @@ unfolding words_of as_long
 long-never (accepted n) l number value e = absurd (let z : ◌≡◌ {A = ℕ} 0 1 = cc in omega arith)
 long-never (refused n v) l number value e = refl
 
--- the calls, from the follower as its fresh state left it
-pub started : (file net : List ℕ) (station : ℕ) (leader follower fresh calls leader' follower' calls' : List ℕ) (sent took : ℕ) → fresh ≡ afterwards follower (fresh_net net follower)
-    → AllCalled file net station (record { leader = leader; sent = 0; follower = fresh; taken = 0 }) calls leader' follower' calls' sent took
-    → AllCalled file net station (record { leader = leader; sent = 0; follower = afterwards follower (fresh_net net follower); taken = 0 }) calls leader' follower' calls' sent took
-started file net station leader follower fresh calls leader' follower' calls' sent took e =
-    subst (λ (x : List ℕ). AllCalled file net station (record { leader = leader; sent = 0; follower = x; taken = 0 }) calls leader' follower' calls' sent took) e
+-- the calls, from counts of 0
+pub from-none : {file net : List ℕ} {station : ℕ} {leader follower calls leader' follower' calls' : List ℕ} {s t sent took : ℕ} → s ≡ 0 → t ≡ 0
+    → AllCalled file net station (record { leader = leader; sent = s; follower = follower; taken = t }) calls leader' follower' calls' sent took
+    → AllCalled file net station (record { leader = leader; sent = 0; follower = follower; taken = 0 }) calls leader' follower' calls' sent took
+from-none {file} {net} {station} {leader} {follower} {calls} {leader'} {follower'} {calls'} {s} {t} {sent} {took} e f h =
+    subst (λ (x : ℕ). AllCalled file net station (record { leader = leader; sent = 0; follower = follower; taken = x }) calls leader' follower' calls' sent took) f
+    (subst (λ (x : ℕ). AllCalled file net station (record { leader = leader; sent = x; follower = follower; taken = t }) calls leader' follower' calls' sent took) e h)
 
 -- nothing was done
 pub unplayed : (o : Outcome Diagram) (number value : ℕ) → o ≡ refused number value → (file : List ℕ) (station : ℕ) (calls leader follower leader' : List ℕ) → leader' ≡ leader

@@ -1,6 +1,7 @@
 -- A list of calls, given as bytes, on both ends: what it leaves in their memory, with the claim of demand 3. Assumes nothing.
-use Rattle.std.specs.Prelude.{ℕ, ◌≡◌, Bool, false, cond, ◌&&◌, List, length, eqb}
+use Rattle.std.specs.Prelude.{ℕ, ◌≡◌, Result, Ok, Err, Bool, false, cond, ◌&&◌, List, length, eqb}
 use Rattle.effbd.specs.Answers.{Outcome, accepted, refused, and_then}
+use Rattle.effbd.specs.declared.refusals.Refusal.{Refusal}
 use Rattle.effbd.specs.Diagrams.{Diagram}
 use Rattle.effbd.specs.Nesting.{read_diagram}
 use Rattle.effbd.specs.Layout.{places}
@@ -8,6 +9,7 @@ use Rattle.effbd.specs.Nets.{Net}
 use Rattle.effbd.specs.Firing.{net_word_count}
 use Rattle.effbd.specs.Patterns.{net_of}
 use Rattle.effbd.specs.History.{fresh_ends, seen_all, net_file_of, ends_of, MayBeHanded, Demand3}
+use Rattle.calls.specs.declared.Counts.{Counts}
 use Rattle.calls.specs.CallList.{calls_of, list_after}
 
 -- a net's state has this many words
@@ -42,3 +44,12 @@ pub record Unplayed (calls leader follower calls' leader' follower' : List ℕ) 
 abbrev pub PlayedAs : Outcome Diagram → (file : List ℕ) (station : ℕ) (calls leader follower calls' leader' follower' : List ℕ) (sent took : ℕ) → Type 0
 PlayedAs (accepted d) file station calls leader follower calls' leader' follower' sent took = Played file d station calls leader' follower' calls' sent took
 PlayedAs (refused number value) file station calls leader follower calls' leader' follower' sent took = Unplayed calls leader follower calls' leader' follower' sent took
+
+-- the counts of a list that was played, 0 where it was refused
+abbrev pub sent : Result Counts Refusal → ℕ
+sent (Ok counts) = counts.sent
+sent (Err refusal) = 0
+
+abbrev pub taken : Result Counts Refusal → ℕ
+taken (Ok counts) = counts.taken
+taken (Err refusal) = 0

@@ -1,3 +1,4 @@
 pub mod Tests
 pub mod RangeLaws
 pub mod Outcomes
+pub mod Reasons

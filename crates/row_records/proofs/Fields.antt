@@ -5,10 +5,10 @@ use mathlib.Core.Logic.{◌≢◌}
 use mathlib.Core.Bool.{Bool, true, false, not, cond, ◌&&◌}
 use mathlib.Core.List.{List}
 use native.Mathlib.Omega.{arith}
-use lib.ListN.{length, get_or, drop}
+use lib.ListN.{length, drop}
 use lib.Dec.{leb, ltb, eqb}
 use borrow.Author.Tests.{lt-ltb, le-leb, lt-leb, ne_eqb}
-use Rattle.effbd.specs.Records.{word, length_at, kind_at, kind_table, entry_in, length_of, fields_of, KindBytes, fault_at}
+use Rattle.effbd.specs.Records.{word, length_at, kind_at, kind_table, entry_in, length_of, fields_of, fault_at}
 use Rattle.effbd.specs.Diagrams.{and_open, branch, and_close, or_open, or_close, it_open, it_close, lp_open, lp_close, loop_exit, end, box_open, box_close, box_exit, Use, Row, kind_of, uses_at, uses_fine, row_at, row_right, row_fine_as, row_fine, row_fault}
 use Rattle.row_records.specs.Fields.{field_of, use_fine, is_row, function_right, function_fine, function_fault, turn_limit_fine}
 use Rattle.row_records.specs.Rows.{uses_from, column, put_row, fill_row, use_fits, triggers_fit, trigger_fault}
@@ -56,15 +56,6 @@ function-base = refl
 pub function-behind : 4 + 2 * fields_of 16 ≡ 8
 unfolding fields_of entry_in kind_table
 function-behind = refl
-
-pub base-at : (entries : List ℕ) (kind : ℕ) {base : ℕ} → KindBytes entries → base ≡ get_or entries (2 * kind) 0 → base ≡ length_of kind
-base-at entries kind k e = e ∙ k.base kind
-
-pub fields_at : (entries : List ℕ) (kind : ℕ) {fields : ℕ} → KindBytes entries → fields ≡ get_or entries (2 * kind + 1) 0 → fields ≡ fields_of kind
-fields_at entries kind k e = e ∙ k.fields kind
-
-pub behind-at : (entries : List ℕ) (kind : ℕ) {behind : ℕ} → KindBytes entries → behind ≡ 4 + 2 * get_or entries (2 * kind + 1) 0 → behind ≡ 4 + 2 * fields_of kind
-behind-at entries kind k e = e ∙ ap (λ (x : ℕ). 4 + 2 * x) (k.fields kind)
 
 pub behind-base : {kind base behind : ℕ} → kind ≡ 16 → base ≡ length_of kind → behind ≡ 4 + 2 * fields_of kind → behind ≤ base
 behind-base e eb eh = omega (arith, eb ∙ (ap length_of e ∙ function-base), eh ∙ (ap (λ (x : ℕ). 4 + 2 * fields_of x) e ∙ function-behind))
@@ -138,15 +129,13 @@ module _ (items : ℕ) (bytes : List ℕ) where
   uses-stop from zero item took gave p a b c e = absurd (omega arith)
   uses-stop from (suc n) item took gave p a b c e = sym (uses-turn items from n bytes ∙ (let z : use_fine items from (word bytes 0) (word bytes 2) (word bytes 4) ≡ false = rw (← a, ← b, ← c) e in rw z))
 
-  pub uses-go : (from left item took gave : ℕ) (rest : List ℕ) → 0 < left → item ≡ word bytes 0 → took ≡ word bytes 2 → gave ≡ word bytes 4 → use_fine items from item took gave ≡ true → rest ≡ drop 6 bytes
-      → uses_fine items (item + 1) (uses_at (left - 1) rest) ≡ uses_fine items from (uses_at left bytes)
-  uses-go from zero item took gave rest p a b c e f = absurd (omega arith)
-  uses-go from (suc n) item took gave rest p a b c e f =
+  pub uses-go : (from left more item took gave : ℕ) (rest : List ℕ) → left ≡ suc more → item ≡ word bytes 0 → took ≡ word bytes 2 → gave ≡ word bytes 4 → use_fine items from item took gave ≡ true → rest ≡ drop 6 bytes
+      → uses_fine items (item + 1) (uses_at more rest) ≡ uses_fine items from (uses_at left bytes)
+  uses-go from left n item took gave rest p a b c e f =
       let i : item ≡ word bytes 0 = a in
       let z : use_fine items from (word bytes 0) (word bytes 2) (word bytes 4) ≡ true = rw (← a, ← b, ← c) e in
-      let m : suc n - 1 ≡ n = omega arith in
       let j : item + 1 ≡ suc (word bytes 0) = omega (arith, i) in
-      rw (m, j, f) (sym (uses-turn items from n bytes ∙ (let y : (use_fine items from (word bytes 0) (word bytes 2) (word bytes 4) && uses_fine items (suc (word bytes 0)) (uses_at n (drop 6 bytes))) ≡ uses_fine items (suc (word bytes 0)) (uses_at n (drop 6 bytes)) = rw z in y)))
+      rw (p, j, f) (sym (uses-turn items from n bytes ∙ (let y : (use_fine items from (word bytes 0) (word bytes 2) (word bytes 4) && uses_fine items (suc (word bytes 0)) (uses_at n (drop 6 bytes))) ≡ uses_fine items (suc (word bytes 0)) (uses_at n (drop 6 bytes)) = rw z in y)))
 
   module _ (base behind : ℕ) where
     pub function-bad : (second first : ℕ) → second ≡ word bytes 6 → first ≡ word bytes 4 → second < first → false ≡ function_fine base behind items bytes
@@ -180,13 +169,12 @@ module _ (table bytes : List ℕ) where
   fits-stop zero item took gave p a b c e = absurd (omega arith)
   fits-stop (suc n) item took gave p a b c e = let z : use_fits table (use_at bytes) ≡ false = rw (← a, ← b, ← c) (sym e) in rw z
 
-  pub fits-go : (left item took gave : ℕ) (rest : List ℕ) → 0 < left → item ≡ word bytes 0 → took ≡ word bytes 2 → gave ≡ word bytes 4 → true ≡ use_fits table (record { item = item; take = took; give = gave })
-      → rest ≡ drop 6 bytes → triggers_fit table (uses_at (left - 1) rest) ≡ triggers_fit table (uses_at left bytes)
+  pub fits-go : (left more item took gave : ℕ) (rest : List ℕ) → left ≡ suc more → item ≡ word bytes 0 → took ≡ word bytes 2 → gave ≡ word bytes 4 → true ≡ use_fits table (record { item = item; take = took; give = gave })
+      → rest ≡ drop 6 bytes → triggers_fit table (uses_at more rest) ≡ triggers_fit table (uses_at left bytes)
   unfolding triggers_fit uses_at
-  fits-go zero item took gave rest p a b c e f = absurd (omega arith)
-  fits-go (suc n) item took gave rest p a b c e f =
+  fits-go left n item took gave rest p a b c e f =
       let z : use_fits table (use_at bytes) ≡ true = rw (← a, ← b, ← c) (sym e) in
-      let m : suc n - 1 ≡ n = omega arith in rw (m, f, z)
+      rw (p, f, z)
 
   pub fits-over : (left : ℕ) → left ≡ 0 → true ≡ triggers_fit table (uses_at left bytes)
   unfolding triggers_fit uses_at

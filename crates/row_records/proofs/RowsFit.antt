@@ -10,8 +10,7 @@ use Rattle.effbd.specs.Diagrams.{most_rows, most_items}
 use Rattle.effbd.specs.Moves.{most_word}
 use Rattle.ranges.specs.Tests.{and_left, and_right, clash}
 use Rattle.diagram_table.specs.Cells.{cell_total}
-use Rattle.row_records.specs.declared.Reached.{Reached}
-use Rattle.row_records.specs.Rows.{table_fault, RowsRead, rows_laid, rows_fit, RowsInto}
+use Rattle.row_records.specs.Rows.{Reached, table_fault, RowsRead, rows_laid, rows_fit, RowsInto}
 
 module _ (from due items long : ℕ) where
   pub fits : from ≤ 106 → due ≤ most_rows → items ≤ most_items → long ≡ cell_total → rows_fit from due items long ≡ true

@@ -21,8 +21,7 @@ use Rattle.effbd.specs.Answers.{or_else}
 use Rattle.agreement.specs.ByteLaws.{Clean, none-clean}
 use Rattle.diagram_table.specs.CellStores.{Cell, cell}
 use Rattle.diagram_table.specs.Cells.{cell_of, cell_total, some_trigger_in}
-use Rattle.row_records.specs.declared.Reached.{Reached}
-use Rattle.row_records.specs.Rows.{Reading, Stopped, FilledRows, Kept, RowsState, RowsRead, SomeRowsRead, Refined, end_reached, column, put_row, fill_row, trigger_fault, table_fault}
+use Rattle.row_records.specs.Rows.{Reached, Reading, Stopped, FilledRows, Kept, RowsState, RowsRead, SomeRowsRead, Refined, end_reached, column, put_row, fill_row, trigger_fault, table_fault}
 use Rattle.diagram_table.proofs.CellStores.{put-long, put-away, put-at}
 use Rattle.kinds.proofs.KindTable.{short}
 

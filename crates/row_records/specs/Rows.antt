@@ -1,6 +1,6 @@
 -- What the reader of a diagram's rows leaves. Assumes nothing.
-use Rattle.std.specs.Prelude.{ℕ, zero, suc, ◌+◌, ◌-◌, ◌*◌, ◌/◌, ◌≤◌, ◌<◌, ◌≡◌, ◌≢◌, Bool, true, false, cond, ◌&&◌, ◌||◌, List, [], ◌∷◌, length, get_or, drop, leb, eqb}
-use Rattle.effbd.specs.Answers.{or_else}
+use Rattle.std.specs.Prelude.{ℕ, zero, suc, ◌+◌, ◌-◌, ◌*◌, ◌/◌, ◌≤◌, ◌<◌, ◌≡◌, ◌≢◌, Bool, true, false, cond, ◌&&◌, ◌||◌, Result, Ok, Err, List, [], ◌∷◌, length, get_or, drop, leb, eqb}
+use Rattle.effbd.specs.Answers.{or_else, number}
 use Rattle.effbd.specs.Records.{length_at, kind_at, length_of, fields_of}
 use Rattle.effbd.specs.Diagrams.{most_rows, most_items, Use, row_fault, row_at}
 use Rattle.effbd.specs.Nesting.{skip}
@@ -8,7 +8,16 @@ use Rattle.effbd.specs.Moves.{most_word}
 use Rattle.diagram_table.specs.Cells.{cell_of, cell_total, trigger_in, some_trigger_in}
 use Rattle.diagram_table.specs.CellStores.{Cell, cell, put_all}
 use Rattle.row_records.specs.Fields.{field_of}
-use Rattle.row_records.specs.declared.Reached.{Reached}
+use Rattle.row_records.specs.declared.Fault.{Fault}
+
+-- where reading stopped, and the number of the fault of the record there, 0 for none
+pub record Reached : Type 0 where
+  pub fault : ℕ
+  pub at : ℕ
+
+abbrev pub reached : Result ℕ Fault → Reached
+reached (Ok at) = record { fault = 0; at = at }
+reached (Err f) = record { fault = number f.reason; at = f.at }
 
 -- where the uses of a FUNCTION begin, whose record begins `bytes` at byte `at`: behind its fields; 0 of another row
 unfoldable pub uses_from : (at : ℕ) → List ℕ → ℕ

@@ -1,23 +1,23 @@
 -- A run falls through as its last row says; loops that some LE leaves lie before their close; outlets and scenarios, row by row.
-use Prim.Native.Nat.{ℕ, zero, suc, ◌+◌, ◌-◌, ◌≤◌, ◌<◌}
-use mathlib.Core.Path.{◌≡◌, refl, sym, ◌∙◌, ap, ap₂, subst}
-use mathlib.Core.Logic.{◌≢◌}
-use mathlib.Core.Bool.{Bool, true, false, not, ◌&&◌, ◌||◌, and-false}
-use mathlib.Core.List.{List}
-use native.Mathlib.Omega.{arith}
-use native.Mathlib.Numerals.{add-one}
-use lib.Dec.{leb, eqb}
-use borrow.Author.Tests.{not-false, eqb-true, eqb-false, eq-eqb, ne_eqb, le-leb, leb-true, leb-false, lt-leb}
-use Rattle.effbd.specs.Ranges.{all_below, only}
+use Rattle.std.specs.Prelude.{ℕ, zero, suc, ◌+◌, ◌-◌, ◌≤◌, ◌<◌, ◌≡◌, refl, ◌≢◌, Bool, true, false, not, ◌&&◌, ◌||◌, List, leb, eqb, Option, Some, None, Ok, Err, MatchOption}
+use Rattle.std.specs.List.{range_with_len, list_any}
+use Rattle.std.specs.Option.{unwrap_or}
+use Rattle.std.proofs.Common.{sym, ◌∙◌, ap, ap₂, subst, arith, eqb-true, eq-eqb}
+use mathlib.Core.Bool.{and-false}
+use mathlib.Core.Logic.{◌⊎◌, inl, inr}
+use borrow.Author.Tests.{eqb-false, ne_eqb, le-leb, leb-true, leb-false}
+use Rattle.effbd.specs.declared.refusals.Reason.TheVariants.{ScenarioFallsThrough}
+use Rattle.effbd.specs.Ranges.{only}
 use Rattle.effbd.specs.Diagrams.{Kind, function, and_open, branch, and_close, or_open, or_close, it_open, it_close, lp_open, lp_close, loop_exit, end, box_open, box_close, box_exit, number_of, Diagram, row_count, kind, is_kind}
 use Rattle.effbd.specs.Nesting.{owner, close, is_close, loop, branch_of, first_outlet, loop_left, falls_as, falls_into, scenario_falls, scenario_fault}
 use Rattle.ranges.specs.Tests.{decide, and_right}
-use Rattle.ranges.specs.RangeLaws.{all-intro, all-elim, all-ext, all-fail, least-found, least-is, least-none}
+use Rattle.ranges.specs.RangeLaws.{all-ext, least-found, least-is, least-none}
 use Rattle.agreement.specs.Basics.{same-eq, not-kind}
 use Rattle.agreement.specs.AcceptedFiles.{well-walked}
 use Rattle.agreement.specs.NestingLaws.{looped}
 use Rattle.agreement.specs.RowFaults.{rows-faultless, rows-faulty}
 use Rattle.diagram_table.specs.Cells.{kind_in, owner_in, is_branch}
+use Rattle.nesting.proofs.Chains.{range-any}
 use Rattle.nesting.proofs.Stacks.{owner-low, loop-low}
 use Rattle.diagram_structure.specs.Walked.{Walked}
 use Rattle.scenarios.specs.declared.Branches.{Branches}
@@ -29,25 +29,9 @@ module _ (table : List ℕ) (first : ℕ) where
   abbrev stays : ℕ → Bool
   stays q = not (leb first q && leaves_in table first q)
 
-  pub left-start : left_in table first first ≡ false
-  unfolding left_in
-  left-start = ap not (all-intro first stays (λ q l. rw (lt-leb first q l)))
-
-  pub left-found : (q last : ℕ) → first ≤ q → q < last → leaves_in table first q ≡ true → left_in table first last ≡ true
-  unfolding left_in
-  left-found q last l h e = ap not (all-fail last stays q h (rw (le-leb first q l, e)))
-
-  pub left-on : (q : ℕ) → leaves_in table first q ≡ false → left_in table first q ≡ false → left_in table first (q + 1) ≡ false
-  unfolding left_in
-  left-on q e h = rw (add-one q, e) (go (leb first q) h)
-    where
-      go : (b : Bool) → not (all_below q stays) ≡ false → not (not (b && false) && all_below q stays) ≡ false
-      go true z = z
-      go false z = z
-
-  pub left-never : (q last : ℕ) → last ≤ q → left_in table first q ≡ false → left_in table first last ≡ false
-  unfolding left_in
-  left-never q last l h = ap not (all-intro last stays (λ i m. all-elim q stays (not-false (all_below q stays) h) i (omega arith)))
+pub left-is : (table : List ℕ) (first last : ℕ) → list_any (leaves_in table first) (range_with_len first (last - first)) ≡ left_in table first last
+unfolding left_in
+left-is table first last = range-any first last (leaves_in table first)
 
 module _ (d : Diagram) (rows : ℕ) (table : List ℕ) (w : Walked d rows table) where
   -- a kind, by its number
@@ -131,11 +115,15 @@ module _ (table : List ℕ) (row : ℕ) (some : row ≢ 0) where
         f d rows w (omega arith) a s.0 s.1 ∙ (sym (ap (λ (j : Kind). falls_as d j (falls_into d s.0) last) a) ∙ sym s.2);
   }
 
-  pub exit-stops : kind_in table last ≡ 26 → FallsRead table row false
+  exit-stops : kind_in table last ≡ 26 → FallsRead table row false
   exit-stops e = by_kind false loop_exit e (λ d rows w l a m h. refl)
 
-  pub box-exit-stops : kind_in table last ≡ 31 → FallsRead table row false
+  box-exit-stops : kind_in table last ≡ 31 → FallsRead table row false
   box-exit-stops e = by_kind false box_exit e (λ d rows w l a m h. refl)
+
+  pub exits-stop : (k : ℕ) → k ≡ kind_in table last → (k ≡ 26) ⊎ (k ≡ 31) → FallsRead table row false
+  exits-stop k e (inl h) = exit-stops (sym e ∙ h)
+  exits-stop k e (inr h) = box-exit-stops (sym e ∙ h)
 
   pub loop-falls : (first : ℕ) (r : Bool) → kind_in table last ≡ 25 → first ≡ owner_in table last → r ≡ left_in table first last → FallsRead table row r
   loop-falls first r e o h = by_kind r lp_close e
@@ -154,7 +142,7 @@ module _ (table : List ℕ) (row : ℕ) (some : row ≢ 0) where
         sym (s.2 ∙ other-falls d (falls_into d s.0) last (kind d last) (λ z. a (k ∙ z)) (λ z. b (k ∙ z)) (λ z. c (k ∙ z)) (λ z. e (k ∙ z)) (λ z. f (k ∙ z)));
   }
 
--- ---- the first outlet of a box, row by row
+-- ---- the first outlet of a box
 pub record NoOutlet (table : List ℕ) (opened row : ℕ) : Type 0 where
   pub none : (q : ℕ) → opened ≤ q → q < row → is_branch table opened q ≡ false
 
@@ -170,28 +158,18 @@ module _ (table : List ℕ) (rows opened : ℕ) where
       (λ e. sym (unfold branch_of in branch-is d w q (omega arith)) ∙ s.none q (leb-true opened q e) h)
       (λ e. let a = leb-false opened q e in let b = owner-low d q in rw (ne_eqb (owner d q) opened (λ z. absurd (omega arith))) (and-false (is_kind d branch q)))
 
-  pub outlet-start : NoOutlet table opened opened
-  outlet-start = record { none = λ q a b. absurd (omega arith) }
-
-  pub outlet-on : (row : ℕ) → is_branch table opened row ≡ false → NoOutlet table opened row → NoOutlet table opened (row + 1)
-  outlet-on row e s = record {
-    none = λ q a b. decide (eqb q row) (λ z. rw (eqb-true q row z) e) (λ z. let ne = eqb-false q row z in s.none q a (omega arith));
-  }
-
-  pub outlet-found : (row : ℕ) → row < rows → is_branch table opened row ≡ true → NoOutlet table opened row → OutletRead table rows opened row
+  pub outlet-is : (r : Option ℕ) → MatchOption r ((q : ℕ) → opened ≤ q → q < rows → is_branch table opened q ≡ false)
+      (λ b. (opened ≤ b) × (b < rows) × (is_branch table opened b ≡ true) × ((q : ℕ) → opened ≤ q → q < b → is_branch table opened q ≡ false)) → OutletRead table rows opened (unwrap_or r rows)
   unfolding first_outlet
-  outlet-found row l e s = record {
-    low = omega arith;
-    is = λ d w. let n = w.kinds.count in
-        sym (least-is (row_count d) (branch_of d opened) row (omega arith) (sym (branch-is d w row l) ∙ e) (before d w row (omega arith) s));
-  }
-
-  pub outlet-none : (row : ℕ) → rows ≤ row → NoOutlet table opened row → OutletRead table rows opened rows
-  unfolding first_outlet
-  outlet-none row l s = record {
+  outlet-is None h = record {
     low = omega arith;
     is = λ d w. let n = w.kinds.count in n ∙ sym (least-none (row_count d) (branch_of d opened)
-        (λ q h. before d w rows (omega arith) (record { none = λ p a b. s.none p a (omega arith) }) q (omega arith)));
+        (λ q m. before d w rows (omega arith) (record { none = h }) q (omega arith)));
+  }
+  outlet-is (Some b) h = let l : b < rows = h.1 in record {
+    low = omega arith;
+    is = λ d w. let n = w.kinds.count in
+        sym (least-is (row_count d) (branch_of d opened) b (omega arith) (sym (branch-is d w b l) ∙ h.2) (before d w b (omega arith) (record { none = h.3 })));
   }
 
 -- ---- scenarios, row by row
@@ -221,7 +199,7 @@ module _ (table : List ℕ) (rows : ℕ) where
       none = λ d w q m. decide (eqb q row) (λ z. rw (eqb-true q row z) (sym (h.judged d w l) ∙ e)) (λ z. let ne = eqb-false q row z in s.none d w q (omega arith));
     }
 
-    pub falls-found : (r : Bool) → row < rows → ScenarioRead table rows row r → r ≡ true → ScenariosRead table rows (record { number = 50; row = row })
+    pub falls-found : (r : Bool) → row < rows → ScenarioRead table rows row r → r ≡ true → ScenariosRead table rows (Err (record { reason = ScenarioFallsThrough; value = row }))
     falls-found r l h e = record {
       within = omega arith;
       none = λ z. absurd (omega arith);
@@ -229,7 +207,7 @@ module _ (table : List ℕ) (rows : ℕ) where
           rows-faulty d (scenario_fault d) row (omega arith) (rw x (λ z. absurd (omega arith))) (λ p m. rw (s.none d w p m)) on ∙ rw x;
     }
 
-    pub falls-never : rows ≤ row → ScenariosRead table rows (record { number = 0; row = 0 })
+    pub falls-never : rows ≤ row → ScenariosRead table rows (Ok tt)
     falls-never l = record {
       within = omega arith;
       none = λ z. refl;

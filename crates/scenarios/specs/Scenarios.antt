@@ -1,13 +1,13 @@
 -- What the table says of runs that fall through, and of scenarios that do. Assumes nothing.
-use Rattle.std.specs.Prelude.{ℕ, ◌≤◌, ◌<◌, ◌≡◌, Bool, true, false, not, ◌&&◌, ◌||◌, List, leb, eqb}
+use Rattle.std.specs.Prelude.{ℕ, ◌≤◌, ◌<◌, ◌≡◌, Bool, true, false, not, ◌&&◌, ◌||◌, List, leb, eqb, Result}
 use Rattle.effbd.specs.Ranges.{all_below}
-use Rattle.effbd.specs.Answers.{Outcome, unless}
+use Rattle.effbd.specs.Answers.{Outcome, unless, said, refusal_number, refusal_value}
+use Rattle.effbd.specs.declared.refusals.Refusal.{Refusal}
 use Rattle.effbd.specs.Diagrams.{Diagram, row_count, kills}
 use Rattle.effbd.specs.Nesting.{owner, branch_ended, is_close, first_outlet, ends_branch, falls_into, scenario_falls, scenario_fault, unless_row}
 use Rattle.diagram_table.specs.Cells.{kind_in, first_in, owner_in, branch_in, loop_in}
 use Rattle.nesting.specs.declared.Part.{Part}
 use Rattle.nesting.specs.declared.Part.TheVariants.{Opens, Turns, Closes, Stays}
-use Rattle.nesting.specs.declared.Judgement.{Judgement}
 use Rattle.nesting.specs.Runs.{part_of}
 use Rattle.diagram_structure.specs.Walked.{Walked}
 use Rattle.scenarios.specs.declared.Branches.{Branches}
@@ -79,8 +79,8 @@ pub record ScenarioRead (table : List ℕ) (rows row : ℕ) (r : Bool) : Type 0 
 
 -- the scenarios of the table's rows were judged: every diagram that has their kinds, first fields and structure, and that the walk let pass, is turned
 -- away at that row with that number, or goes on
-pub record ScenariosRead (table : List ℕ) (rows : ℕ) (r : Judgement) : Type 0 where
-  pub within : r.row ≤ rows
+pub record ScenariosRead (table : List ℕ) (rows : ℕ) (r : Result (Unit {0}) Refusal) : Type 0 where
+  pub within : refusal_value (said r) ≤ rows
   -- "0 and 0 for none"
-  pub none : r.number ≡ 0 → r.row ≡ 0
-  pub judged : (d : Diagram) → Walked d rows table → (on : Outcome Diagram) → unless_row d (scenario_fault d) on ≡ unless r.number r.row on
+  pub none : refusal_number (said r) ≡ 0 → refusal_value (said r) ≡ 0
+  pub judged : (d : Diagram) → Walked d rows table → (on : Outcome Diagram) → unless_row d (scenario_fault d) on ≡ unless (refusal_number (said r)) (refusal_value (said r)) on

@@ -9,8 +9,8 @@ ghost use Rattle.effbd.specs.Moves.{most_word};
 ghost use Rattle.scenarios.specs.Scenarios.{leaves_in, left_in, ends_in, killer_in, with_branch, FallsRead, BranchesRead, OutletRead, ScenarioRead, ScenariosRead};
 
 use diagram_table::{BRANCH_ENDED, FIRST, LOOP, OWNER};
-use effbd::refusals;
-use nesting::{Judgement, Part};
+use effbd::{Reason, Refusal};
+use nesting::Part;
 
 // How the branches of an AND or OR fall through: all of them, some of them, some that kills.
 #[derive(Clone, Copy)]
@@ -21,46 +21,35 @@ pub(crate) struct Branches {
 }
 
 // Is row `row` an LE that leaves the loop of the LP `first`?
+#[tactic(auto, unfolding(crate::specs::Scenarios::leaves_in))]
 fn leaves(table: &[u16], first: u32, row: u32) -> bool
     ensures { result ≡ leaves_in table.now first row }
 {
-    if diagram_table::kind(table, row) != kinds::LOOP_EXIT {
-        return false;
-    }
-    diagram_table::cell(table, LOOP, row) as u32 == first
+    diagram_table::kind(table, row) == kinds::LOOP_EXIT
+        && diagram_table::cell(table, LOOP, row) as u32 == first
 }
 
 // Does some LE leave the loop from LP `first` to its close, row `last`?
 fn loop_left(table: &[u16], first: u32, last: u32) -> bool
     ensures { result ≡ left_in table.now first last }
 {
-    let mut row = first;
-    while row < last {
-        if leaves(table, first, row) {
-            return true;
-        }
-        row += 1;
-    }
-    false
+    (first..last).any(|row| leaves(table, first, row))
 }
 
 // Is row `row` a BRANCH or close of the construct that row `owner` opens?
+#[tactic(auto, unfolding(crate::specs::Scenarios::ends_in))]
 fn ends_branch(table: &[u16], owner: u32, row: u32) -> bool
     ensures { result ≡ ends_in table.now owner row }
 {
-    if diagram_table::cell(table, OWNER, row) as u32 != owner {
-        return false;
-    }
-    let part = nesting::part_of(diagram_table::kind(table, row));
-    match part {
-        Part::Opens => false,
-        Part::Turns => true,
-        Part::Closes => true,
-        Part::Stays => false,
-    }
+    diagram_table::cell(table, OWNER, row) as u32 == owner
+        && matches!(
+            nesting::part_of(diagram_table::kind(table, row)),
+            Part::Turns | Part::Closes
+        )
 }
 
 // Does the branch kill that row `row`, a BRANCH or close, ends?
+#[tactic(auto, unfolding(crate::specs::Scenarios::killer_in))]
 fn ends_killer(table: &[u16], row: u32) -> bool
     ensures { result ≡ killer_in table.now row }
 {
@@ -73,16 +62,13 @@ fn with_branch(falls: bool, killing: bool, fall: Branches) -> Branches
     ensures { result ≡ with_branch falls killing fall }
 {
     if falls {
-        return Branches {
-            all: fall.all,
+        Branches {
             some: true,
             killing: killing || fall.killing,
-        };
-    }
-    Branches {
-        all: false,
-        some: fall.some,
-        killing: fall.killing,
+            ..fall
+        }
+    } else {
+        Branches { all: false, ..fall }
     }
 }
 
@@ -98,14 +84,12 @@ fn branches_fall(table: &[u16], close: u32) -> Branches
         some: false,
         killing: false,
     };
-    let mut row = owner + 2;
-    while row <= close {
+    for row in owner + 2..close + 1 {
         if ends_branch(table, owner, row) {
             let falls = falls_into(table, row);
             let killing = ends_killer(table, row);
             fall = with_branch(falls, killing, fall);
         }
-        row += 1;
     }
     fall
 }
@@ -121,16 +105,12 @@ fn falls_into(table: &[u16], row: u32) -> bool
     }
     let last = row - 1;
     match diagram_table::kind(table, last) {
-        kinds::LOOP_EXIT => false,
-        kinds::BOX_EXIT => false,
+        kinds::LOOP_EXIT | kinds::BOX_EXIT => false,
         kinds::LP_CLOSE => {
             let first = diagram_table::cell(table, OWNER, last) as u32;
             loop_left(table, first, last)
         }
-        kinds::OR_CLOSE => {
-            let fall = branches_fall(table, last);
-            fall.some
-        }
+        kinds::OR_CLOSE => branches_fall(table, last).some,
         kinds::AND_CLOSE => {
             let fall = branches_fall(table, last);
             fall.all || fall.killing
@@ -139,18 +119,13 @@ fn falls_into(table: &[u16], row: u32) -> bool
     }
 }
 
-// The first BRANCH of the box that row `opened` opens, behind its scenario; the number of rows where it has none.
+// The first BRANCH of the box that row `opened` opens, behind its scenario; where it has none the number of rows, which ends the run then.
 fn first_outlet(table: &[u16], rows: u32, opened: u32) -> u32
     ensures { OutletRead table.now rows opened result }
 {
-    let mut row = opened;
-    while row < rows {
-        if diagram_table::is_branch(table, opened, row) {
-            return row;
-        }
-        row += 1;
-    }
-    rows
+    (opened..rows)
+        .find(|row| diagram_table::is_branch(table, opened, *row))
+        .unwrap_or(rows)
 }
 
 // Does row `row` open a box whose scenario falls through?
@@ -158,27 +133,22 @@ fn scenario_falls(table: &[u16], rows: u32, row: u32) -> bool
     requires { rows ≤ most_word }
     ensures { ScenarioRead table.now rows row result }
 {
-    if diagram_table::kind(table, row) != kinds::BOX_OPEN {
-        return false;
-    }
-    let outlet = first_outlet(table, rows, row);
-    falls_into(table, outlet)
+    diagram_table::kind(table, row) == kinds::BOX_OPEN
+        && falls_into(table, first_outlet(table, rows, row))
 }
 
 // Judges the scenarios of all rows of a diagram's table whose walk is clean.
-pub fn read_scenarios(table: &[u16], rows: u16) -> Judgement
+pub fn read_scenarios(table: &[u16], rows: u16) -> Result<(), Refusal>
     ensures { ScenariosRead table.now rows result }
 {
     let count = rows as u32;
-    let mut row: u32 = 0;
-    while row < count {
+    for row in 0..count {
         if scenario_falls(table, count, row) {
-            return Judgement {
-                number: refusals::SCENARIO_FALLS_THROUGH,
-                row: row as usize,
-            };
+            return Err(Refusal {
+                reason: Reason::ScenarioFallsThrough,
+                value: row,
+            });
         }
-        row += 1;
     }
-    Judgement { number: 0, row: 0 }
+    Ok(())
 }

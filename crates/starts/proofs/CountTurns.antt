@@ -35,6 +35,14 @@ use Rattle.starts.specs.Counting.{gap_bytes, no_gaps, no_window, waited, runs, T
 use Rattle.starts.proofs.GapLaws.{starts-many, reach_few}
 use Rattle.starts.proofs.AcceptedMoves.{code_one, wait-leaves, found-ready}
 
+-- a window of zeros is the first one
+pub window-none : (w : Window) → (w.time ≡ 0) × ((w.latest ≡ 0) × ((w.since ≡ 0) × ((w.starts ≡ 0) × ((w.from ≡ 0) × ((w.to ≡ 0) × ((w.most ≡ 0) × (w.at ≡ 0))))))) → w ≡ no_window
+window-none w z = zeros w.time w.latest w.since w.starts w.from w.to w.most w.at z.0 z.1.0 z.1.1.0 z.1.1.1.0 z.1.1.1.1.0 z.1.1.1.1.1.0 z.1.1.1.1.1.1.0 z.1.1.1.1.1.1.1
+  where
+    zeros : (a b c d e f g h : ℕ) → a ≡ 0 → b ≡ 0 → c ≡ 0 → d ≡ 0 → e ≡ 0 → f ≡ 0 → g ≡ 0 → h ≡ 0
+        → ◌≡◌ {A = Window} (record { time = a; latest = b; since = c; starts = d; from = e; to = f; most = g; at = h }) no_window
+    zeros a b c d e f g h p q r s t u v x = rw (p, q, r, s, t, u, v, x)
+
 module _ (file log : List ℕ) (rows items : ℕ) (table : List ℕ) (row : ℕ) where
   -- THEOREM: the walk begins at the fresh state, with an empty window
   pub count-begins : (h : HoldsPlant file rows items table) (words gaps : List ℕ) → starts_fault table rows log row ≡ 0 → move_count log ≤ most_moves → kind_in table row ≡ 16

@@ -1,13 +1,7 @@
 -- One accepted move and the window: a wait, a step that is no start of the row, a start.
-use Prim.Native.Nat.{ℕ, ◌+◌}
-use mathlib.Core.Path.{◌≡◌, refl, sym, ◌∙◌, ap}
-use mathlib.Core.Logic.{◌≢◌}
-use mathlib.Core.Bool.{Bool, true, false, not, ◌&&◌}
-use mathlib.Core.List.{List}
-use native.Mathlib.Omega.{arith}
-use lib.Dec.{eqb}
+use Rattle.std.specs.Prelude.{ℕ, ◌+◌, ◌≡◌, ◌≢◌, true, false, ◌&&◌, List, eqb}
+use Rattle.std.proofs.Common.{refl, ap, arith}
 use borrow.Author.Tests.{eq-eqb, ne_eqb}
-use Rattle.effbd.specs.Answers.{Outcome, accepted, refused, is_accepted}
 use Rattle.effbd.specs.Starts.{activity}
 use Rattle.ranges.specs.Tests.{clash}
 use Rattle.starts.specs.Windows.{Joining, Counted}
@@ -46,8 +40,3 @@ module _ (row code argument : ℕ) (words gaps : List ℕ) (w : Window) where
 
     pub turn-starts : (next : List ℕ) (s : Window) → Counted gaps next w s → Turned row code argument words gaps next w s
     turn-starts next s c = record { counted = λ y. c; passed = λ y. clash running y }
-
--- a move that is not refused stands
-pub stands : (o : Outcome ℕ) (flag : Bool) → flag ≡ not (is_accepted o) → flag ≡ false → (v : ℕ) × (o ≡ accepted v)
-stands (accepted v) flag f y = (v, refl)
-stands (refused n v) flag f y = clash refl (sym f ∙ y)

@@ -1,23 +1,24 @@
 -- What the call answers, and what it leaves in the number lent for t: at a file's refusal, at 40 and 41, at 42, and where the log stood.
-use Prim.Native.Nat.{ℕ, zero, suc, ◌%◌, ◌≤◌}
-use mathlib.Core.Path.{◌≡◌, refl, sym, ◌∙◌, ap, ap₂, subst}
-use mathlib.Core.Logic.{◌≢◌}
-use mathlib.Core.Bool.{Bool, true, false, not, cond, ◌&&◌}
-use mathlib.Core.List.{List, [], ◌++◌, append-nil}
-use native.Mathlib.Omega.{arith}
-use lib.ListN.{length, drop, drop_of_length-le}
-use lib.Dec.{leb, ltb, eqb}
+use Rattle.std.specs.Prelude.{ℕ, zero, suc, ◌%◌, ◌≤◌, ◌≡◌, ◌≢◌, Bool, true, false, cond, ◌&&◌, List, [], ◌++◌, length, drop, leb, ltb, eqb, Option, Some, None, Err}
+use Rattle.std.specs.Option.{option_or}
+use Rattle.std.proofs.Common.{refl, sym, ◌∙◌, ap, ap₂, subst, arith}
+use mathlib.Core.List.{append-nil}
+use lib.ListN.{drop_of_length-le}
 use borrow.Author.Tests.{eqb-true, ne_eqb, leb-true, ltb-true, ltb-false}
-use Rattle.effbd.specs.Answers.{Outcome, accepted, refused, is_accepted, unless, and_then, refusal_number, refusal_value}
+use Rattle.effbd.specs.declared.refusals.Reason.{Reason}
+use Rattle.effbd.specs.declared.refusals.Refusal.{Refusal}
+use Rattle.effbd.specs.Answers.{Outcome, accepted, refused, unless, and_then, number, fault}
+use Rattle.ranges.specs.Reasons.{number-some}
 use Rattle.effbd.specs.Diagrams.{Diagram, function, row, is_kind}
-use Rattle.effbd.specs.Nesting.{read_diagram}
 use Rattle.effbd.specs.States.{fresh_words}
 use Rattle.effbd.specs.Logs.{Setpoint, setpoints, move_count, most_moves, log_fault, played}
 use Rattle.effbd.specs.Starts.{Start, starts_from, starts, times_of, Busiest, busiest, starts_of, starts_told_as, log_starts}
-use Rattle.ranges.specs.Tests.{decide, clash, and_right}
+use Rattle.ranges.specs.Tests.{decide, and_right}
 use Rattle.agreement.specs.Basics.{kind-past}
 use Rattle.diagram_table.specs.Cells.{kind_in}
 use Rattle.diagram_table.specs.Held.{HoldsPlant}
+use Rattle.diagram_file.specs.Tables.{Parsed}
+use Rattle.diagram_file.proofs.Promises.{turned-away}
 use Rattle.log_laws.specs.LogMoves.{setpoints-many}
 use Rattle.log_laws.specs.Spans.{Most, most-one, log-busiest}
 use Rattle.logs.specs.Walk.{Walk}
@@ -27,6 +28,14 @@ use Rattle.starts.specs.Windows.{best_of}
 use Rattle.starts.specs.declared.spans.Window.{Window}
 use Rattle.starts.specs.Counting.{no_gaps, no_window, Counting}
 use Rattle.starts.proofs.CountTurns.{count-begins}
+
+-- the first of two faults
+pub first-fault : (a b o : Option Reason) {f n : ℕ} → o ≡ option_or a b → fault a ≡ f → fault b ≡ n → fault o ≡ cond (eqb f 0) n f
+first-fault a b o e ea eb = ap fault e ∙ (either a ∙ ap₂ (λ (x y : ℕ). cond (eqb x 0) y x) ea eb)
+  where
+    either : (a : Option Reason) → fault (option_or a b) ≡ cond (eqb (fault a) 0) (fault b) (fault a)
+    either None = refl
+    either (Some r) = rw (ne_eqb (number r) 0 (number-some r))
 
 -- what a call is told and leaves
 abbrev pub Tells : (file log : List ℕ) (row before : ℕ) (answer : Outcome ℕ) (after : ℕ) → Type 0
@@ -42,12 +51,8 @@ module _ (file log : List ℕ) (r before : ℕ) where
   tells-refused n v e = tells (refused n v) e
 
   -- THEOREM: a file's own refusal
-  pub file-off : (n v : ℕ) → n ≡ refusal_number (read_diagram file) → v ≡ refusal_value (read_diagram file) → n ≢ 0 → Tells file log r before (refused n v) before
-  file-off n v a b off = tells-refused n v (unfold starts_of in go (read_diagram file) _ (λ e. off (a ∙ e)) ∙ sym (ap₂ refused a b))
-    where
-      go : (o : Outcome Diagram) (f : Diagram → Outcome (List Start)) → refusal_number o ≢ 0 → and_then o f ≡ refused (refusal_number o) (refusal_value o)
-      go (accepted d) f m = absurd (m refl)
-      go (refused number value) f m = refl
+  pub file-off : (e : Refusal) → Parsed file (Err e) → Tells file log r before (refused (number e.reason) e.value) before
+  file-off e w = tells-refused (number e.reason) e.value (unfold starts_of in rw (turned-away file e w))
 
   module _ (rows items : ℕ) (table : List ℕ) (h : HoldsPlant file rows items table) where
     abbrev d : Diagram
@@ -123,16 +128,8 @@ module _ (file log : List ℕ) (r before : ℕ) where
     stood c last e b m = subst (λ (x : Busiest). Tells file log r before (accepted x.most) x.at) (sym (most-one (times_of (starts d r log)) b (busiest (times_of (starts d r log))) m (log-busiest d r log)))
         (tells (accepted (starts d r log)) (clean-on c ∙ (unfold rest in ap (λ (o : Outcome (List ℕ)). and_then o (λ last. accepted (starts d r log))) e)))
 
-  -- of the walk at its end, or where a move is refused
+  -- of the walk at its end
   module _ (rows items : ℕ) (table : List ℕ) where
-    pub told-stopped : (h : HoldsPlant file rows items table) → starts_fault table rows log r ≡ 0 → (answer : Outcome ℕ) (flag : Bool) → flag ≡ not (is_accepted answer) → flag ≡ true
-        → ((n v : ℕ) → answer ≡ refused n v → played h.held.diagram log ≡ refused n v) → Tells file log r before answer before
-    told-stopped h c answer flag f y off = go answer refl (sym f ∙ y)
-      where
-        go : (o : Outcome ℕ) → answer ≡ o → not (is_accepted o) ≡ true → Tells file log r before o before
-        go (accepted v) e z = clash z refl
-        go (refused n v) e z = move-off rows items table h c n v (off n v e)
-
     pub told-stood : (i : ℕ) (words gaps : List ℕ) (w : Window) → Counting file log rows items table r i words gaps w → i ≡ move_count log → Tells file log r before (accepted w.most) w.at
     unfolding starts_from
     told-stood i words gaps w m e = stood rows items table m.holds m.clean words

@@ -1,17 +1,11 @@
 -- The window over the last hour: its loop's beginning, turn and end, a start that joins it, alone or not, and the most so far.
-use Prim.Native.Nat.{ℕ, zero, suc, ◌+◌, ◌-◌, ◌≤◌, ◌<◌}
-use mathlib.Core.Path.{◌≡◌, refl, sym, ◌∙◌, ap, ap₂, subst}
-use mathlib.Core.Logic.{◌≢◌}
-use mathlib.Core.Bool.{Bool, true, false, cond}
-use mathlib.Core.List.{List, [], ◌∷◌, ◌++◌}
-use native.Mathlib.Omega.{arith}
-use lib.ListN.{length, get_or}
-use lib.Dec.{eqb}
+use Rattle.std.specs.Prelude.{ℕ, zero, suc, ◌+◌, ◌-◌, ◌≤◌, ◌<◌, ◌≡◌, ◌≢◌, Bool, true, false, cond, List, [], ◌∷◌, ◌++◌, length, get_or, eqb}
+use Rattle.std.proofs.Common.{refl, sym, ◌∙◌, ap, ap₂, subst, arith}
 use borrow.Author.Tests.{le-leb, lt-leb, lt-ltb, le-ltb}
 use Rattle.effbd.specs.Starts.{hour}
 use Rattle.log_laws.specs.SpanWalk.{reach, better}
 use Rattle.starts.specs.Gaps.{gap_at, size_at, size_of, gap_put, times_in, last_in, end_in, starts_in}
-use Rattle.starts.specs.Windows.{in_window, Held, Late, Following, Followed, Joining, Joined, Counted}
+use Rattle.starts.specs.Windows.{in_window, best_of, Held, Late, Following, Followed, Joining, Joined, Counted}
 use Rattle.starts.specs.declared.spans.Window.{Window}
 use Rattle.starts.proofs.GapLaws.{last-low, end_low, starts-many, reach-old, reach_now, put-times, put_last, put-end}
 
@@ -20,24 +14,43 @@ held_low : (gaps : List ℕ) (to latest starts from since : ℕ) → Held gaps t
 held_low gaps to latest starts from since h = let e = h.leads in let f = h.ends in
     let z = last-low gaps h.others from since in let y = end_low gaps h.others from in (omega arith, omega arith)
 
-module _ (gaps : List ℕ) (w : Window) where
-  pub follow-begins : Late gaps w → Following gaps w w.since w.starts w.from
-  follow-begins h = record { few = h.few; held = h.held; same = refl }
+-- what stays while starts leave the window
+pub record Kept (w r : Window) : Type 0 where
+  pub time : r.time ≡ w.time
+  pub latest : r.latest ≡ w.latest
+  pub to : r.to ≡ w.to
+  pub best : best_of r ≡ best_of w
 
-  module _ (since starts from : ℕ) (f : Following gaps w since starts from) where
-    pub follow-low : (since ≤ w.time) × (from < 65536)
-    follow-low = let z = held_low gaps w.to w.time starts from since f.held in let y = z.1 in let x = f.few in (z.0, omega arith)
+module _ (gaps : List ℕ) (w : Window) where
+  pub follow-begins : Late gaps w → Following gaps w w.since w.starts w.from × Kept w w
+  follow-begins h = (record { few = h.few; held = h.held; same = refl }, record { time = refl; latest = refl; to = refl; best = refl })
+
+  module _ (r : Window) (k : Kept w r) (f : Following gaps w r.since r.starts r.from) where
+    abbrev since : ℕ
+    since = r.since
+
+    abbrev starts : ℕ
+    starts = r.starts
+
+    abbrev from : ℕ
+    from = r.from
+
+    pub follow-low : (since ≤ r.time) × (from < 65536)
+    follow-low = let z = held_low gaps w.to w.time starts from since f.held in let y = z.1 in let x = f.few in let t = k.time in (omega (arith, z.0), omega arith)
 
     -- one that is an hour old is not the latest
-    module _ (old : hour ≤ w.time - since) where
+    module _ (now_old : hour ≤ r.time - since) where
+      hour_old : hour ≤ w.time - since
+      hour_old = let t = k.time in omega arith
+
       pub follow-some : 1 ≤ starts
       follow-some = let c = f.held.count in omega arith
 
-      pub follow-fits : since + gap_at gaps from ≤ w.time
-      follow-fits = go f.held.others f.held.leads
+      pub follow-fits : since + gap_at gaps from ≤ r.time
+      follow-fits = let t = k.time in let z = go f.held.others f.held.leads in omega arith
         where
           go : (n : ℕ) → w.time ≡ last_in gaps n from since → since + gap_at gaps from ≤ w.time
-          go zero e = absurd (unfold last_in in let z : w.time ≡ since = e in omega arith)
+          go zero e = absurd (unfold last_in in let z : w.time ≡ since = e in let o = hour_old in omega arith)
           go (suc n) e = unfold last_in in let z = last-low gaps n (from + size_at gaps from) (since + gap_at gaps from) in let y : w.time ≡ last_in gaps n (from + size_at gaps from) (since + gap_at gaps from) = e in omega arith
 
       pub follow-on : (next end : ℕ) → next ≡ gap_at gaps from → end ≡ from + size_at gaps from → Following gaps w (since + next) (starts - 1) end
@@ -45,29 +58,29 @@ module _ (gaps : List ℕ) (w : Window) where
       follow-on next end a b = go f.held.others f.held.count f.held.ends f.held.leads
         where
           go : (n : ℕ) → starts ≡ suc n → w.to ≡ end_in gaps n from → w.time ≡ last_in gaps n from since → Following gaps w (since + next) (starts - 1) end
-          go zero c d e = absurd (let z : w.time ≡ since = e in omega arith)
+          go zero c d e = absurd (let z : w.time ≡ since = e in let o = hour_old in omega arith)
           go (suc n) c d e = rw (a, b) (record {
             few = f.few;
             held = record { others = n; count = omega arith; ends = d; leads = e };
             same = f.same ∙ (ap (λ (k : ℕ). reach w.time (starts_in gaps k from since)) c
-                ∙ (rw (reach, le-leb (since + hour) w.time (omega arith)) refl
+                ∙ (rw (reach, le-leb (since + hour) w.time (let o = hour_old in omega arith)) refl
                 ∙ sym (ap (λ (k : ℕ). reach w.time (starts_in gaps k (from + size_at gaps from) (since + gap_at gaps from))) (let z : starts - 1 ≡ suc n = omega arith in z))));
           })
 
-    pub follow-ends : w.time - since < hour → Followed gaps w (record { time = w.time; latest = w.latest; since = since; starts = starts; from = from; to = w.to; most = w.most; at = w.at })
+    pub follow-ends : r.time - since < hour → Followed gaps w r
     unfolding starts_in
     follow-ends l = record {
       held = f.held;
       times = sym (f.same ∙ near f.held.others f.held.count);
-      time = refl;
-      latest = refl;
-      to = refl;
-      best = refl;
+      time = k.time;
+      latest = k.latest;
+      to = k.to;
+      best = k.best;
     }
       where
         near : (n : ℕ) → starts ≡ suc n → reach w.time (starts_in gaps starts from since) ≡ starts_in gaps starts from since
         near n c = ap (λ (k : ℕ). reach w.time (starts_in gaps k from since)) c
-            ∙ (rw (reach, lt-leb (since + hour) w.time (let z = follow-low.0 in omega arith)) refl ∙ sym (ap (λ (k : ℕ). starts_in gaps k from since) c))
+            ∙ (rw (reach, lt-leb (since + hour) w.time (let z = follow-low.0 in let t = k.time in omega arith)) refl ∙ sym (ap (λ (k : ℕ). starts_in gaps k from since) c))
 
 -- a start joins the window
 module _ (gaps : List ℕ) (w : Window) (j : Joining gaps w) where

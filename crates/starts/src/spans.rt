@@ -1,17 +1,18 @@
 // The busiest hour: a window over the starts of the last hour, which goes with the log. Between its starts it keeps the gaps, in bytes.
 ghost use Rattle.std.specs.Prelude.{◌≡◌, ◌+◌, ◌<◌};
 ghost use Rattle.starts.specs.Gaps.{gap_at, size_at, size_of, gap_put};
+ghost use Rattle.starts.specs.Counting.{waited};
 ghost use Rattle.starts.specs.Windows.{Late, Followed, Joining, Joined, Counted};
 
 // The ticks of an hour.
 const HOUR: u32 = 36000;
 
-// The bytes of gaps for every log: a start and the next are two moves apart or more, three where time passes between them.
+// The bytes of gaps for every log (fixed memory, with where they begin and end in the window: there is no heap): a start and the next are two moves apart or more, three where time passes between them.
 pub(crate) const GAP_BYTES: usize = 43692;
 
 // The log's time and the latest start's; of the starts in the window the first one's time and how many there are; where their gaps begin
 // and end; the most starts of an hour so far and where it begins.
-#[derive(Clone, Copy)]
+#[derive(Clone, Copy, Default)]
 pub(crate) struct Window {
     pub time: u32,
     pub latest: u32,
@@ -63,81 +64,55 @@ fn put_gap(gaps: &mut [u8], at: u32, gap: u32) -> u32
     at + 2
 }
 
-// The starts that are an hour old or older leave the window.
-fn follow(gaps: &[u8], window: Window) -> Window
-    requires { Late gaps.now window }
-    ensures { Followed gaps.now window result }
-{
-    let mut since = window.since;
-    let mut starts = window.starts;
-    let mut from = window.from;
-    while HOUR <= window.time - since {
-        let gap = gap_at(gaps, from);
-        since = since + gap.ticks;
-        starts = starts - 1;
-        from = gap.end;
+impl Window {
+    // Time passes.
+    pub(crate) fn wait(&mut self, ticks: u16)
+        requires { self.old.time + ticks < 4294967296 }
+        ensures { self.new ≡ waited ticks self.old }
+    {
+        self.time += ticks as u32;
     }
-    Window {
-        time: window.time,
-        latest: window.latest,
-        since: since,
-        starts: starts,
-        from: from,
-        to: window.to,
-        most: window.most,
-        at: window.at,
-    }
-}
 
-// A start at the log's time joins the window.
-fn join(gaps: &mut [u8], window: Window) -> Window
-    requires { Joining gaps.old window }
-    ensures { Joined gaps.old gaps.new window result }
-{
-    let gap = window.time - window.latest;
-    if window.starts == 0 || HOUR <= gap {
-        return Window {
-            time: window.time,
-            latest: window.time,
-            since: window.time,
-            starts: 1,
-            from: window.to,
-            to: window.to,
-            most: window.most,
-            at: window.at,
-        };
+    // The starts that are an hour old or older leave the window.
+    fn follow(&mut self, gaps: &[u8])
+        requires { Late gaps.now self.old }
+        ensures { Followed gaps.now self.old self.new }
+    {
+        while HOUR <= self.time - self.since {
+            let gap = gap_at(gaps, self.from);
+            self.since += gap.ticks;
+            self.starts -= 1;
+            self.from = gap.end;
+        }
     }
-    let to = put_gap(gaps, window.to, gap);
-    let joined = Window {
-        time: window.time,
-        latest: window.time,
-        since: window.since,
-        starts: window.starts + 1,
-        from: window.from,
-        to: to,
-        most: window.most,
-        at: window.at,
-    };
-    follow(gaps, joined)
-}
 
-// A start at the log's time is counted: in the hour up to it there may be more than ever before.
-pub(crate) fn count_start(gaps: &mut [u8], window: Window) -> Window
-    requires { Joining gaps.old window }
-    ensures { Counted gaps.old gaps.new window result }
-{
-    let joined = join(gaps, window);
-    if joined.most < joined.starts {
-        return Window {
-            time: joined.time,
-            latest: joined.latest,
-            since: joined.since,
-            starts: joined.starts,
-            from: joined.from,
-            to: joined.to,
-            most: joined.starts,
-            at: joined.since,
-        };
+    // A start at the log's time joins the window.
+    fn join(&mut self, gaps: &mut [u8])
+        requires { Joining gaps.old self.old }
+        ensures { Joined gaps.old gaps.new self.old self.new }
+    {
+        let gap = self.time - self.latest;
+        self.latest = self.time;
+        if self.starts == 0 || HOUR <= gap {
+            self.since = self.time;
+            self.starts = 1;
+            self.from = self.to;
+            return;
+        }
+        self.to = put_gap(gaps, self.to, gap);
+        self.starts += 1;
+        self.follow(gaps);
     }
-    joined
+
+    // A start at the log's time is counted: in the hour up to it there may be more than ever before.
+    pub(crate) fn count_start(&mut self, gaps: &mut [u8])
+        requires { Joining gaps.old self.old }
+        ensures { Counted gaps.old gaps.new self.old self.new }
+    {
+        self.join(gaps);
+        if self.most < self.starts {
+            self.most = self.starts;
+            self.at = self.since;
+        }
+    }
 }

@@ -9,6 +9,7 @@ use diagram_table::{COPIES, COUNT, FIRST_COPY, RANK, RECEIVERS, SOME_TRIGGER, TR
 use effbd::limits::MOST_ITEMS;
 
 // The count of an item at first: a trigger's shared count is 0.
+#[tactic(auto, unfolding(diagram_table::specs::Cells::shared_in))]
 pub fn shared_count(table: &[u16], item: u32) -> u16
     ensures { result ≡ shared_in table.now item }
 {
@@ -19,6 +20,7 @@ pub fn shared_count(table: &[u16], item: u32) -> u16
 }
 
 // How many counts a state has behind its rows: the items', and behind these the copies of triggers.
+#[tactic(auto, unfolding(diagram_table::specs::Cells::counts_in))]
 pub fn count_total(table: &[u16], items: u16) -> u32
     ensures { result ≡ counts_in table.now items }
 {
@@ -29,6 +31,7 @@ pub fn count_total(table: &[u16], items: u16) -> u32
 }
 
 // The first of the counts that use `index` of a row changes, which names `item`: of a trigger a take changes the row's own copy, a give all.
+#[tactic(auto, unfolding(diagram_table::specs::Cells::run_first))]
 pub fn run_first(table: &[u16], giving: bool, row: u32, index: u32, item: u32) -> u32
     ensures { result ≡ run_first table.now giving row index item }
 {
@@ -47,13 +50,11 @@ pub fn run_first(table: &[u16], giving: bool, row: u32, index: u32, item: u32) -
 }
 
 // How many they are.
+#[tactic(auto, unfolding(diagram_table::specs::Cells::run_length))]
 pub fn run_length(table: &[u16], giving: bool, item: u32) -> u32
     ensures { result ≡ run_length table.now giving item }
 {
-    if !giving {
-        return 1;
-    }
-    if diagram_table::cell(table, TRIGGER, item) == 0 {
+    if !giving || diagram_table::cell(table, TRIGGER, item) == 0 {
         return 1;
     }
     diagram_table::cell(table, RECEIVERS, item) as u32

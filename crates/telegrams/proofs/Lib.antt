@@ -1,2 +1,1 @@
-mod Formed
 pub mod Written

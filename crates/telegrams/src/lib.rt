@@ -9,7 +9,7 @@ ghost use Rattle.telegrams.specs.Forms.{has_form};
 
 use effbd::limits;
 
-// The kinds.
+// The kinds: numbers, since they are words of a telegram's bytes.
 const TELEGRAM: u16 = 48;
 
 const OLD_TELEGRAM: u16 = 47;
@@ -32,10 +32,9 @@ pub const OLD_ARGUMENT: usize = 6;
 fn has_form(bytes: &[u8], length: u16, kind: u16) -> bool
     ensures { result ≡ has_form length kind bytes.now }
 {
-    if bytes.len() != length as usize {
-        return false;
-    }
-    words::word(bytes, 0) == length && words::word(bytes, 2) == kind
+    bytes.len() == length as usize
+        && words::word(bytes, 0) == length
+        && words::word(bytes, 2) == kind
 }
 
 // Whether bytes are a telegram: else 30.
@@ -53,6 +52,7 @@ pub fn is_old_telegram(bytes: &[u8]) -> bool
 }
 
 // Writes a telegram into the first bytes of an area that has room for it, and nothing into another.
+// The writers of both editions stay two: their fields are six and four, and shared would be only the length and the kind.
 pub fn write_telegram(area: &mut [u8], number: u32, station: u16, code: u16, argument: u16)
     ensures { area.new ≡ copied (telegram_of number station code argument) area.old }
 {

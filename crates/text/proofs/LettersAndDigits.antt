@@ -6,19 +6,16 @@ use mathlib.Core.List.{List, [], ◌∷◌, ◌++◌, append_assoc, append-nil}
 use native.Mathlib.Omega.{arith}
 use native.Mathlib.Numerals.{add-one}
 use lib.ListN.{length, take, get_or}
-use lib.Seq.{take-suc, take_all}
+use lib.Seq.{take-suc}
 use borrow.Author.Tests.{lt-ltb, le-ltb}
 use Rattle.effbd.specs.Annex.{digits, number, numbers, line}
+use Rattle.text.specs.declared.Text.{Text}
 use Rattle.text.specs.Laid.{Laid}
 use Rattle.text.specs.LaidLaws.{and_then, same}
 
 -- the letters passed, and one more
-pub letter : {a b c : List ℕ} {at n m : ℕ} (letters : List ℕ) (i x : ℕ) → i < length letters → x ≡ get_or letters i 0
-    → Laid a at b n (take i letters) → Laid b n c m (x ∷ []) → Laid a at c m (take (i + 1) letters)
+pub letter : {a b c : Text} (letters : List ℕ) (i x : ℕ) → i < length letters → x ≡ get_or letters i 0 → Laid a b (take i letters) → Laid b c (x ∷ []) → Laid a c (take (i + 1) letters)
 letter letters i x l e v w = same (ap (λ y. take i letters ++ (y ∷ [])) e ∙ (sym (take-suc letters i 0 l) ∙ ap (λ k. take k letters) (sym (add-one i)))) (and_then v w)
-
-pub all-letters : {a b : List ℕ} {at n : ℕ} (letters : List ℕ) (i : ℕ) → length letters ≤ i → Laid a at b n (take i letters) → Laid a at b n letters
-all-letters letters i h v = same (take_all i letters h) v
 
 -- the digits of a number, by its cases
 pub no-digits : (n : ℕ) → digits 0 n ≡ []

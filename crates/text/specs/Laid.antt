@@ -1,5 +1,6 @@
 -- Bytes laid one after another into a lent area; past its end they change nothing. Assumes nothing.
 use Rattle.std.specs.Prelude.{ℕ, ◌+◌, ◌≡◌, cond, List, [], ◌∷◌, set, ltb}
+use Rattle.text.specs.declared.Text.{Text}
 
 -- the position behind `at`; it stops far above any text
 unfoldable pub behind : ℕ → ℕ
@@ -13,7 +14,8 @@ unfoldable pub reach : ℕ → List ℕ → ℕ
 reach at [] = at
 reach at (b ∷ bytes) = reach (behind at) bytes
 
--- `before`, with the bytes laid into it from `at` on, is `after`, and the next byte is due at `next`
-pub record Laid (before : List ℕ) (at : ℕ) (after : List ℕ) (next : ℕ) (bytes : List ℕ) : Type 0 where
-  pub area : after ≡ lay before at bytes
-  pub reached : next ≡ reach at bytes
+-- the bytes are laid into the text from its position on, the next byte is due behind them, and the lent bytes are still the caller's
+pub record Laid (before after : Text) (bytes : List ℕ) : Type 0 where
+  pub area : after.bytes.now ≡ lay before.bytes.now before.at bytes
+  pub reached : after.at ≡ reach before.at bytes
+  pub lender : after.bytes.ghost_name ≡ before.bytes.ghost_name

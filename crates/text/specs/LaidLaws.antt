@@ -3,6 +3,7 @@ use Rattle.std.specs.Prelude.{ℕ, suc, ◌+◌, ◌≤◌, ◌≡◌, refl, Lis
 use Rattle.std.proofs.Common.{sym, ◌∙◌, ap, subst, append_assoc, append-nil, arith, add-one, length-set, lt-ltb}
 use Rattle.std.proofs.Math.Seq.{drop-nil}
 use Rattle.effbd.specs.Annex.{over}
+use Rattle.text.specs.declared.Text.{Text}
 use Rattle.text.specs.Laid.{behind, lay, reach, Laid}
 
 lay-append : (xs ys area : List ℕ) (at : ℕ) → lay area at (xs ++ ys) ≡ lay (lay area at xs) (reach at xs) ys
@@ -15,51 +16,51 @@ unfolding reach
 reach-append [] ys at = refl
 reach-append (x ∷ xs) ys at = reach-append xs ys (behind at)
 
-pub still : (area : List ℕ) (at : ℕ) → Laid area at area at []
+pub still : (text : Text) → Laid text text []
 unfolding lay reach
-still area at = record { area = refl; reached = refl }
+still text = record { area = refl; reached = refl; lender = refl }
 
-pub one : (before after : List ℕ) (at next b : ℕ) → after ≡ set before at b → next ≡ behind at → Laid before at after next (b ∷ [])
+pub one : (before after : Text) (b : ℕ) → after.bytes.now ≡ set before.bytes.now before.at b → after.at ≡ behind before.at → after.bytes.ghost_name ≡ before.bytes.ghost_name → Laid before after (b ∷ [])
 unfolding lay reach
-one before after at next b e h = record { area = e; reached = h }
+one before after b e h g = record { area = e; reached = h; lender = g }
 
-pub and_then : {a b c : List ℕ} {at n m : ℕ} {xs ys : List ℕ} → Laid a at b n xs → Laid b n c m ys → Laid a at c m (xs ++ ys)
-and_then {a} {b} {c} {at} {n} {m} {xs} {ys} v w = record {
-  area = w.area ∙ (ap (λ (l : List ℕ). lay l n ys) v.area ∙ (ap (λ (k : ℕ). lay (lay a at xs) k ys) v.reached ∙ sym (lay-append xs ys a at)));
-  reached = w.reached ∙ (ap (λ (k : ℕ). reach k ys) v.reached ∙ sym (reach-append xs ys at));
+pub and_then : {a b c : Text} {xs ys : List ℕ} → Laid a b xs → Laid b c ys → Laid a c (xs ++ ys)
+and_then {a} {b} {c} {xs} {ys} v w = record {
+  area = w.area ∙ (ap (λ (l : List ℕ). lay l b.at ys) v.area ∙ (ap (λ (k : ℕ). lay (lay a.bytes.now a.at xs) k ys) v.reached ∙ sym (lay-append xs ys a.bytes.now a.at)));
+  reached = w.reached ∙ (ap (λ (k : ℕ). reach k ys) v.reached ∙ sym (reach-append xs ys a.at));
+  lender = w.lender ∙ v.lender;
 }
 
-pub same : {a b : List ℕ} {at n : ℕ} {xs ys : List ℕ} → xs ≡ ys → Laid a at b n xs → Laid a at b n ys
-same {a} {b} {at} {n} e w = subst (λ (l : List ℕ). Laid a at b n l) e w
+pub same : {a b : Text} {xs ys : List ℕ} → xs ≡ ys → Laid a b xs → Laid a b ys
+same {a} {b} e w = subst (λ (l : List ℕ). Laid a b l) e w
 
 lay-length : (bytes area : List ℕ) (at : ℕ) → length (lay area at bytes) ≡ length area
 unfolding lay
 lay-length [] area at = refl
 lay-length (b ∷ bytes) area at = lay-length bytes (set area at b) (behind at) ∙ length-set area at b
 
-pub laid-length : {a b : List ℕ} {at n : ℕ} {xs : List ℕ} → Laid a at b n xs → length b ≡ length a
-laid-length {a} {b} {at} {n} {xs} v = ap length v.area ∙ lay-length xs a at
+pub laid-length : {a b : Text} {xs : List ℕ} → Laid a b xs → length b.bytes.now ≡ length a.bytes.now
+laid-length {a} {b} {xs} v = ap length v.area ∙ lay-length xs a.bytes.now a.at
 
-pub record Ongoing (before : List ℕ) (at : ℕ) (after : List ℕ) (next : ℕ) (left whole : List ℕ) : Type 0 where
+pub record Ongoing (before after : Text) (left whole : List ℕ) : Type 0 where
   pub written : List ℕ
-  pub laid : Laid before at after next written
+  pub laid : Laid before after written
   pub all : written ++ left ≡ whole
 
-pub begun : (area : List ℕ) (at : ℕ) (whole : List ℕ) → Ongoing area at area at whole whole
-begun area at whole = record { written = []; laid = still area at; all = refl }
+pub begun : (text : Text) (whole : List ℕ) → Ongoing text text whole whole
+begun text whole = record { written = []; laid = still text; all = refl }
 
-pub onward : {a b c : List ℕ} {at n m : ℕ} {whole : List ℕ} (part left left' : List ℕ) → left ≡ part ++ left'
-    → Ongoing a at b n left whole → Laid b n c m part → Ongoing a at c m left' whole
+pub onward : {a b c : Text} {whole : List ℕ} (part left left' : List ℕ) → left ≡ part ++ left' → Ongoing a b left whole → Laid b c part → Ongoing a c left' whole
 onward part left left' e o w = record {
   written = o.written ++ part;
   laid = and_then o.laid w;
   all = append_assoc o.written part left' ∙ (ap (λ (l : List ℕ). o.written ++ l) (sym e) ∙ o.all);
 }
 
-pub done : {a b : List ℕ} {at n : ℕ} {left whole : List ℕ} → left ≡ [] → Ongoing a at b n left whole → Laid a at b n whole
+pub done : {a b : Text} {left whole : List ℕ} → left ≡ [] → Ongoing a b left whole → Laid a b whole
 done e o = same (sym (append-nil o.written) ∙ (ap (λ (l : List ℕ). o.written ++ l) (sym e) ∙ o.all)) o.laid
 
-pub ongoing-length : {a b : List ℕ} {at n : ℕ} {left whole : List ℕ} → Ongoing a at b n left whole → length b ≡ length a
+pub ongoing-length : {a b : Text} {left whole : List ℕ} → Ongoing a b left whole → length b.bytes.now ≡ length a.bytes.now
 ongoing-length o = laid-length o.laid
 
 -- bytes laid from the start of an area, and how far they reach: plain, where they end before the positions stop
@@ -72,8 +73,8 @@ unfolding reach
 reaches [] at l = omega arith
 reaches (b ∷ bytes) at l = ap (λ (k : ℕ). reach k bytes) (behind-next at (omega arith)) ∙ (reaches bytes (suc at) (omega arith) ∙ omega arith)
 
-pub laid-size : {a b : List ℕ} {n : ℕ} {xs : List ℕ} → Laid a 0 b n xs → length xs ≤ 1000000000000 → n ≡ length xs
-laid-size {a} {b} {n} {xs} v l = v.reached ∙ (reaches xs 0 (omega arith) ∙ omega arith)
+pub laid-size : {a b : Text} {xs : List ℕ} → a.at ≡ 0 → Laid a b xs → length xs ≤ 1000000000000 → b.at ≡ length xs
+laid-size {a} {b} {xs} z v l = v.reached ∙ (ap (λ (k : ℕ). reach k xs) z ∙ (reaches xs 0 (omega arith) ∙ omega arith))
 
 lay-none : (bytes : List ℕ) (at : ℕ) → lay [] at bytes ≡ []
 unfolding lay

@@ -1,5 +1,5 @@
-// Text in lent bytes: letters, numbers in decimal, lines. Each writer lays its bytes from `at` on and returns the position behind them.
-// Past the end of the lent bytes nothing is changed and positions go on, so no writer asks for room and the result is the text's length.
+// Text in lent bytes: letters, numbers in decimal, lines.
+// Past the end of the lent bytes nothing is changed and positions go on, so no writer asks for room and the position is the text's length.
 #![tactic(auto)]
 
 ghost use Rattle.std.specs.Prelude.{◌≡◌, [], ◌∷◌, ◌++◌};
@@ -7,6 +7,7 @@ ghost use Rattle.effbd.specs.Annex.{digits, number as number_text, line};
 ghost use Rattle.text.specs.Laid.{behind as behind_of, Laid};
 
 // The position behind `at`. It stops far above any text, so that no sum wraps.
+#[tactic(auto, unfolding(crate::specs::Laid::behind))]
 fn behind(at: usize) -> usize
     ensures { result ≡ behind_of at }
 {
@@ -16,62 +17,66 @@ fn behind(at: usize) -> usize
     at
 }
 
-// One byte.
-pub fn put(text: &mut [u8], at: usize, byte: u8) -> usize
-    ensures { Laid text.old at text.new result (byte ∷ []) }
-{
-    words::put_byte(text, at, byte);
-    behind(at)
+// Lent bytes, and the position in them where the next byte is due. Each writer lays its bytes from there on.
+#[derive(Drop)]
+pub struct Text<'a> {
+    pub bytes: &'a mut [u8],
+    pub at: usize,
 }
 
-// The letters of a word.
-pub fn put_letters(text: &mut [u8], at: usize, letters: &[u8]) -> usize
-    ensures { Laid text.old at text.new result letters.now }
-{
-    let mut next = at;
-    let mut i: usize = 0;
-    while i < letters.len() {
-        next = put(text, next, letters[i]);
-        i += 1;
+impl<'a> Text<'a> {
+    // One byte.
+    pub fn put(&mut self, byte: u8)
+        ensures { Laid self.old self.new (byte ∷ []) }
+    {
+        words::put_byte(self.bytes, self.at, byte);
+        self.at = behind(self.at);
     }
-    next
-}
 
-// A number's digits, at most `most` of them.
-fn put_digits(text: &mut [u8], at: usize, most: u16, number: u32) -> usize
-    ensures { Laid text.old at text.new result (digits most number) }
-{
-    if most == 0 {
-        return at;
+    // The letters of a word.
+    pub fn put_letters(&mut self, letters: &[u8])
+        ensures { Laid self.old self.new letters.now }
+    {
+        for letter in letters {
+            self.put(*letter);
+        }
     }
-    if number < 10 {
-        return put(text, at, b'0' + number as u8);
+
+    // A number's digits, at most `most` of them.
+    fn put_digits(&mut self, most: u16, number: u32)
+        ensures { Laid self.old self.new (digits most number) }
+    {
+        if most == 0 {
+            return;
+        }
+        if 10 <= number {
+            self.put_digits(most - 1, number / 10);
+        }
+        self.put(b'0' + (number % 10) as u8);
     }
-    let next = put_digits(text, at, most - 1, number / 10);
-    put(text, next, b'0' + (number % 10) as u8)
-}
 
-// A space and a number: ten digits hold every number of 32 bits.
-pub fn put_number(text: &mut [u8], at: usize, number: u32) -> usize
-    ensures { Laid text.old at text.new result (number_text number) }
-{
-    let next = put(text, at, b' ');
-    put_digits(text, next, 10, number)
-}
+    // A space and a number: ten digits hold every number of 32 bits.
+    pub fn put_number(&mut self, number: u32)
+        ensures { Laid self.old self.new (number_text number) }
+    {
+        self.put(b' ');
+        self.put_digits(10, number);
+    }
 
-// A word, a space and a number.
-pub fn put_named(text: &mut [u8], at: usize, letters: &[u8], number: u32) -> usize
-    ensures { Laid text.old at text.new result (letters.now ++ number_text number) }
-{
-    let next = put_letters(text, at, letters);
-    put_number(text, next, number)
-}
+    // A word, a space and a number.
+    pub fn put_named(&mut self, letters: &[u8], number: u32)
+        ensures { Laid self.old self.new (letters.now ++ number_text number) }
+    {
+        self.put_letters(letters);
+        self.put_number(number);
+    }
 
-// A word, two numbers and a newline.
-pub fn put_line(text: &mut [u8], at: usize, letters: &[u8], first: u32, second: u32) -> usize
-    ensures { Laid text.old at text.new result (line letters.now (first ∷ second ∷ [])) }
-{
-    let behind_first = put_named(text, at, letters, first);
-    let behind_second = put_number(text, behind_first, second);
-    put(text, behind_second, b'\n')
+    // A word, two numbers and a newline.
+    pub fn put_line(&mut self, letters: &[u8], first: u32, second: u32)
+        ensures { Laid self.old self.new (line letters.now (first ∷ second ∷ [])) }
+    {
+        self.put_named(letters, first);
+        self.put_number(second);
+        self.put(b'\n');
+    }
 }

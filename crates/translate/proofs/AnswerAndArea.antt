@@ -1,28 +1,21 @@
 -- Where a net fits, the area holds its bytes and the next offset is their number; the answer and the area that a translation leaves.
-use Prim.Native.Nat.{ℕ, ◌+◌, ◌≤◌, ◌<◌}
-use mathlib.Core.Path.{◌≡◌, refl, ap, ap₂, sym, subst, ◌∙◌}
-use mathlib.Core.Logic.{◌≢◌}
-use mathlib.Core.Bool.{true}
-use mathlib.Core.List.{List, [], ◌∷◌, ◌++◌}
-use native.Mathlib.Omega.{arith}
-use native.Mathlib.Nat.{zero-add}
-use lib.ListN.{length, drop}
-use lib.Seq.{sets, sets-eq}
-use borrow.Author.Tests.{eq-eqb, lt-ltb, le-ltb}
-use Rattle.effbd.specs.Answers.{Outcome, accepted, refused, refusal_number, refusal_value}
+use Rattle.std.proofs.Common.{ℕ, ◌+◌, ◌≤◌, ◌<◌, ◌≡◌, refl, ap, sym, subst, ◌∙◌, true, List, [], ◌∷◌, ◌++◌, arith, zero-add, length, drop, eq-eqb, lt-ltb, le-ltb}
+use Rattle.std.proofs.lemmas.List.Edits.{sets}
+use lib.Seq.{sets-eq}
+use Rattle.std.specs.Prelude.{Err}
+use Rattle.effbd.specs.Answers.{accepted, refused, number}
 use Rattle.effbd.specs.Records.{are_bytes}
 use Rattle.effbd.specs.Counts.{count_total}
 use Rattle.effbd.specs.Nets.{net_bytes}
-use Rattle.effbd.specs.Patterns.{net_of, translated_as, translated}
+use Rattle.effbd.specs.Patterns.{net_of, translated}
+use Rattle.effbd.specs.declared.refusals.Refusal.{Refusal}
 use Rattle.agreement.specs.AcceptedFiles.{Held, held}
-use Rattle.effbd.specs.Diagrams.{Diagram as Read}
-use Rattle.effbd.specs.Nesting.{read_diagram}
-use Rattle.diagram.specs.declared.Diagram.{Diagram}
 use Rattle.diagram_table.specs.Cells.{some_trigger_in, counts_in}
 use Rattle.diagram_table.specs.Held.{HoldsFile, HoldsPlant}
 use Rattle.diagram_file.specs.Tables.{Parsed}
-use Rattle.net_records.specs.Writing.{Records, flat, offset_limit, Wrote}
-use Rattle.net_records.proofs.Writing.{wrote-length}
+use Rattle.diagram_file.proofs.Promises.{turned-away as refused-is}
+use Rattle.net_records.specs.declared.Writer.{Writer}
+use Rattle.net_records.specs.Writing.{flat, offset_limit, Wrote}
 use Rattle.net_records.proofs.Bytes.{reach-fits, laid-fits}
 use Rattle.translate.specs.NetRecords.{net_records, longest_net, net_room}
 use Rattle.translate.proofs.NetBytes.{net-is}
@@ -32,13 +25,10 @@ use Rattle.translate.proofs.Sizes.{longest-plain, net-small, net-short}
 abbrev area_short : ℕ
 area_short = 10
 
--- where an empty part of an area was written, nothing is altered
-pub nothing_written : (area : List ℕ) {after : List ℕ} {next : ℕ} {records : Records} → Wrote [] 0 after next records → after ++ area ≡ area
-nothing_written area {after} w = go after (wrote-length w)
-  where
-    go : (l : List ℕ) → length l ≡ 0 → l ++ area ≡ area
-    go [] e = refl
-    go (x ∷ l) e = absurd (omega arith)
+-- behind a part of no bytes an area is as it was
+pub nothing_written : (part area : List ℕ) → length part ≡ 0 → part ++ area ≡ area
+nothing_written [] area z = refl
+nothing_written (x ∷ part) area z = absurd (omega arith)
 
 -- an accepted file, its diagram's table
 module _ (file : List ℕ) (rows items : ℕ) (table : List ℕ) (plant : HoldsPlant file rows items table) (bytes : are_bytes file ≡ true) where
@@ -77,46 +67,36 @@ module _ (file : List ℕ) (rows items : ℕ) (table : List ℕ) (plant : HoldsP
       let b = longest-plain rows items h.holds.records.few_rows h.holds.records.few_items in
       omega arith
 
-  -- the writer's result is the net's length, and fits an answer
-  pub measure : {before after : List ℕ} {next : ℕ} → Wrote before 0 after next (net_records table file rows items)
-      → next ≡ length (flat (net_records table file rows items))
-  measure w = w.reached ∙ (reach-fits (net_records table file rows items) 0 fits ∙ zero-add _)
+  -- the writer comes as far as the net is long, and that fits an answer
+  pub measure : {a b : Writer} → a.at ≡ 0 → Wrote a b (net_records table file rows items) → b.at ≡ length (flat (net_records table file rows items))
+  measure z w = w.reached ∙ rw z (reach-fits (net_records table file rows items) 0 fits ∙ zero-add _)
 
-  pub measured : {before after : List ℕ} {next : ℕ} → Wrote before 0 after next (net_records table file rows items) → next ≤ net_room
-  measured w = let e = measure w ∙ ap length is-net in let s = small in omega arith
+  pub measured : {a b : Writer} → a.at ≡ 0 → Wrote a b (net_records table file rows items) → b.at ≤ net_room
+  measured z w = let e = measure z w ∙ ap length is-net in let s = small in omega arith
 
-  -- a short area, an empty part of which was written
-  pub too_short : (area : List ℕ) {after : List ℕ} {next : ℕ} → Wrote [] 0 after next (net_records table file rows items) → length area < next
-      → (refused area_short next ≡ (translated file area).answer) × (after ++ area ≡ (translated file area).area)
+  -- a short area, of which nothing was written
+  pub too_short : (area : List ℕ) {a b : Writer} → a.at ≡ 0 → Wrote a b (net_records table file rows items) → length area < b.at
+      → (refused area_short b.at ≡ (translated file area).answer) × (area ≡ (translated file area).area)
   unfolding translated net
-  too_short area {next = next} w l = let e : next ≡ length (net_bytes (net_of h.diagram)) = measure w ∙ ap length is-net in
-      rw (nothing_written area w, h.read, lt-ltb (length area) (length (net_bytes (net_of h.diagram))) (omega arith)) (ap (refused area_short) e, refl)
-
-  -- and one that is long enough
-  pub room-left : (area : List ℕ) {after : List ℕ} {next : ℕ} → Wrote [] 0 after next (net_records table file rows items) → next ≤ length area
-      → length (flat (net_records table file rows items)) ≤ length (after ++ area)
-  room-left area w l = let e = measure w in rw (nothing_written area w) (omega arith)
+  too_short area {b = b} z w l = let e : b.at ≡ length (net_bytes (net_of h.diagram)) = measure z w ∙ ap length is-net in
+      rw (h.read, lt-ltb (length area) (length (net_bytes (net_of h.diagram))) (omega arith)) (ap (refused area_short) e, refl)
 
   -- an area that has room
-  pub long-enough : {area after : List ℕ} {next : ℕ} → length (flat (net_records table file rows items)) ≤ length area
-      → Wrote area 0 after next (net_records table file rows items) → (accepted next ≡ (translated file area).answer) × (after ≡ (translated file area).area)
+  pub long-enough : {a b : Writer} → a.at ≡ 0 → length (flat (net_records table file rows items)) ≤ length a.area.now
+      → Wrote a b (net_records table file rows items) → (accepted b.at ≡ (translated file a.area.now).answer) × (b.area.now ≡ (translated file a.area.now).area)
   unfolding translated net
-  long-enough {area = area} {after} {next} l w =
-      let n = room in rw (h.read, le-ltb (length area) (length (net_bytes (net_of h.diagram))) n) (ap accepted (measure w ∙ ap length is-net), content)
+  long-enough {a} {b} z l w =
+      let n = room in rw (h.read, le-ltb (length a.area.now) (length (net_bytes (net_of h.diagram))) n) (ap accepted (measure z w ∙ ap length is-net), content)
     where
-      room : length net ≤ length area
+      room : length net ≤ length a.area.now
       room = rw (← is-net) l
 
-      content : after ≡ net ++ drop (length net) area
-      content = w.area ∙ (laid-fits (net_records table file rows items) area 0 fits ∙ (ap (sets area 0) is-net
-          ∙ (sets-eq net area 0 (omega (arith, room)) ∙ ap (λ (k : ℕ). net ++ drop k area) (zero-add (length net)))))
+      content : b.area.now ≡ net ++ drop (length net) a.area.now
+      content = w.area ∙ rw z (laid-fits (net_records table file rows items) a.area.now 0 fits ∙ (ap (sets a.area.now 0) is-net
+          ∙ (sets-eq net a.area.now 0 (omega (arith, room)) ∙ ap (λ (k : ℕ). net ++ drop k a.area.now) (zero-add (length net)))))
 
 -- a refused file
-pub turned-away : (file area : List ℕ) (p : Diagram) → Parsed file p → p.number ≢ 0
-    → (refused p.number p.value ≡ (translated file area).answer) × (area ≡ (translated file area).area)
+pub turned-away : (file area : List ℕ) (e : Refusal) → Parsed file (Err e)
+    → (refused (number e.reason) e.value ≡ (translated file area).answer) × (area ≡ (translated file area).area)
 unfolding translated
-turned-away file area p h n = go (read_diagram file) h.number h.value
-  where
-    go : (o : Outcome Read) → p.number ≡ refusal_number o → p.value ≡ refusal_value o → (refused p.number p.value ≡ (translated_as o area).answer) × (area ≡ (translated_as o area).area)
-    go (accepted d) e f = absurd (n e)
-    go (refused number value) e f = (ap₂ refused e f, refl)
+turned-away file area e h = rw (refused-is file e h) (refl, refl)

@@ -2,13 +2,13 @@
 // Nothing is asked of a caller: past the end a byte or word is 0, a tail is empty, a store changes nothing.
 #![tactic(auto)]
 
-ghost use Rattle.std.specs.Prelude.{◌≡◌, ◌+◌, ◌*◌, ◌<◌, drop, get_or, set};
+ghost use Rattle.std.specs.Prelude.{◌≡◌, ◌+◌, ◌*◌, ◌<◌, take, drop, get_or, set};
+ghost use Rattle.effbd.specs.Answers.{number, fault};
 ghost use Rattle.effbd.specs.Records.{word as word_in, fault_at};
 ghost use Rattle.words.specs.Stores.{long_in, word_put, long_put, copied};
 ghost use Rattle.words.specs.Sums.{added as sum_of};
 
-use effbd::limits::MOST_WORD;
-use effbd::refusals;
+use effbd::Reason;
 
 // The byte at `at`.
 pub fn byte(bytes: &[u8], at: usize) -> u16
@@ -43,6 +43,16 @@ pub fn long(bytes: &[u8], at: usize) -> u32
     0
 }
 
+// The first `n` bytes or words, or all that there are.
+pub fn front<'a, T>(list: &'a [T], n: usize) -> &'a [T]
+    ensures { result.now ≡ take n list.now }
+{
+    if n <= list.len() {
+        return &list[..n];
+    }
+    list
+}
+
 // What follows the first `n` bytes.
 pub fn tail<'a>(bytes: &'a [u8], n: usize) -> &'a [u8]
     ensures { result.now ≡ drop n bytes.now }
@@ -53,29 +63,29 @@ pub fn tail<'a>(bytes: &'a [u8], n: usize) -> &'a [u8]
     &bytes[0..0]
 }
 
-// The order of refusals at a record: its kind is due, its length is right for its kind, its fields are fine (else `number`). 0 where nothing is off.
-pub fn record_fault(bytes: &[u8], due: bool, right: bool, fine: bool, number: u16) -> u16
-    ensures { result ≡ fault_at bytes.now due right fine number }
+// The order of refusals at a record: its kind is due, its length is right for its kind, its fields are fine (else `off`).
+pub fn record_fault(bytes: &[u8], due: bool, right: bool, fine: bool, off: Reason) -> Option<Reason>
+    ensures { fault result ≡ fault_at bytes.now due right fine (number off) }
 {
     if bytes.len() < 4 {
-        return refusals::CUT_SHORT;
+        return Some(Reason::CutShort);
     }
     if !due {
-        return refusals::KIND_NOT_DUE;
+        return Some(Reason::KindNotDue);
     }
     if !right {
-        return refusals::LENGTH_WRONG;
+        return Some(Reason::LengthWrong);
     }
     if bytes.len() < word(bytes, 0) as usize {
-        return refusals::CUT_SHORT;
+        return Some(Reason::CutShort);
     }
     if !fine {
-        return number;
+        return Some(off);
     }
-    0
+    None
 }
 
-// Stores a byte at `at`.
+// Stores a byte at `at`. Area and place go side by side, no writer as for a net or a text: nothing is stored behind it.
 pub fn put_byte(area: &mut [u8], at: usize, value: u8)
     ensures { area.new ≡ set area.old at value }
 {
@@ -127,13 +137,8 @@ pub fn put(state: &mut [u16], at: usize, value: u16)
 pub fn copy(to: &mut [u16], from: &[u16])
     ensures { to.new ≡ copied from.now to.old }
 {
-    if to.len() < from.len() {
-        return;
-    }
-    let mut i: usize = 0;
-    while i < from.len() {
-        to[i] = from[i];
-        i += 1;
+    if from.len() <= to.len() {
+        to[..from.len()].copy_from_slice(from);
     }
 }
 
@@ -141,8 +146,5 @@ pub fn copy(to: &mut [u16], from: &[u16])
 pub fn added(number: u16, more: u16) -> u16
     ensures { result ≡ sum_of number more }
 {
-    if MOST_WORD - more < number {
-        return MOST_WORD;
-    }
-    number + more
+    number.saturating_add(more)
 }

@@ -1,19 +1,14 @@
-use Rattle.text.specs.LaidLaws.{ongoing-length}
+use Rattle.std.proofs.Common.{arith}
 use Rattle.annex_text.proofs.MarksAndRecords.{marks-begun, marks-turn, marks-done}
-use native.Mathlib.Omega.{arith}
-use borrow.Author.Rules.{rules}
 use Rattle.annex_text.proofs.put_marks.Goals as goal
 
-pub loop-i-init : goal.loop-i-init
-loop-i-init c = let a = c.args in (search rules, marks-begun a.text.now a.at a.places a.bytes.now)
+pub loop-place-init : goal.loop-place-init
+loop-place-init c = let a = c.args in marks-begun a.text.now a.places a.bytes.now
 
-pub loop-i-preserved : goal.loop-i-preserved
-loop-i-preserved c = let a = c.args in
-    let l = c.loop-i in
-    (omega arith, marks-turn a.places l.i _ a.bytes.now l.rest.now _ c.loop-i-test.true c.word.ensures c.tail-more.ensures l.invariant.1 c.put_number-next.ensures)
-
-pub shape_of-text : goal.shape_of-text
-shape_of-text c = ongoing-length c.loop-i.invariant.1
+pub loop-place-preserved : goal.loop-place-preserved
+loop-place-preserved c = let a = c.args in
+    let l = c.loop-place in
+    marks-turn a.places l.place _ a.bytes.now l.rest.now _ (omega arith) c.word.ensures c.tail-rest.ensures l.invariant c.put_number.ensures
 
 pub returns : goal.returns
-returns c = let a = c.args in marks-done a.places c.loop-i.i a.bytes.now c.loop-i.rest.now (omega arith) c.loop-i.invariant.1
+returns c = let a = c.args in marks-done a.places c.loop-place.place a.bytes.now c.loop-place.rest.now (omega arith) c.loop-place.invariant

@@ -4,4 +4,4 @@ use Rattle.annex_text.proofs.put_transition.Goals as goal
 
 pub returns : goal.returns
 returns c = same (transition-of _ _ _ _ _ c.word.ensures c.word-2.ensures c.word-3.ensures)
-    (and_then (and_then (and_then (and_then c.put_named-label.ensures c.put_named-from.ensures) c.put_named-to.ensures) c.put_named-end.ensures) c.put.ensures)
+    (and_then (and_then (and_then (and_then c.put_named.ensures c.put_named-2.ensures) c.put_named-3.ensures) c.put_named-4.ensures) c.put.ensures)

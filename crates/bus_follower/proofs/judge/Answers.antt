@@ -1,5 +1,4 @@
-use Prim.Native.Nat.{ℕ}
-use mathlib.Core.Path.{sym, ◌∙◌, ap}
+use Rattle.std.proofs.Common.{ℕ, sym, ap, ◌∙◌}
 use Rattle.effbd.specs.Answers.{accepted, refused}
 use Rattle.bus_follower.proofs.Judged.{no-telegram, other-station, at-or-below, too_far, is-due}
 use Rattle.bus_follower.proofs.judge.Goals as goal

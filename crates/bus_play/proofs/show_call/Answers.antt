@@ -1,11 +1,15 @@
-use Rattle.std.proofs.Common.{arith, length-take-le}
-use Rattle.bus_play.proofs.LineLengths.{played-fits}
+use Rattle.std.proofs.Common.{arith, refl}
+use Rattle.bus_play.proofs.LineLengths.{played-part}
+use Rattle.bus_play.proofs.StateLengths.{leader-kept, follower-kept}
 use Rattle.bus_play.proofs.show_call.Goals as goal
-
-pub slice_bounds-text-end : goal.slice_bounds-text-end
-slice_bounds-text-end g c = let f = played-fits c.play_call-shown.ensures.called _ (omega arith) (omega arith) c.play_call-shown.ensures.laid in omega arith
 
 pub slice_bounds-write_all-end : goal.slice_bounds-write_all-end
 slice_bounds-write_all-end g c =
-    let f = played-fits c.play_call-shown.ensures.called _ (omega arith) (omega arith) c.play_call-shown.ensures.laid in
-    let m = length-take-le c.play_call-shown.result.size c.play_call-shown.new.text (omega arith) in omega arith
+    let p = c.play_call.ensures in let r = c.requires in
+    played-part p.made _ (omega (arith, leader-kept p.made, r.leader_len_bound)) (omega (arith, follower-kept p.made, r.follower_len_bound)) refl (omega arith) p.laid
+
+pub returns-clause-leader_kept : goal.returns-clause-leader_kept
+returns-clause-leader_kept g c = leader-kept c.play_call.ensures.made
+
+pub returns-clause-follower_kept : goal.returns-clause-follower_kept
+returns-clause-follower_kept g c = follower-kept c.play_call.ensures.made

@@ -4,4 +4,4 @@ use Rattle.call_lines.proofs.put_head.Goals as goal
 
 pub returns : goal.returns
 unfolding head_text
-returns c = and_then (and_then (and_then (and_then c.put_named-behind_bytes.ensures c.put_named-behind_station.ensures) c.put_named-behind_leader.ensures) c.put_named-behind_follower.ensures) c.put.ensures
+returns c = and_then (and_then (and_then (and_then c.put_named.ensures c.put_named-2.ensures) c.put_named-3.ensures) c.put_named-4.ensures) c.put.ensures

@@ -1,12 +1,5 @@
-use mathlib.Core.Path.{sym, ap}
-use Rattle.effbd.specs.Answers.{said}
-use Rattle.effbd.specs.declared.Answer.{Answer}
-use Rattle.text.specs.LaidLaws.{same, still}
-use Rattle.call_lines.specs.Lines.{transition_text}
+use Rattle.text.specs.LaidLaws.{still}
 use Rattle.call_lines.proofs.put_transition.Goals as goal
 
-pub returns-in-Accepted : goal.returns-in-Accepted
-returns-in-Accepted c = same (sym (ap (λ (x : Answer). transition_text (said x)) c.in-Accepted.is)) c.put_named.ensures
-
-pub returns-in-Refused : goal.returns-in-Refused
-returns-in-Refused c = same (sym (ap (λ (x : Answer). transition_text (said x)) c.in-Refused.is)) (still c.args.text.now c.args.at)
+pub returns-in_default : goal.returns-in_default
+returns-in_default c = rw (c.in_default.is) (still _)

@@ -1,11 +1,7 @@
-use lib.ListN.{length, drop}
-use Prim.Native.Nat.{◌-◌}
+use Rattle.std.proofs.Common.{take}
 use Rattle.call_lines.specs.Lines.{words_text}
-use Rattle.text.specs.LaidLaws.{Ongoing}
+use Rattle.text.specs.Laid.{Laid}
 use Rattle.call_lines.proofs.put_words.Given as goal
 
-abbrev pub invariant-loop-i : goal.invariant-loop-i
-invariant-loop-i l = Ongoing l.initial.text l.initial.next l.text l.next (words_text (drop l.i l.state)) (words_text l.state)
-
-abbrev pub decreases-loop-i : goal.decreases-loop-i
-decreases-loop-i l = length l.state - l.i
+abbrev pub invariant-loop-word : goal.invariant-loop-word
+invariant-loop-word l = Laid l.initial.text l.text (words_text (take l.word-index l.state))

@@ -1,13 +1,12 @@
-use mathlib.Core.Path.{◌≡◌}
-use lib.ListN.{length}
+use Rattle.std.specs.Prelude.{◌-◌, ◌≡◌, length}
+use Rattle.calls.specs.LiveEnds.{live}
 use Rattle.calls.proofs.Lists.{Making}
 use Rattle.calls.proofs.make_calls.Given as goal
 
-abbrev pub invariant-loop-left : goal.invariant-loop-left
-invariant-loop-left l = record {
-  made : Making l.file l.net l.station (record { leader = l.initial.leader; sent = 0; follower = l.initial.follower; taken = 0 }) l.initial.calls l.left l.at (record { leader = l.leader; sent = l.sent; follower = l.follower; taken = l.taken }) l.calls;
+abbrev pub invariant-loop-made : goal.invariant-loop-made
+invariant-loop-made l = record {
+  made : Making l.line.file.now l.line.net.now l.line.station (live l.initial.ends) l.initial.calls (length l.initial.calls - l._made) l.at (live l.ends) l.calls;
   long : length l.calls ≡ length l.initial.calls;
+  leader : l.ends.leader.ghost_name ≡ l.initial.ends.leader.ghost_name;
+  follower : l.ends.follower.ghost_name ≡ l.initial.ends.follower.ghost_name;
 }
-
-abbrev pub decreases-loop-left : goal.decreases-loop-left
-decreases-loop-left l = l.left

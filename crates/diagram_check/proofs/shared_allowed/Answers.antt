@@ -16,11 +16,11 @@ loop-item-init c = (search rules, refl)
 
 pub returns-then-not-count_allowed : goal.returns-then-not-count_allowed
 unfolding shared_allowed
-returns-then-not-count_allowed c = let a = c.args in rw (ne_eqb _ _ (λ z. c.if-cell-eq0.false (c.cell.ensures ∙ z))) (sym (all-fail a.items (count_allowed a.table.now a.rows a.state.now) c.loop-item.item c.loop-item-test.true (sym c.count_allowed.ensures ∙ c.if-not-count_allowed.true)))
+returns-then-not-count_allowed c = let a = c.args in rw (ne_eqb _ _ (λ z. c.if-cell-eq0.false (c.cell.ensures ∙ z))) (sym (all-fail a.plant.now.items (count_allowed a.plant.now.table.now a.plant.now.rows a.state.now) c.loop-item.item c.loop-item-test.true (sym c.count_allowed.ensures ∙ c.if-not-count_allowed.true)))
 
 pub loop-item-preserved : goal.loop-item-preserved
-loop-item-preserved c = let a = c.args in (omega arith, all_more (count_allowed a.table.now a.rows a.state.now) c.loop-item.item c.loop-item.invariant.1 (sym c.count_allowed.ensures ∙ c.if-not-count_allowed.false))
+loop-item-preserved c = let a = c.args in (omega arith, all_more (count_allowed a.plant.now.table.now a.plant.now.rows a.state.now) c.loop-item.item c.loop-item.invariant.1 (sym c.count_allowed.ensures ∙ c.if-not-count_allowed.false))
 
 pub returns : goal.returns
 unfolding shared_allowed
-returns c = let a = c.args in rw (ne_eqb _ _ (λ z. c.if-cell-eq0.false (c.cell.ensures ∙ z))) (all-less (count_allowed a.table.now a.rows a.state.now) c.loop-item.item a.items c.loop-item.invariant.1 (omega arith))
+returns c = let a = c.args in rw (ne_eqb _ _ (λ z. c.if-cell-eq0.false (c.cell.ensures ∙ z))) (all-less (count_allowed a.plant.now.table.now a.plant.now.rows a.state.now) c.loop-item.item a.plant.now.items c.loop-item.invariant.1 (omega arith))

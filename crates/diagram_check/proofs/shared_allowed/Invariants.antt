@@ -2,11 +2,8 @@ use Rattle.diagram_moves.specs.Decisions.{count_allowed}
 use Rattle.effbd.specs.Ranges.{all_below}
 use mathlib.Core.Path.{◌≡◌}
 use mathlib.Core.Bool.{true}
-use Prim.Native.Nat.{◌≤◌, ◌-◌}
+use Prim.Native.Nat.{◌≤◌}
 use Rattle.diagram_check.proofs.shared_allowed.Given as goal
 
 abbrev pub invariant-loop-item : goal.invariant-loop-item
-invariant-loop-item l = (l.item ≤ l.items) × (all_below l.item (count_allowed l.table l.rows l.state) ≡ true)
-
-abbrev pub decreases-loop-item : goal.decreases-loop-item
-decreases-loop-item l = l.items - l.item
+invariant-loop-item l = (l.item ≤ l.plant.items) × (all_below l.item (count_allowed l.plant.table.now l.plant.rows l.state) ≡ true)

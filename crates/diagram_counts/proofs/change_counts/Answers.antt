@@ -1,15 +1,20 @@
-use Rattle.diagram_uses.proofs.UsesBlocked.{uses-short}
+use Rattle.std.specs.Prelude.{ℕ, ◌*◌, true, false, List, take, length}
+use Rattle.std.proofs.Common.{◌∙◌, ap, arith, length-take}
+use Rattle.diagram_table.specs.Cells.{uses_of}
 use Rattle.diagram_moves.specs.Changes.{counts_changed}
-use Rattle.diagram_table.specs.Cells.{cell_of, uses_of}
-use lib.ListN.{length}
-use native.Mathlib.Omega.{arith}
-use mathlib.Core.List.{List}
-use mathlib.Core.Path.{sym, ◌∙◌, ap, subst}
-use Prim.Native.Nat.{ℕ, ◌<◌}
+use Rattle.diagram_uses.proofs.UsesBlocked.{uses-whole}
 use Rattle.diagram_counts.proofs.change_counts.Goals as goal
 
 pub change_uses-requires : goal.change_uses-requires
-change_uses-requires c = let a = c.args in subst (λ (l : List ℕ). length l < 393216) (sym c.uses-uses.ensures) (uses-short a.table.now a.file.now a.row (omega (arith, c.type_inv.table (cell_of 4 a.row))))
+change_uses-requires c = omega (arith, ap length c.front-uses.ensures, length-take (6 * c.cell-number.result) c.uses.result.now)
 
-pub returns : goal.returns
-returns c = let a = c.args in c.change_uses.ensures ∙ ap (λ (l : List ℕ). counts_changed a.table.now a.giving a.rows a.row 0 (uses_of l) a.state.now) c.uses-uses.ensures
+pub change_uses-requires-else-giving : goal.change_uses-requires-else-giving
+change_uses-requires-else-giving c = omega (arith, ap length c.front-uses.ensures, length-take (6 * c.cell-number.result) c.uses.result.now)
+
+pub returns-then-giving : goal.returns-then-giving
+returns-then-giving c = let a = c.args in let p = a.plant.now in
+    c.change_uses.ensures ∙ rw c.if-giving.true (ap (λ (l : List ℕ). counts_changed p.table.now true p.rows a.row 0 (uses_of l) a.state.now) (c.front-uses.ensures ∙ (ap (take (6 * c.cell-number.result)) c.uses.ensures ∙ uses-whole p.table.now p.file.now a.row c.cell-number.result c.cell-number.ensures)))
+
+pub returns-else-giving : goal.returns-else-giving
+returns-else-giving c = let a = c.args in let p = a.plant.now in
+    c.change_uses-else-giving.ensures ∙ rw c.if-giving.false (ap (λ (l : List ℕ). counts_changed p.table.now false p.rows a.row 0 (uses_of l) a.state.now) (c.front-uses.ensures ∙ (ap (take (6 * c.cell-number.result)) c.uses.ensures ∙ uses-whole p.table.now p.file.now a.row c.cell-number.result c.cell-number.ensures)))

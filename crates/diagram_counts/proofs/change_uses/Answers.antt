@@ -10,13 +10,13 @@ pub loop-rest-init : goal.loop-rest-init
 loop-rest-init c = (search rules, refl, refl)
 
 pub loop-rest-smaller : goal.loop-rest-smaller
-loop-rest-smaller c = uses-fall c.loop-rest.rest.now c.tail-more.result.now c.loop-rest-test.true c.tail-more.ensures
+loop-rest-smaller c = uses-fall c.loop-rest.rest.now c.tail-rest.result.now c.loop-rest-test.true c.tail-rest.ensures
 
 pub loop-rest-preserved : goal.loop-rest-preserved
 loop-rest-preserved c = let a = c.args in let l = c.loop-rest in (
-  let b = l.invariant.0 in let t = c.loop-rest-test.true in omega (arith, ap length c.tail-more.ensures, length-drop 6 l.rest.now),
+  let b = l.invariant.0 in let t = c.loop-rest-test.true in omega (arith, ap length c.tail-rest.ensures, length-drop 6 l.rest.now),
   c.change_use.auto.state ∙ l.invariant.1,
-  change-more a.table.now a.giving a.rows a.row l.index l.rest.now l.state c.loop-rest-test.true _ _ _ _ c.word-item.ensures c.amount-amount.ensures c.change_use.ensures c.tail-more.ensures ∙ l.invariant.2,
+  change-more a.table.now a.giving a.rows a.row l.index l.rest.now l.state c.loop-rest-test.true _ _ _ _ c.word-item.ensures c.amount-amount.ensures c.change_use.ensures c.tail-rest.ensures ∙ l.invariant.2,
 )
 
 pub returns : goal.returns

@@ -1,11 +1,11 @@
 use Rattle.diagram_file.proofs.Promises.{part-refused, part_none, part-there}
 use Rattle.diagram_file.proofs.uses_part.Goals as goal
 
-pub returns-then-diagram-ne0 : goal.returns-then-diagram-ne0
-returns-then-diagram-ne0 c = let a = c.args in part-refused a.file.now c.parse-diagram.result c.parse-diagram.ensures a.row c.if-diagram-ne0.true
+pub returns-in-Ok : goal.returns-in-Ok
+returns-in-Ok c = let a = c.args in part-there a.file.now c.in-Ok.diagram c.in-Ok.ensures a.row c.uses_part.result c.if-row-diagram.true c.uses_part.ensures.start_value c.uses_part.ensures.start_bound
 
-pub returns-then-diagram-row : goal.returns-then-diagram-row
-returns-then-diagram-row c = let a = c.args in part_none a.file.now c.parse-diagram.result c.parse-diagram.ensures a.row c.if-diagram-ne0.false c.if-diagram-row.true
+pub returns-in_default : goal.returns-in_default
+returns-in_default c = let a = c.args in part_none a.file.now c.in-Ok.diagram c.in-Ok.ensures a.row c.if-row-diagram.false
 
-pub returns : goal.returns
-returns c = let a = c.args in part-there a.file.now c.parse-diagram.result c.parse-diagram.ensures a.row c.uses_part.result c.if-diagram-ne0.false c.if-diagram-row.false c.uses_part.ensures.start_value c.uses_part.ensures.start_bound
+pub returns-in_default-2 : goal.returns-in_default-2
+returns-in_default-2 c = let a = c.args in part-refused a.file.now _ c.in_default.ensures a.row

@@ -1,4 +1,4 @@
-use Rattle.row_records.proofs.Fields.{base-at}
+use Rattle.effbd.specs.Answers.{fault}
 use Rattle.diagram_records.proofs.Fields.{item-fault-is, item-short}
 use Rattle.diagram_records.proofs.item_fault.Goals as goal
 
@@ -7,5 +7,5 @@ returns-then-bytes-lt4 c = let a = c.args in item-short a.bytes.now c.if-bytes-l
 
 pub returns : goal.returns
 returns c = let a = c.args in
-    item-fault-is a.bytes.now c.word-kind.result c.word.result c.base_length.result c.record_fault.result c.is_item.result c.word-kind.ensures c.word.ensures
-    (base-at a.entries.now c.word-kind.result c.requires c.base_length.ensures) c.is_item.ensures c.record_fault.ensures
+    item-fault-is a.bytes.now c.word-kind.result c.word.result c.base_length.result (fault c.record_fault.result) c.is_item.result c.word-kind.ensures c.word.ensures
+    c.base_length.ensures c.is_item.ensures c.record_fault.ensures

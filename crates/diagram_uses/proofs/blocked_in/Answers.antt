@@ -14,12 +14,12 @@ returns-then-use_blocked c = let a = c.args in let l = c.loop-rest in
     blocked-hit a.table.now a.giving a.rows a.items a.state.now a.row l.index l.rest.now c.loop-rest-test.true _ _ _ c.word-item.ensures c.amount-amount.ensures c.use_blocked.ensures c.if-use_blocked.true ∙ l.invariant.1
 
 pub loop-rest-smaller : goal.loop-rest-smaller
-loop-rest-smaller c = uses-fall c.loop-rest.rest.now c.tail-more.result.now c.loop-rest-test.true c.tail-more.ensures
+loop-rest-smaller c = uses-fall c.loop-rest.rest.now c.tail-rest.result.now c.loop-rest-test.true c.tail-rest.ensures
 
 pub loop-rest-preserved : goal.loop-rest-preserved
 loop-rest-preserved c = let a = c.args in let l = c.loop-rest in (
-  let b = l.invariant.0 in let t = c.loop-rest-test.true in omega (arith, ap length c.tail-more.ensures, length-drop 6 l.rest.now),
-  blocked-miss a.table.now a.giving a.rows a.items a.state.now a.row l.index l.rest.now c.loop-rest-test.true _ _ _ c.word-item.ensures c.amount-amount.ensures c.use_blocked.ensures c.tail-more.result.now c.tail-more.ensures c.if-use_blocked.false ∙ l.invariant.1,
+  let b = l.invariant.0 in let t = c.loop-rest-test.true in omega (arith, ap length c.tail-rest.ensures, length-drop 6 l.rest.now),
+  blocked-miss a.table.now a.giving a.rows a.items a.state.now a.row l.index l.rest.now c.loop-rest-test.true _ _ _ c.word-item.ensures c.amount-amount.ensures c.use_blocked.ensures c.tail-rest.result.now c.tail-rest.ensures c.if-use_blocked.false ∙ l.invariant.1,
 )
 
 pub returns : goal.returns

@@ -1,10 +1,7 @@
 use Rattle.diagram_moves.specs.Decisions.{most_of}
-use Prim.Native.Nat.{◌-◌, ◌≤◌}
+use Prim.Native.Nat.{◌≤◌}
 use mathlib.Core.Path.{◌≡◌}
 use Rattle.diagram_uses.proofs.most_in.Given as goal
 
 abbrev pub invariant-loop-index : goal.invariant-loop-index
 invariant-loop-index l = (l.index ≤ l.standing) × (l.most ≡ most_of l.rows l.first l.state l.index)
-
-abbrev pub decreases-loop-index : goal.decreases-loop-index
-decreases-loop-index l = l.standing - l.index

@@ -1,32 +1,34 @@
+use Rattle.std.proofs.Common.{arith, sym}
+use Rattle.std.proofs.Math.Seq.{length-take-le}
+use Rattle.std.proofs.lemmas.Result.{err_from_is_err_and}
+use Rattle.effbd.specs.Answers.{number}
 use Rattle.ends.proofs.Readied.{no-ends, both-ready}
 use Rattle.ends.proofs.LaidNets.{found-net}
-use Rattle.effbd.specs.Answers.{said}
-use native.Mathlib.Omega.{arith}
-use lib.Seq.{length-take-le}
-use mathlib.Core.Path.{sym, ◌∙◌, ap}
 use Rattle.ends.proofs.ready_in.Goals as goal
 
+pub returns-in_err-size : goal.returns-in_err-size
+returns-in_err-size c = let a = c.args in let e = c.in_err-size.field-0.0 in
+    let told = no-ends a.file.now a.net.now a.leader.now a.follower.now c.translate_into.new.area (number e.reason) e.value c.in_err-size.ensures.result_value c.in_err-size.ensures.net_laid_as in
+    let p = err_from_is_err_and c.from_residual.result c.from_residual.ensures.1 in
+    record { answer_value = rw (p.1, p.2) told.0; ready_as = rw p.1 told.1 }
+
 pub slice_bounds-fresh_ends-end : goal.slice_bounds-fresh_ends-end
-slice_bounds-fresh_ends-end c = (found-net c.args.file.now c.args.net.now c.translate_into-answer.new.area c.in-Accepted.size
-    (ap said (sym c.in-Accepted.is) ∙ c.translate_into-answer.ensures.result_value) c.translate_into-answer.ensures.net_laid_as).0
+slice_bounds-fresh_ends-end c =
+    (found-net c.args.file.now c.args.net.now c.translate_into.new.area c.in_ok-size.size c.in_ok-size.ensures.result_value c.in_ok-size.ensures.net_laid_as).0
 
-pub slice_bounds-fresh_ends-end-in-Accepted : goal.slice_bounds-fresh_ends-end-in-Accepted
-slice_bounds-fresh_ends-end-in-Accepted c = sym (length-take-le c.in-Accepted.size c.translate_into-answer.new.area (found-net c.args.file.now c.args.net.now c.translate_into-answer.new.area c.in-Accepted.size
-    (ap said (sym c.in-Accepted.is) ∙ c.translate_into-answer.ensures.result_value) c.translate_into-answer.ensures.net_laid_as).0)
+pub slice_bounds-fresh_ends-end-2 : goal.slice_bounds-fresh_ends-end-2
+slice_bounds-fresh_ends-end-2 c = sym (length-take-le c.in_ok-size.size c.translate_into.new.area
+    (found-net c.args.file.now c.args.net.now c.translate_into.new.area c.in_ok-size.size c.in_ok-size.ensures.result_value c.in_ok-size.ensures.net_laid_as).0)
 
-pub fresh_ends-requires : goal.fresh_ends-requires
-fresh_ends-requires c = record {
-  net_of = (found-net c.args.file.now c.args.net.now c.translate_into-answer.new.area c.in-Accepted.size
-      (ap said (sym c.in-Accepted.is) ∙ c.translate_into-answer.ensures.result_value) c.translate_into-answer.ensures.net_laid_as).1;
-  leader_room_in_bounds = omega arith;
-  follower_room_in_bounds = omega arith;
+pub fresh_ends-states-requires : goal.fresh_ends-states-requires
+fresh_ends-states-requires c = record {
+  net_of = (found-net c.args.file.now c.args.net.now c.translate_into.new.area c.in_ok-size.size c.in_ok-size.ensures.result_value c.in_ok-size.ensures.net_laid_as).1;
+  leader_room_in_bounds = omega (arith, c.requires.leader_room_in_bounds);
+  follower_room_in_bounds = omega (arith, c.requires.follower_room_in_bounds);
 }
 
-pub returns-in-Refused : goal.returns-in-Refused
-returns-in-Refused c = let told = no-ends c.args.file.now c.args.net.now c.args.leader.now c.args.follower.now c.translate_into-answer.new.area c.in-Refused.number c.in-Refused.value
-    (ap said (sym c.in-Refused.is) ∙ c.translate_into-answer.ensures.result_value) c.translate_into-answer.ensures.net_laid_as in record { answer_value = told.0; ready_as = told.1 }
-
-pub returns-in-Accepted : goal.returns-in-Accepted
-returns-in-Accepted c = let told = both-ready c.args.file.now c.args.net.now c.args.leader.now c.args.follower.now c.translate_into-answer.new.area
-    c.fresh_ends.new.leader c.fresh_ends.new.follower c.in-Accepted.size c.fresh_ends.result.leader c.fresh_ends.result.follower
-    (ap said (sym c.in-Accepted.is) ∙ c.translate_into-answer.ensures.result_value) c.translate_into-answer.ensures.net_laid_as c.fresh_ends.ensures in record { answer_value = told.0; ready_as = told.1 }
+pub returns : goal.returns
+returns c = let a = c.args in let s = c.fresh_ends-states in
+    let told = both-ready a.file.now a.net.now a.leader.now a.follower.now c.translate_into.new.area
+    s.new.leader s.new.follower c.in_ok-size.size s.result.leader s.result.follower
+    c.in_ok-size.ensures.result_value c.in_ok-size.ensures.net_laid_as s.ensures in record { answer_value = told.0; ready_as = told.1 }

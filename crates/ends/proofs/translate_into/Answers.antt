@@ -1,14 +1,18 @@
-use Rattle.ends.proofs.LaidNets.{no-net, net-laid}
-use Rattle.agreement.specs.ByteLaws.{bytes-are}
+use Rattle.std.proofs.Common.{arith}
+use Rattle.std.proofs.lemmas.Result.{err_from_is_err_and}
 use Rattle.effbd.specs.Answers.{said}
-use native.Mathlib.Omega.{arith}
+use Rattle.agreement.specs.ByteLaws.{bytes-are}
+use Rattle.ends.proofs.LaidNets.{no-net, net-laid}
 use Rattle.ends.proofs.translate_into.Goals as goal
 
-pub returns-then-diagram-ne0 : goal.returns-then-diagram-ne0
-returns-then-diagram-ne0 c = let told = no-net c.args.file.now c.args.area.now c.parse-diagram.result c.parse-diagram.ensures c.if-diagram-ne0.true in record { result_value = told.0; net_laid_as = told.1 }
+pub returns-in_err-parse : goal.returns-in_err-parse
+returns-in_err-parse c =
+    let told = no-net c.args.file.now c.args.area.now c.in_err-parse.field-0.0 c.in_err-parse.ensures in
+    let p = err_from_is_err_and c.from_residual.result c.from_residual.ensures.1 in
+    record { result_value = rw (p.1, p.2) told.0; net_laid_as = told.1 }
 
 pub returns : goal.returns
-returns c = let h = c.parse-diagram.ensures.holds c.if-diagram-ne0.false in
-    let told = net-laid c.args.file.now c.parse-diagram.result.rows c.parse-diagram.result.items c.parse-diagram.result.table h
+returns c = let d = c.in_ok-parse.field-0 in
+    let told = net-laid c.args.file.now d.rows d.items d.table c.in_ok-parse.ensures.holds
     (bytes-are c.args.file.now (λ i. omega (arith, c.type_inv.file i)))
     c.args.area.now c.translate.new.area (said c.translate.result) c.requires c.translate.ensures.result_value c.translate.ensures.area_after in record { result_value = told.0; net_laid_as = told.1 }

@@ -1,19 +1,9 @@
-use Rattle.fresh_copies.proofs.Turns.{run_none, run-turn}
-use Rattle.fresh_copies.specs.Runs.{run_put}
-use native.Mathlib.Omega.{arith}
-use mathlib.Core.Path.{◌≡◌, refl, ◌∙◌, ap}
-use Prim.Native.Nat.{◌+◌, ◌*◌}
+use Rattle.std.proofs.Common.{◌+◌, ◌-◌, ◌*◌, ◌∙◌, ap, replicate, drop, length-drop, arith}
+use Rattle.std.proofs.lemmas.List.{length-take-le}
+use borrow.Rule.Slice.PartMut.{put_mid}
+use Rattle.fresh_copies.proofs.Fills.{filled_is}
 use Rattle.fresh_copies.proofs.put_run.Goals as goal
 
-pub loop-i-init : goal.loop-i-init
-loop-i-init c = let a = c.args in (refl, omega arith, run_none (3 * a.rows + a.first) a.value a.state.now)
-
-pub loop-i-smaller : goal.loop-i-smaller
-loop-i-smaller c = omega (arith, c.loop-i-test.true)
-
-pub loop-i-preserved : goal.loop-i-preserved
-loop-i-preserved c = let l = c.loop-i in let a = c.args in
-    (c.put.auto.state ∙ l.invariant.0, omega (arith, c.loop-i-test.true), run-turn (3 * a.rows + a.first) l.i a.value a.state.now l.state c.put.new.state l.invariant.2 c.put.ensures)
-
 pub returns : goal.returns
-returns c = let l = c.loop-i in let a = c.args in let z : l.i ≡ a.many = omega (arith, c.loop-i-test.false, l.invariant.1) in l.invariant.2 ∙ ap (λ n. run_put (3 * a.rows + a.first) n a.value a.state.now) z
+returns c = let a = c.args in let from = c.min-from.result in let to = c.min-to.result in
+    ap (put_mid from (to - from) a.state.now) (c.fill.ensures.after (λ y e. cc) ∙ ap (λ n. replicate n a.value) (length-take-le (to - from) (drop from a.state.now) (simp length-drop (omega arith)))) ∙ filled_is (3 * a.rows + a.first) a.many a.value from to a.state.now (omega arith) (omega arith) (omega arith) (λ h. omega arith) (omega arith) (λ h. omega arith)

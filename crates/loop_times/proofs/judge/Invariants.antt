@@ -1,4 +1,4 @@
-use Prim.Native.Nat.{◌≤◌}
+use Rattle.std.specs.Prelude.{◌≤◌}
 use Rattle.loop_times.proofs.Looks.{SeenFrom}
 use Rattle.loop_times.proofs.judge.Given as goal
 

@@ -1,10 +1,6 @@
-use Rattle.net_records.specs.Records.{mark}
 use Rattle.net_records.specs.Writing.{Wrote, runs}
-use Prim.Native.Nat.{◌-◌, ◌≤◌}
+use Rattle.net_records.specs.Records.{mark}
 use Rattle.net_counts.proofs.equal_marks.Given as goal
 
-abbrev pub invariant-loop-i : goal.invariant-loop-i
-invariant-loop-i l = (l.i ≤ l.number) × Wrote l.initial.area l.initial.next l.area l.next (runs (λ j. mark l.weight) l.i)
-
-abbrev pub decreases-loop-i : goal.decreases-loop-i
-decreases-loop-i l = l.number - l.i
+abbrev pub invariant-loop-copy : goal.invariant-loop-copy
+invariant-loop-copy l = Wrote l.initial.net l.net (runs (λ j. mark l.weight) l._copy)

@@ -1,50 +1,49 @@
-use Rattle.net_file.proofs.Standing.{near-offset, first-due, go_on, shrinks, stop, done}
+use Rattle.std.proofs.Common.{refl, sym, ap, ◌∙◌}
+use Rattle.effbd.specs.Answers.{fault}
+use Rattle.ranges.specs.Reasons.{some-fault}
+use Rattle.net_file.proofs.Standing.{first-due, go_on, shrinks, stop, done}
 use Rattle.net_file.proofs.Turns.{right-arc, right-transition, none_right}
-use native.Mathlib.Omega.{arith}
-use mathlib.Core.Path.{sym, ◌∙◌}
 use Rattle.net_file.proofs.read_transitions.Goals as goal
 
 pub loop-rest-init : goal.loop-rest-init
-loop-rest-init c = let a = c.args in first-due a.count a.total a.transitions a.table.now a.behind.now c.start-due.result c.requires c.start-due.ensures
+loop-rest-init c = let a = c.args in first-due a.count a.total a.transitions a.behind.now c.start-due.result c.requires c.start-due.ensures
 
 pub behind_arc-due-requires : goal.behind_arc-due-requires
-behind_arc-due-requires c = let l = c.loop-rest in (right-arc c.args.count l.due l.rest.now l.invariant.near.least c.arc_size-arc.result c.arc_size-arc.ensures c.if-arc-ne0.true).whole
+behind_arc-due-requires c = let l = c.loop-rest in let s = c.in-Some in (right-arc c.args.count l.due l.rest.now l.invariant.near.least s.size s.ensures.length s.ensures.some).whole
 
-pub loop-rest-smaller-then-arc-ne0 : goal.loop-rest-smaller-then-arc-ne0
-loop-rest-smaller-then-arc-ne0 c = let l = c.loop-rest in let a = c.args in
-    shrinks a.count a.total a.transitions a.behind.now c.requires.places l.due l.rest.now l.invariant c.arc_size-arc.result _ c.tail-more.result.now
-    (right-arc a.count l.due l.rest.now l.invariant.near.least c.arc_size-arc.result c.arc_size-arc.ensures c.if-arc-ne0.true) c.tail-more.ensures
+pub loop-rest-smaller-in-Some : goal.loop-rest-smaller-in-Some
+loop-rest-smaller-in-Some c = let l = c.loop-rest in let a = c.args in let s = c.in-Some in
+    shrinks a.count a.total a.transitions a.behind.now c.requires.places l.due l.rest.now l.invariant s.size _ c.tail-rest.result.now
+    (right-arc a.count l.due l.rest.now l.invariant.near.least s.size s.ensures.length s.ensures.some) c.tail-rest.ensures
 
-pub loop-rest-preserved-then-arc-ne0 : goal.loop-rest-preserved-then-arc-ne0
-loop-rest-preserved-then-arc-ne0 c = let l = c.loop-rest in let a = c.args in
-    rw c.behind_arc-due.ensures (go_on a.count a.total a.transitions a.behind.now c.requires.places l.due l.rest.now l.invariant c.arc_size-arc.result _ c.tail-more.result.now
-    (right-arc a.count l.due l.rest.now l.invariant.near.least c.arc_size-arc.result c.arc_size-arc.ensures c.if-arc-ne0.true) c.tail-more.ensures (sym c.ended.ensures ∙ c.loop-rest-test.true))
+pub loop-rest-preserved-in-Some : goal.loop-rest-preserved-in-Some
+loop-rest-preserved-in-Some c = let l = c.loop-rest in let a = c.args in let s = c.in-Some in
+    rw c.behind_arc-due.ensures (go_on a.count a.total a.transitions a.behind.now c.requires.places l.due l.rest.now l.invariant s.size _ c.tail-rest.result.now
+    (right-arc a.count l.due l.rest.now l.invariant.near.least s.size s.ensures.length s.ensures.some) c.tail-rest.ensures (sym c.ended.ensures ∙ c.loop-rest-test.true))
 
-pub overflow_sub-result : goal.overflow_sub-result
-overflow_sub-result c = let n = c.loop-rest.invariant.near.inside in omega arith
+pub unwrap-requires : goal.unwrap-requires
+unwrap-requires c = let l = c.loop-rest in
+    some-fault c.fault_in.result (λ z. none_right c.args.count l.due l.rest.now l.invariant.near.least 0 0 c.in_default.ensures.length c.in_default-transition_size.ensures.length refl refl (sym c.fault_in.ensures ∙ z))
 
-pub overflow_cast-result : goal.overflow_cast-result
-overflow_cast-result c = let n = near-offset c.args.total c.loop-rest.due c.loop-rest.rest.now c.loop-rest.invariant.near in omega arith
-
-pub returns-then-size-eq0 : goal.returns-then-size-eq0
-returns-then-size-eq0 c = let l = c.loop-rest in let a = c.args in
-    stop a.count a.total a.transitions a.behind.now c.requires.places l.due l.rest.now l.invariant c.fault-wrong.result
+pub returns-in_default-transition_size : goal.returns-in_default-transition_size
+returns-in_default-transition_size c = let l = c.loop-rest in let a = c.args in
+    stop a.count a.total a.transitions a.behind.now c.requires.places l.due l.rest.now l.invariant _
     (sym c.ended.ensures ∙ c.loop-rest-test.true)
-    (none_right a.count l.due l.rest.now l.invariant.near.least c.arc_size-arc.result c.transition_size-size.result c.arc_size-arc.ensures c.transition_size-size.ensures c.if-arc-ne0.false c.if-size-eq0.true)
-    c.fault-wrong.ensures
+    (none_right a.count l.due l.rest.now l.invariant.near.least 0 0 c.in_default.ensures.length c.in_default-transition_size.ensures.length refl refl)
+    (sym (ap fault c.unwrap.ensures) ∙ c.fault_in.ensures)
 
 pub behind_transition-due-requires : goal.behind_transition-due-requires
-behind_transition-due-requires c = let l = c.loop-rest in (right-transition c.args.count l.due l.rest.now l.invariant.near.least c.transition_size-size.result c.transition_size-size.ensures c.if-size-eq0.false).whole
+behind_transition-due-requires c = let l = c.loop-rest in let s = c.in-Some-transition_size in (right-transition c.args.count l.due l.rest.now l.invariant.near.least s.size s.ensures.length s.ensures.some).whole
 
 pub loop-rest-smaller : goal.loop-rest-smaller
-loop-rest-smaller c = let l = c.loop-rest in let a = c.args in
-    shrinks a.count a.total a.transitions a.behind.now c.requires.places l.due l.rest.now l.invariant c.transition_size-size.result _ c.tail-more-else-arc-ne0.result.now
-    (right-transition a.count l.due l.rest.now l.invariant.near.least c.transition_size-size.result c.transition_size-size.ensures c.if-size-eq0.false) c.tail-more-else-arc-ne0.ensures
+loop-rest-smaller c = let l = c.loop-rest in let a = c.args in let s = c.in-Some-transition_size in
+    shrinks a.count a.total a.transitions a.behind.now c.requires.places l.due l.rest.now l.invariant s.size _ c.tail-rest-in_default.result.now
+    (right-transition a.count l.due l.rest.now l.invariant.near.least s.size s.ensures.length s.ensures.some) c.tail-rest-in_default.ensures
 
 pub loop-rest-preserved : goal.loop-rest-preserved
-loop-rest-preserved c = let l = c.loop-rest in let a = c.args in
-    rw c.behind_transition-due.ensures (go_on a.count a.total a.transitions a.behind.now c.requires.places l.due l.rest.now l.invariant c.transition_size-size.result _ c.tail-more-else-arc-ne0.result.now
-    (right-transition a.count l.due l.rest.now l.invariant.near.least c.transition_size-size.result c.transition_size-size.ensures c.if-size-eq0.false) c.tail-more-else-arc-ne0.ensures (sym c.ended.ensures ∙ c.loop-rest-test.true))
+loop-rest-preserved c = let l = c.loop-rest in let a = c.args in let s = c.in-Some-transition_size in
+    rw c.behind_transition-due.ensures (go_on a.count a.total a.transitions a.behind.now c.requires.places l.due l.rest.now l.invariant s.size _ c.tail-rest-in_default.result.now
+    (right-transition a.count l.due l.rest.now l.invariant.near.least s.size s.ensures.length s.ensures.some) c.tail-rest-in_default.ensures (sym c.ended.ensures ∙ c.loop-rest-test.true))
 
 pub returns : goal.returns
 returns c = let l = c.loop-rest in let a = c.args in

@@ -1,5 +1,5 @@
+use Rattle.std.proofs.Common.{length}
 use Rattle.net_file.proofs.Standing.{Stands}
-use lib.ListN.{length}
 use Rattle.net_file.proofs.read_transitions.Given as goal
 
 abbrev pub invariant-loop-rest : goal.invariant-loop-rest

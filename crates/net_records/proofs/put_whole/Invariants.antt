@@ -1,12 +1,7 @@
-use Prim.Native.Nat.{◌-◌, ◌≤◌}
-use mathlib.Core.Path.{◌≡◌}
-use lib.ListN.{length, take}
-use lib.Seq.{sets}
+use Rattle.std.proofs.Common.{◌≡◌, take}
+use Rattle.std.proofs.lemmas.List.Edits.{sets}
 use Rattle.net_records.specs.Writing.{encode}
 use Rattle.net_records.proofs.put_whole.Given as goal
 
 abbrev pub invariant-loop-i : goal.invariant-loop-i
-invariant-loop-i l = (l.i ≤ length l.fields) × (length l.area ≡ length l.initial.area) × (l.area ≡ sets l.initial.area 0 (encode (take l.i l.fields)))
-
-abbrev pub decreases-loop-i : goal.decreases-loop-i
-decreases-loop-i l = length l.fields - l.i
+invariant-loop-i l = l.area ≡ sets l.initial.area 0 (encode (take l.i l.fields))

@@ -16,7 +16,7 @@ returns c = let a = c.args in
     let p = length a.marks.now in
     let l : p ≤ length a.state.now = omega (arith, c.requires) in
     let f = renewed_clock (Fired a.j) a.marks.now in
-    let ts = transitions_in a.count a.transitions.now in
+    let ts = transitions_in a.net.now.count a.net.now.transitions.now in
     written p f ts a.state.now c.renew.new.clocks c.apply.new.marks c.copy.new.to l c.apply.auto.marks c.renew.ensures c.copy.ensures
     ∙ ap (λ (q : List ℕ). q ++ clocks_by f 0 ts (drop p a.state.now)) c.apply.ensures
     ∙ ap (λ (q : List ℕ). applied give_arc (arcs_in a.arcs.now) a.marks.now ++ q) (fired-clocks a.j a.marks.now ts (drop p a.state.now))

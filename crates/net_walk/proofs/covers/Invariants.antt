@@ -1,5 +1,4 @@
-use lib.ListN.{length}
-use mathlib.Core.Path.{◌≡◌}
+use Rattle.std.proofs.Common.{◌≡◌, length}
 use Rattle.net_walk.specs.Walked.{covered}
 use Rattle.net_file.specs.Contents.{arcs_in}
 use Rattle.net_walk.proofs.covers.Given as goal

@@ -1,7 +1,6 @@
 use Rattle.net_file.specs.Contents.{arcs_in}
 use Rattle.net_walk.specs.Walked.{sums}
-use mathlib.Core.Path.{◌≡◌}
-use lib.ListN.{length}
+use Rattle.std.proofs.Common.{◌≡◌, length}
 use Rattle.net_walk.proofs.sums_fit.Given as goal
 
 abbrev pub invariant-loop-rest : goal.invariant-loop-rest

@@ -10,9 +10,6 @@ loop-around-init c = (search rules, subst (Climb c.args.table.now c.args.row) (s
 pub returns-then-owner-around : goal.returns-then-owner-around
 returns-then-owner-around c = let s = c.loop-around in climb-over c.args.table.now c.args.row s.owner s.invariant.1 (sym c.in_scenario.ensures ∙ c.loop-around-test.true) (omega (arith, c.if-owner-around.true, c.cell-around.ensures))
 
-pub loop-around-smaller : goal.loop-around-smaller
-loop-around-smaller c = omega (arith, c.if-owner-around.false)
-
 pub loop-around-preserved : goal.loop-around-preserved
 loop-around-preserved c = let s = c.loop-around in (search rules, subst (Climb c.args.table.now c.args.row) (sym c.cell-around.ensures) (climb-next c.args.table.now c.args.row s.owner s.invariant.1 (sym c.in_scenario.ensures ∙ c.loop-around-test.true)))
 

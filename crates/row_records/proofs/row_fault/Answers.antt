@@ -1,4 +1,4 @@
-use Rattle.row_records.proofs.Fields.{base-at, behind-at, behind-base, function-fault, limit-fault, other-fault, row-short}
+use Rattle.row_records.proofs.Fields.{behind-base, function-fault, limit-fault, other-fault, row-short}
 use native.Mathlib.Omega.{arith}
 use Rattle.row_records.proofs.row_fault.Goals as goal
 
@@ -7,17 +7,17 @@ returns-then-bytes-lt4 c = let a = c.args in row-short a.items a.bytes.now c.if-
 
 pub function_fault-requires : goal.function_fault-requires
 function_fault-requires c = let a = c.args in
-    behind-base c.in-16.is (base-at a.entries.now c.word-kind.result c.requires c.base_length-base.ensures) (behind-at a.entries.now c.word-kind.result c.requires c.behind_fields-behind.ensures.0)
+    behind-base c.in-16.is c.base_length-base.ensures c.behind_fields-behind.ensures.0
 
 pub returns-in-16 : goal.returns-in-16
 returns-in-16 c = let a = c.args in
-    function-fault a.items a.bytes.now c.word-kind.ensures c.in-16.is (base-at a.entries.now c.word-kind.result c.requires c.base_length-base.ensures)
-    (behind-at a.entries.now c.word-kind.result c.requires c.behind_fields-behind.ensures.0) c.function_fault.ensures
+    function-fault a.items a.bytes.now c.word-kind.ensures c.in-16.is c.base_length-base.ensures
+    c.behind_fields-behind.ensures.0 c.function_fault.ensures
 
 pub returns-in-22 : goal.returns-in-22
 returns-in-22 c = let a = c.args in
-    limit-fault a.items a.bytes.now c.word-kind.ensures c.word-size.ensures c.in-22.is (base-at a.entries.now c.word-kind.result c.requires c.base_length-base.ensures) c.word.ensures c.turn_limit_fine-fine.ensures c.record_fault.ensures
+    limit-fault a.items a.bytes.now c.word-kind.ensures c.word-size.ensures c.in-22.is c.base_length-base.ensures c.word.ensures c.turn_limit_fine-fine.ensures c.record_fault.ensures
 
 pub returns-in_default : goal.returns-in_default
 returns-in_default c = let a = c.args in
-    other-fault a.items a.bytes.now c.word-kind.ensures c.word-size.ensures (omega arith) (omega arith) c.is_row-due.ensures (base-at a.entries.now c.word-kind.result c.requires c.base_length-base.ensures) c.record_fault-in_default.ensures
+    other-fault a.items a.bytes.now c.word-kind.ensures c.word-size.ensures (omega arith) (omega arith) c.is_row-due.ensures c.base_length-base.ensures c.record_fault-in_default.ensures

@@ -1,22 +1,14 @@
-use mathlib.Core.Path.{sym, ◌∙◌}
-use native.Mathlib.Omega.{arith}
-use Rattle.scenarios.proofs.Falling.{outlet-start, outlet-on, outlet-found, outlet-none}
+use Rattle.std.specs.Prelude.{◌≡◌, true, false}
+use Rattle.std.proofs.Common.{subst, sym, rules, tests}
+use Rattle.std.proofs.lemmas.Iterator.{first_from_Range}
+use Rattle.diagram_table.specs.Cells.{is_branch}
+use Rattle.scenarios.specs.Scenarios.{OutletRead}
+use Rattle.scenarios.proofs.Falling.{outlet-is}
 use Rattle.scenarios.proofs.first_outlet.Goals as goal
 
-pub loop-row-init : goal.loop-row-init
-loop-row-init c = let a = c.args in outlet-start a.table.now a.rows a.opened
-
-pub returns-then-is_branch : goal.returns-then-is_branch
-returns-then-is_branch c = let a = c.args in
-    let s = c.loop-row in
-    outlet-found a.table.now a.rows a.opened s.row c.loop-row-test.true (sym c.is_branch.ensures ∙ c.if-is_branch.true) s.invariant
-
-pub loop-row-preserved : goal.loop-row-preserved
-loop-row-preserved c = let a = c.args in
-    let s = c.loop-row in
-    outlet-on a.table.now a.rows a.opened s.row (sym c.is_branch.ensures ∙ c.if-is_branch.false) s.invariant
-
 pub returns : goal.returns
-returns c = let a = c.args in
-    let s = c.loop-row in
-    outlet-none a.table.now a.rows a.opened s.row (omega (arith, c.loop-row-test.false)) s.invariant
+returns c =
+    let a = c.args in
+    let t = a.table.now in
+    let h = first_from_Range _ _ _ c.find.result (λ q. is_branch t a.opened q ≡ true) (λ q. is_branch t a.opened q ≡ false) c.find.ensures.ran (λ x q k. search (rules, tests)) (λ x q k. search (rules, tests)) in
+    subst (OutletRead t a.rows a.opened) (sym c.unwrap_or.ensures) (outlet-is t a.rows a.opened c.find.result h)

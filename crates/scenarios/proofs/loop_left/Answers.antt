@@ -1,22 +1,13 @@
-use mathlib.Core.Path.{sym, ◌∙◌}
-use native.Mathlib.Omega.{arith}
-use Rattle.scenarios.proofs.Falling.{left-start, left-found, left-on, left-never}
+use Rattle.std.specs.Prelude.{◌-◌, refl}
+use Rattle.std.proofs.Common.{◌∙◌, rules, tests}
+use Rattle.std.proofs.lemmas.Iterator.{YieldsList-from_range}
+use Rattle.std.proofs.lemmas.Iterator.Search.{any_from_yields_List}
+use Rattle.scenarios.specs.Scenarios.{leaves_in}
+use Rattle.scenarios.proofs.Falling.{left-is}
 use Rattle.scenarios.proofs.loop_left.Goals as goal
 
-pub loop-row-init : goal.loop-row-init
-loop-row-init c = let a = c.args in (omega arith, left-start a.table.now a.first)
-
-pub returns-then-leaves : goal.returns-then-leaves
-returns-then-leaves c = let a = c.args in
-    let s = c.loop-row in
-    sym (left-found a.table.now a.first s.row a.last s.invariant.0 c.loop-row-test.true (sym c.leaves.ensures ∙ c.if-leaves.true))
-
-pub loop-row-preserved : goal.loop-row-preserved
-loop-row-preserved c = let a = c.args in
-    let s = c.loop-row in
-    (omega (arith, s.invariant.0), left-on a.table.now a.first s.row (sym c.leaves.ensures ∙ c.if-leaves.false) s.invariant.1)
-
 pub returns : goal.returns
-returns c = let a = c.args in
-    let s = c.loop-row in
-    sym (left-never a.table.now a.first s.row a.last (omega (arith, c.loop-row-test.false)) s.invariant.1)
+returns c =
+    let a = c.args in
+    any_from_yields_List (leaves_in a.table.now a.first) _ _ c.any.result c.any.ensures.ran (YieldsList-from_range a.first a.last (a.last - a.first) refl refl) (λ x b q k. search (rules, tests))
+    ∙ left-is a.table.now a.first a.last

@@ -1,18 +1,15 @@
+use Rattle.std.specs.Prelude.{◌≡◌, ◌-◌, length}
+use Rattle.std.proofs.Common.{arith, ◌∙◌}
+use Rattle.ranges.specs.Tests.{decide}
+use borrow.Author.Tests.{leb-true, leb-false}
 use Rattle.diagram_moves.specs.StandingCounts.{standing-all, standing-some}
 use Rattle.diagram_moves.specs.Decisions.{count_place}
-use native.Mathlib.Omega.{arith}
-use Prim.Native.Nat.{◌-◌}
-use lib.ListN.{length}
-use mathlib.Core.Path.{◌≡◌, ◌∙◌}
+use Rattle.std.specs.Prelude.{leb, ◌+◌}
 use Rattle.diagram_state.proofs.cells.standing.Goals as goal
 
-pub returns-then-from-count : goal.returns-then-from-count
-returns-then-from-count c = let a = c.args in standing-all a.rows a.first a.count a.state.now (omega (arith, c.if-from-count.true))
-
-pub returns-then-state-from : goal.returns-then-state-from
-returns-then-state-from c = let a = c.args in
-    let z : 0 ≡ length a.state.now - count_place a.rows a.first = omega (arith, c.if-state-from.true) in
-    z ∙ standing-some a.rows a.first a.count a.state.now (omega (arith, c.if-from-count.false))
-
 pub returns : goal.returns
-returns c = let a = c.args in standing-some a.rows a.first a.count a.state.now (omega (arith, c.if-from-count.false))
+returns c = let a = c.args in decide (leb (count_place a.rows (a.first + a.count)) (length a.state.now))
+    (λ y. let l = leb-true (count_place a.rows (a.first + a.count)) (length a.state.now) y in let e : c.min.result ≡ a.count = omega (arith, c.min.ensures, c.saturating_sub-left.ensures) in
+    e ∙ standing-all a.rows a.first a.count a.state.now l)
+    (λ y. let l = leb-false (count_place a.rows (a.first + a.count)) (length a.state.now) y in let e : c.min.result ≡ length a.state.now - count_place a.rows a.first = omega (arith, c.min.ensures, c.saturating_sub-left.ensures) in
+    e ∙ standing-some a.rows a.first a.count a.state.now l)

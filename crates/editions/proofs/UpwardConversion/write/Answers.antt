@@ -1,0 +1,8 @@
+use Rattle.std.proofs.Common.{List, ℕ, ap, ◌∙◌}
+use Rattle.words.specs.Stores.{copied}
+use Rattle.editions.proofs.Becomes.{new-of}
+use Rattle.editions.proofs.UpwardConversion.write.Goals as goal
+
+pub returns : goal.returns
+returns c = let a = c.args in
+    c.write_telegram.ensures ∙ ap (λ (t : List ℕ). copied t a.area.now) (new-of a.rest.now a.self.now.station a.number c.word-code.result c.word-argument.result c.word-code.ensures c.word-argument.ensures)

@@ -1,7 +1,0 @@
-use Rattle.net_records.proofs.Writing.{and_then}
-use Rattle.net_uses.specs.FunctionTransitions.{trigger_arcs}
-use Rattle.net_uses.proofs.trigger_arcs.Goals as goal
-
-pub returns : goal.returns
-unfolding trigger_arcs
-returns c = and_then c.pass_arcs-copies.ensures c.pass_arcs.ensures

@@ -1,7 +1,0 @@
-use Rattle.text.specs.LaidLaws.{and_then}
-use Rattle.effbd.specs.Annex.{number}
-use Rattle.text.proofs.put_number.Goals as goal
-
-pub returns : goal.returns
-unfolding number
-returns c = and_then c.put-next.ensures c.put_digits.ensures
