@@ -1,3 +1,4 @@
 mod Becomes
 mod Turns
 mod Calls
+pub mod Refusals

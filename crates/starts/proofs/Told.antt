@@ -1,5 +1,5 @@
 -- What the call answers, and what it leaves in the number lent for t: at a file's refusal, at 40 and 41, at 42, and where the log stood.
-use Rattle.std.specs.Prelude.{ℕ, zero, suc, ◌%◌, ◌≤◌, ◌≡◌, ◌≢◌, Bool, true, false, cond, ◌&&◌, List, [], ◌++◌, length, drop, leb, ltb, eqb, Option, Some, None, Err}
+use Rattle.std.specs.Prelude.{ℕ, zero, suc, ◌%◌, ◌≤◌, ◌≡◌, ◌≢◌, Bool, true, false, not, cond, ◌&&◌, List, [], ◌++◌, length, drop, leb, ltb, eqb, Option, Some, None, Err}
 use Rattle.std.specs.Option.{option_or}
 use Rattle.std.proofs.Common.{refl, sym, ◌∙◌, ap, ap₂, subst, arith}
 use mathlib.Core.List.{append-nil}
@@ -7,13 +7,13 @@ use lib.ListN.{drop_of_length-le}
 use borrow.Author.Tests.{eqb-true, ne_eqb, leb-true, ltb-true, ltb-false}
 use Rattle.effbd.specs.declared.refusals.Reason.{Reason}
 use Rattle.effbd.specs.declared.refusals.Refusal.{Refusal}
-use Rattle.effbd.specs.Answers.{Outcome, accepted, refused, unless, and_then, number, fault}
+use Rattle.effbd.specs.Answers.{Outcome, accepted, refused, is_accepted, unless, and_then, number, fault}
 use Rattle.ranges.specs.Reasons.{number-some}
 use Rattle.effbd.specs.Diagrams.{Diagram, function, row, is_kind}
 use Rattle.effbd.specs.States.{fresh_words}
 use Rattle.effbd.specs.Logs.{Setpoint, setpoints, move_count, most_moves, log_fault, played}
 use Rattle.effbd.specs.Starts.{Start, starts_from, starts, times_of, Busiest, busiest, starts_of, starts_told_as, log_starts}
-use Rattle.ranges.specs.Tests.{decide, and_right}
+use Rattle.ranges.specs.Tests.{decide, and_right, clash}
 use Rattle.agreement.specs.Basics.{kind-past}
 use Rattle.diagram_table.specs.Cells.{kind_in}
 use Rattle.diagram_table.specs.Held.{HoldsPlant}
@@ -128,8 +128,16 @@ module _ (file log : List ℕ) (r before : ℕ) where
     stood c last e b m = subst (λ (x : Busiest). Tells file log r before (accepted x.most) x.at) (sym (most-one (times_of (starts d r log)) b (busiest (times_of (starts d r log))) m (log-busiest d r log)))
         (tells (accepted (starts d r log)) (clean-on c ∙ (unfold rest in ap (λ (o : Outcome (List ℕ)). and_then o (λ last. accepted (starts d r log))) e)))
 
-  -- of the walk at its end
+  -- of the walk at its end, or where a move is refused
   module _ (rows items : ℕ) (table : List ℕ) where
+    pub told-stopped : (h : HoldsPlant file rows items table) → starts_fault table rows log r ≡ 0 → (answer : Outcome ℕ) (flag : Bool) → flag ≡ not (is_accepted answer) → flag ≡ true
+        → ((n v : ℕ) → answer ≡ refused n v → played h.held.diagram log ≡ refused n v) → Tells file log r before answer before
+    told-stopped h c answer flag f y off = go answer refl (sym f ∙ y)
+      where
+        go : (o : Outcome ℕ) → answer ≡ o → not (is_accepted o) ≡ true → Tells file log r before o before
+        go (accepted v) e z = clash z refl
+        go (refused n v) e z = move-off rows items table h c n v (off n v e)
+
     pub told-stood : (i : ℕ) (words gaps : List ℕ) (w : Window) → Counting file log rows items table r i words gaps w → i ≡ move_count log → Tells file log r before (accepted w.most) w.at
     unfolding starts_from
     told-stood i words gaps w m e = stood rows items table m.holds m.clean words
