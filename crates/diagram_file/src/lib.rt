@@ -5,7 +5,7 @@ ghost use Rattle.std.specs.Prelude.{◌≡◌, length};
 ghost use Rattle.effbd.specs.Answers.{said, refusal_number, refusal_value};
 ghost use Rattle.effbd.specs.Nesting.{uses_part, part_in};
 ghost use Rattle.effbd.specs.States.{state_length};
-ghost use Rattle.diagram_file.specs.Tables.{Judged, Filled, Parsed, PartIs};
+ghost use Rattle.diagram_file.specs.Tables.{Judged, Filled, Filed, Parsed, PartIs};
 ghost use Rattle.diagram_table.specs.Cells.{cell_total};
 
 use diagram::Diagram;
@@ -43,9 +43,31 @@ fn fill(file: &[u8], table: &mut [u16]) -> Result<(), Refusal>
     Ok(())
 }
 
+// A file that is turned away: why, and what its head's words say of rows and items, whatever they are.
+#[derive(Clone, Copy, Debug, PartialEq, Eq)]
+pub struct Unread {
+    pub why: Refusal,
+    pub rows: u16,
+    pub items: u16,
+}
+
 // Reads a diagram file.
-pub fn parse(file: &[u8]) -> Result<Diagram, Refusal>
+pub fn parse(file: &[u8]) -> Result<Diagram, Unread>
     ensures { Parsed file.now result }
+{
+    match diagram_of(file) {
+        Ok(diagram) => Ok(diagram),
+        Err(why) => Err(Unread {
+            why,
+            rows: words::word(file, 6),
+            items: words::word(file, 8),
+        }),
+    }
+}
+
+// The same for a call that, of a refused file, asks for the refusal alone.
+pub fn diagram_of(file: &[u8]) -> Result<Diagram, Refusal>
+    ensures { Filed file.now result }
 {
     let mut table = [0u16; CELLS];
     fill(file, &mut table)?;
@@ -84,7 +106,7 @@ pub fn read(file: &[u8]) -> Answer
 pub fn uses_part(file: &[u8], row: u16) -> Part
     ensures { PartIs file.now (uses_part file.now row) result }
 {
-    match parse(file) {
+    match diagram_of(file) {
         Ok(diagram) if row < diagram.rows => {
             diagram_table::uses_part(&diagram.table, row as u32)
         }

@@ -32,7 +32,7 @@ fn item_fault(bytes: &[u8], entries: &Kinds) -> Option<Reason>
     }
     let kind = words::word(bytes, 2);
     let right = words::word(bytes, 0) == entries.base_length(kind);
-    words::record_fault(bytes, is_item(kind), right, true, Reason::FieldOff)
+    words::record_reason(bytes, is_item(kind), right, true, Reason::FieldOff)
 }
 
 #[tactic(auto, unfolding(crate::specs::Fields::head_fine))]
@@ -52,7 +52,7 @@ fn head_fault(bytes: &[u8], entries: &Kinds) -> Option<Reason>
         words::word(bytes, 6),
         words::word(bytes, 8),
     );
-    words::record_fault(
+    words::record_reason(
         bytes,
         kind == kinds::HEAD,
         right,

@@ -78,7 +78,7 @@ pub fn step(file: &[u8], state: &mut [u16], code: u16, argument: u16) -> Answer
     ensures result_value { said result ≡ returning_zero (step_diagram file.now code argument state.old) }
     ensures state_after { state.new ≡ afterwards state.old (step_diagram file.now code argument state.old) }
 {
-    let diagram = diagram_file::parse(file)?;
+    let diagram = diagram_file::diagram_of(file)?;
     if diagram_table::cell(&diagram.table, SOME_TRIGGER, 0) != 0 {
         return step_with_copies(&diagram, file, state, code, argument);
     }
@@ -133,7 +133,7 @@ fn function_number(diagram: &Diagram, state: &[u16], row: u16) -> Answer
 pub fn transition(file: &[u8], state: &[u16], row: u16) -> Answer
     ensures { said result ≡ transition_diagram file.now row state.now }
 {
-    let diagram = diagram_file::parse(file)?;
+    let diagram = diagram_file::diagram_of(file)?;
     if is_state(&diagram, file, state) {
         return function_number(&diagram, state, row);
     }
@@ -173,7 +173,7 @@ pub fn fresh(file: &[u8], state: &mut [u16]) -> Answer
     ensures result_value { said result ≡ returning_zero (fresh_diagram file.now state.old) }
     ensures state_after { state.new ≡ afterwards state.old (fresh_diagram file.now state.old) }
 {
-    let diagram = diagram_file::parse(file)?;
+    let diagram = diagram_file::diagram_of(file)?;
     if diagram_table::cell(&diagram.table, SOME_TRIGGER, 0) != 0 {
         return fresh_with_copies(diagram, file, state);
     }

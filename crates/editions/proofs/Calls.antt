@@ -21,6 +21,11 @@ pub was-accepted : (v : ℕ) (o : Outcome (List ℕ)) → accepted v ≡ checked
 was-accepted v (accepted bytes) e = (bytes, refl)
 was-accepted v (refused m w) e = never (sym e)
 
+pub was-refused : (n v : ℕ) (area : List ℕ) (o : Outcome (List ℕ)) → refused n v ≡ checked o
+    → (w : ℕ) × (and_then o (fitting area) ≡ refused n w) × (v ≡ stopping w)
+was-refused n v area (accepted bytes) e = never e
+was-refused n v area (refused m w) e = (w, (let z : m ≡ n = cc in ap (λ k. refused k w) z), cc)
+
 -- the area has room, or has not
 module _ (area bytes : List ℕ) (o : Outcome (List ℕ)) (e : o ≡ accepted bytes) where
   has : length bytes ≤ length area → and_then o (fitting area) ≡ accepted bytes
@@ -56,6 +61,11 @@ module _ (area : List ℕ) (o : Outcome (List ℕ)) where
 
   pub laid-out : (bytes : List ℕ) → o ≡ accepted bytes → length bytes ≤ length area → (laid area o).area ≡ bytes ++ drop (length bytes) area
   laid-out bytes e l = ap (λ (x : Outcome (List ℕ)). (upped_as area x).area) (has area bytes o e l)
+
+  -- what a check tells of a run that is off, the call tells, and it leaves the area
+  pub refused-told : (n v : ℕ) → refused n v ≡ checked o → (refused n v ≡ (laid area o).answer) × (area ≡ (laid area o).area)
+  refused-told n v e = let w = was-refused n v area o e in
+      (ap (λ k. refused n k) w.2 ∙ sym (ap (λ (x : Outcome (List ℕ)). (upped_as area x).answer) w.1), sym (ap (λ (x : Outcome (List ℕ)). (upped_as area x).area) w.1))
 
   module _ (v size : ℕ) (e : accepted v ≡ checked o) (long : (bytes : List ℕ) → o ≡ accepted bytes → length bytes ≡ size) where
     made : (bytes : List ℕ) × (o ≡ accepted bytes)

@@ -1,10 +1,10 @@
 -- What a check tells is what the call tells: a refusal of either way, which leaves what was lent.
 use Rattle.std.proofs.Common.{◌≡◌, ℕ, zero, suc, List, refl, sym, ap, ◌∙◌, take, drop}
-use Rattle.effbd.specs.Answers.{Outcome, accepted, refused, unless, and_then}
-use Rattle.effbd.specs.Editions.{joined, convert_from, telegram_count, old_fault, new_of, upward, downward, fitting, stopping, upped_as, telegrams_up, downed_as, telegrams_down}
-use Rattle.agreement.specs.ByteLaws.{never}
+use Rattle.effbd.specs.Answers.{Outcome, refused, unless, and_then}
+use Rattle.effbd.specs.Editions.{joined, convert_from, telegram_count, old_fault, new_of, upward, downward, fitting, stopping, telegrams_up, downed_as, telegrams_down}
 use Rattle.editions.specs.Checks.{checked}
 use Rattle.editions.proofs.Turns.{checked-joined}
+use Rattle.editions.proofs.Calls.{was-refused, refused-told}
 
 -- what telegrams become does not matter to the check
 any-made : (size : ℕ) (fault : ℕ → List ℕ → ℕ) (made other : ℕ → List ℕ → List ℕ) (number index n : ℕ) (run : List ℕ)
@@ -24,21 +24,11 @@ pub any-station : (old : List ℕ) (station first : ℕ) → checked (upward old
 unfolding upward
 any-station old station first = any-made 8 old_fault (new_of station) (new_of 0) first 0 (telegram_count 8 old) old
 
-was-refused : (n v : ℕ) (area : List ℕ) (o : Outcome (List ℕ)) → refused n v ≡ checked o
-    → (w : ℕ) × (and_then o (fitting area) ≡ refused n w) × (v ≡ stopping w)
-was-refused n v area (accepted bytes) e = never e
-was-refused n v area (refused m w) e = (w, (let z : m ≡ n = cc in ap (λ k. refused k w) z), cc)
-
 -- upward
 module _ (old : List ℕ) (station first : ℕ) (area : List ℕ) where
-  up-as : (x : Outcome (List ℕ)) → and_then (upward old station first) (fitting area) ≡ x → telegrams_up old station first area ≡ upped_as area x
-  unfolding telegrams_up
-  up-as x e = ap (upped_as area) e
-
   pub up-refused : (n v : ℕ) → refused n v ≡ checked (upward old 0 first) → (refused n v ≡ (telegrams_up old station first area).answer) × (area ≡ (telegrams_up old station first area).area)
-  up-refused n v e = let w = was-refused n v area (upward old station first) (e ∙ sym (any-station old station first)) in
-      let u = up-as (refused n w.0) w.1 in
-      (ap (λ k. refused n k) w.2 ∙ sym (ap (λ x. x.answer) u), sym (ap (λ x. x.area) u))
+  unfolding telegrams_up
+  up-refused n v e = refused-told area (upward old station first) n v (e ∙ sym (any-station old station first))
 
 -- downward
 module _ (run area : List ℕ) (station first : ℕ) where

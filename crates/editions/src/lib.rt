@@ -2,7 +2,7 @@
 // written nothing. Each telegram is read from the rest of the run and written into the rest of the area.
 #![tactic(auto)]
 
-ghost use Rattle.std.specs.Prelude.{◌≡◌, ℕ, List, true, take};
+ghost use Rattle.std.specs.Prelude.{◌≡◌, ◌*◌, ◌/◌, ℕ, List, true, length, take};
 ghost use Rattle.words.specs.Stores.{copied};
 ghost use Rattle.effbd.specs.Answers.{said, fault, is_accepted};
 ghost use Rattle.effbd.specs.Editions.{old_fault, new_fault, new_of, old_of, stopping, telegrams_up, telegrams_down};
@@ -173,13 +173,20 @@ fn write<C: Conversion>(way: &C, run: &[u8], first: u32, area: &mut [u8])
     }
 }
 
+// The bytes that a run becomes: as many telegrams, of the other edition.
+fn room<C: Conversion>(run: &[u8]) -> usize
+    ensures { result ≡ length run.now / C.SIZE * C.OUT }
+{
+    run.len() / C::SIZE * C::OUT
+}
+
 // Converts a run whose first telegram is to have this number: accepted with the bytes written.
 fn convert<C: Conversion>(way: &C, run: &[u8], first: u32, area: &mut [u8]) -> Answer
     ensures answer { said result ≡ (laid area.old (converted C.SIZE (C.off way.now) (C.made way.now) first run.now)).answer }
     ensures area { area.new ≡ (laid area.old (converted C.SIZE (C.off way.now) (C.made way.now) first run.now)).area }
 {
     check(way, run, first)?;
-    let size = run.len() / C::SIZE * C::OUT;
+    let size = room::<C>(run);
     if area.len() < size {
         return Err(Refusal {
             reason: Reason::AreaShort,

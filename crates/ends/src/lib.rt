@@ -44,7 +44,7 @@ fn translate_into(file: &[u8], area: &mut [u8]) -> Answer
     ensures result_value { said result ≡ net_length (read_diagram file.now) }
     ensures net_laid_as { NetLaidAs (read_diagram file.now) area.old area.new }
 {
-    diagram_file::parse(file)?;
+    diagram_file::diagram_of(file)?;
     translate::translate(file, area)
 }
 

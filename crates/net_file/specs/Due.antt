@@ -77,7 +77,7 @@ places_verdict count total transitions n rest = and_then (read_many mark_fault m
 abbrev pub answering : ℕ → Outcome ℕ → Outcome ℕ
 answering words o = and_then o (λ z. accepted words)
 
--- what the readers behind the head are called with: the constant table, values that the head may have, and the rest of a file of
+-- what the readers behind the head are called with, beside the constant table (`Kinds`): values that the head may have, and the rest of a file of
 -- `total` bytes of which at most `read` were read
 pub record Lent (total count transitions read : ℕ) (rest : List ℕ) : Type 0 where
   pub places : count ≤ most_places

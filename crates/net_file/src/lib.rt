@@ -57,7 +57,7 @@ fn head_fault(entries: &Kinds, net: &[u8]) -> Option<Reason>
     let due = words::word(net, 2) == NET_HEAD;
     let right = words::word(net, 0) == own_length(entries, net);
     let fine = head_fine(words::word(net, 4), words::word(net, 6));
-    words::record_fault(net, due, right, fine, Reason::HeadValueOff)
+    words::record_reason(net, due, right, fine, Reason::HeadValueOff)
 }
 
 // The fault of the place at the start.
@@ -66,7 +66,7 @@ fn place_fault(entries: &Kinds, rest: &[u8]) -> Option<Reason>
 {
     let due = words::word(rest, 2) == PLACE;
     let right = words::word(rest, 0) == own_length(entries, rest);
-    words::record_fault(rest, due, right, true, Reason::FieldOff)
+    words::record_reason(rest, due, right, true, Reason::FieldOff)
 }
 
 // The length of the place at the start, where it has nothing off.
@@ -196,13 +196,13 @@ fn fault_in(entries: &Kinds, count: u16, due: Due, rest: &[u8]) -> Option<Reason
     let second = words::word(rest, 6);
     if arc_next(due.kind, rest) {
         let fine = arc_fine(count, due, kind, first, second);
-        return words::record_fault(rest, true, right, fine, Reason::FieldOff);
+        return words::record_reason(rest, true, right, fine, Reason::FieldOff);
     }
     if due.transitions == 0 {
         return Some(Reason::BytesAfterLast);
     }
     let fine = transition_fine(due.label, first, second, words::word(rest, 8));
-    words::record_fault(rest, kind == TRANSITION, right, fine, Reason::FieldOff)
+    words::record_reason(rest, kind == TRANSITION, right, fine, Reason::FieldOff)
 }
 
 // The lowest place that one more arc of the same kind may have.

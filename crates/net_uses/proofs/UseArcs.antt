@@ -1,5 +1,5 @@
--- The arcs of a FUNCTION's uses. Item numbers rise, so in each pass they stand in the order of the file; the uses are the bytes of a part, walked by
--- its tails.
+-- The arcs of a FUNCTION's uses. Item numbers rise, so in each pass they stand in the order of the file; the uses are the bytes of a part, walked
+-- use by use.
 use Rattle.std.proofs.Common.{Bool, false, length-append, ℕ, zero, suc, ◌+◌, ◌-◌, ◌*◌, ◌≤◌, ◌<◌, zero-le, ◌≡◌, refl, sym, ap₂, ◌∙◌, true, not, cond, List, [], ◌∷◌, ◌++◌, append-nil, arith, add-zero, length, get_or, drop, length-drop, length-take-le, leb, ltb, eqb, leb-true, ltb-true, eqb-true, ne_eqb, eq-eqb}
 use Rattle.std.proofs.lemmas.List.{get_or_append_left}
 use Rattle.std.proofs.Math.Seq.{drop-append_seam}

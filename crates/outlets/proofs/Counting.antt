@@ -70,3 +70,6 @@ nth-found m n row seen f l t s e h = sym (least-is m (nth n f) row l (and_intro 
 
 pub nth-other : (n row seen : ℕ) (f : ℕ → Bool) → seen ≡ how_many row f → seen ≢ n → nth n f row ≡ false
 nth-other n row seen f s ne = rw (ne_eqb (how_many row f) n (λ z. ne (s ∙ z)), and-false (f row))
+
+pub true-next : (row : ℕ) (g : ℕ → Bool) → ((q : ℕ) → q < row → g q ≡ true) → g row ≡ true → (q : ℕ) → q < row + 1 → g q ≡ true
+true-next row g h e q l = decide (eqb q row) (λ z. ap g (eqb-true q row z) ∙ e) (λ z. let ne = eqb-false q row z in h q (omega arith))

@@ -113,10 +113,10 @@ fn function_fault(bytes: &[u8], base: u16, behind: u16, items: u16) -> Option<Re
     let size = words::word(bytes, 0);
     let right = function_right(size, base, items);
     if bytes.len() < size as usize {
-        return words::record_fault(bytes, true, right, true, Reason::FieldOff);
+        return words::record_reason(bytes, true, right, true, Reason::FieldOff);
     }
     let fine = function_fine(bytes, base, behind, items);
-    words::record_fault(bytes, true, right, fine, Reason::FieldOff)
+    words::record_reason(bytes, true, right, fine, Reason::FieldOff)
 }
 
 // One look at the length serves what follows, and one at the kind finds all that is asked of a row.
@@ -136,11 +136,11 @@ fn row_fault(bytes: &[u8], entries: &Kinds, items: u16) -> Option<Reason>
         }
         kinds::IT_OPEN => {
             let fine = turn_limit_fine(words::word(bytes, 4));
-            words::record_fault(bytes, true, size == base, fine, Reason::FieldOff)
+            words::record_reason(bytes, true, size == base, fine, Reason::FieldOff)
         }
         _ => {
             let due = is_row(kind);
-            words::record_fault(bytes, due, size == base, true, Reason::FieldOff)
+            words::record_reason(bytes, due, size == base, true, Reason::FieldOff)
         }
     }
 }

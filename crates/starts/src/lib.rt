@@ -117,7 +117,7 @@ pub fn log_starts(file: &[u8], log: &[u8], row: u16, at: &mut u32) -> Answer
     ensures result_value { said result ≡ (log_starts file.now log.now row at.old).answer }
     ensures at_after { at.new ≡ (log_starts file.now log.now row at.old).at }
 {
-    let diagram = diagram_file::parse(file)?;
+    let diagram = diagram_file::diagram_of(file)?;
     if diagram_table::cell(&diagram.table, SOME_TRIGGER, 0) != 0 {
         return starts_with_copies(diagram, file, log, row, at);
     }

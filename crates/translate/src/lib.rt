@@ -103,7 +103,7 @@ pub fn translate(file: &[u8], area: &mut [u8]) -> Answer
     ensures result_value { said result ≡ (translated file.now area.old).answer }
     ensures area_after { area.new ≡ (translated file.now area.old).area }
 {
-    let diagram = diagram_file::parse(file)?;
+    let diagram = diagram_file::diagram_of(file)?;
     let rows = diagram.rows;
     let items = diagram.items;
     if diagram_table::cell(&diagram.table, SOME_TRIGGER, 0) == 0 {

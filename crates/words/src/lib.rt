@@ -64,7 +64,13 @@ pub fn tail<'a>(bytes: &'a [u8], n: usize) -> &'a [u8]
 }
 
 // The order of refusals at a record: its kind is due, its length is right for its kind, its fields are fine (else `off`).
-pub fn record_fault(bytes: &[u8], due: bool, right: bool, fine: bool, off: Reason) -> Option<Reason>
+pub fn record_reason(
+    bytes: &[u8],
+    due: bool,
+    right: bool,
+    fine: bool,
+    off: Reason,
+) -> Option<Reason>
     ensures { fault result ≡ fault_at bytes.now due right fine (number off) }
 {
     if bytes.len() < 4 {
@@ -83,6 +89,17 @@ pub fn record_fault(bytes: &[u8], due: bool, right: bool, fine: bool, off: Reaso
         return Some(off);
     }
     None
+}
+
+// The same as a number, 0 where nothing is off, with any number for fields that are off.
+pub fn record_fault(bytes: &[u8], due: bool, right: bool, fine: bool, number: u16) -> u16
+    ensures { result ≡ fault_at bytes.now due right fine number }
+{
+    match record_reason(bytes, due, right, true, Reason::FieldOff) {
+        Some(reason) => reason.number(),
+        None if fine => 0,
+        None => number,
+    }
 }
 
 // Stores a byte at `at`. Area and place go side by side, no writer as for a net or a text: nothing is stored behind it.
@@ -137,8 +154,12 @@ pub fn put(state: &mut [u16], at: usize, value: u16)
 pub fn copy(to: &mut [u16], from: &[u16])
     ensures { to.new ≡ copied from.now to.old }
 {
-    if from.len() <= to.len() {
-        to[..from.len()].copy_from_slice(from);
+    if to.len() < from.len() {
+        return;
+    }
+    // Word by word, no `copy_from_slice`: that calls memmove, which no program in C had to bring for the library so far.
+    for i in 0..from.len() {
+        to[i] = from[i];
     }
 }
 

@@ -7,5 +7,5 @@ returns-then-bytes-lt4 c = let a = c.args in item-short a.bytes.now c.if-bytes-l
 
 pub returns : goal.returns
 returns c = let a = c.args in
-    item-fault-is a.bytes.now c.word-kind.result c.word.result c.base_length.result (fault c.record_fault.result) c.is_item.result c.word-kind.ensures c.word.ensures
-    c.base_length.ensures c.is_item.ensures c.record_fault.ensures
+    item-fault-is a.bytes.now c.word-kind.result c.word.result c.base_length.result (fault c.record_reason.result) c.is_item.result c.word-kind.ensures c.word.ensures
+    c.base_length.ensures c.is_item.ensures c.record_reason.ensures

@@ -16,8 +16,8 @@ returns-in-16 c = let a = c.args in
 
 pub returns-in-22 : goal.returns-in-22
 returns-in-22 c = let a = c.args in
-    limit-fault a.items a.bytes.now c.word-kind.ensures c.word-size.ensures c.in-22.is c.base_length-base.ensures c.word.ensures c.turn_limit_fine-fine.ensures c.record_fault.ensures
+    limit-fault a.items a.bytes.now c.word-kind.ensures c.word-size.ensures c.in-22.is c.base_length-base.ensures c.word.ensures c.turn_limit_fine-fine.ensures c.record_reason.ensures
 
 pub returns-in_default : goal.returns-in_default
 returns-in_default c = let a = c.args in
-    other-fault a.items a.bytes.now c.word-kind.ensures c.word-size.ensures (omega arith) (omega arith) c.is_row-due.ensures c.base_length-base.ensures c.record_fault-in_default.ensures
+    other-fault a.items a.bytes.now c.word-kind.ensures c.word-size.ensures (omega arith) (omega arith) c.is_row-due.ensures c.base_length-base.ensures c.record_reason-in_default.ensures

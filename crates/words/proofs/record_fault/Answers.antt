@@ -1,27 +1,12 @@
-use borrow.Author.Tests.{lt-ltb, le-ltb}
-use Rattle.effbd.specs.Records.{fault_at}
+use Rattle.std.proofs.Common.{ap, sym, ◌∙◌, cond}
+use Rattle.words.proofs.FieldFaults.{told, none-before}
 use Rattle.words.proofs.record_fault.Goals as goal
 
-pub returns-then-bytes-lt4 : goal.returns-then-bytes-lt4
-unfolding fault_at
-returns-then-bytes-lt4 c = rw (lt-ltb _ _ c.if-bytes-lt4.true)
+pub returns-in-Some : goal.returns-in-Some
+returns-in-Some c = let a = c.args in c.number.ensures ∙ told a.bytes.now a.due a.right a.fine a.number c.in-Some.reason c.in-Some.ensures
 
-pub returns-then-not-due : goal.returns-then-not-due
-unfolding fault_at
-returns-then-not-due c = rw (le-ltb _ _ c.if-bytes-lt4.false, c.if-not-due.true)
+pub returns-in-None : goal.returns-in-None
+returns-in-None c = let a = c.args in sym (ap (λ b. cond b 0 a.number) c.if-fine.true) ∙ none-before a.bytes.now a.due a.right a.fine a.number c.in-None.ensures
 
-pub returns-then-not-right : goal.returns-then-not-right
-unfolding fault_at
-returns-then-not-right c = rw (le-ltb _ _ c.if-bytes-lt4.false, c.if-not-due.false, c.if-not-right.true)
-
-pub returns-then-bytes-word : goal.returns-then-bytes-word
-unfolding fault_at
-returns-then-bytes-word c = rw (le-ltb _ _ c.if-bytes-lt4.false, c.if-not-due.false, c.if-not-right.false, ← c.word.ensures, lt-ltb _ _ c.if-bytes-word.true)
-
-pub returns-then-not-fine : goal.returns-then-not-fine
-unfolding fault_at
-returns-then-not-fine c = rw (le-ltb _ _ c.if-bytes-lt4.false, c.if-not-due.false, c.if-not-right.false, ← c.word.ensures, le-ltb _ _ c.if-bytes-word.false, c.if-not-fine.true)
-
-pub returns : goal.returns
-unfolding fault_at
-returns c = rw (le-ltb _ _ c.if-bytes-lt4.false, c.if-not-due.false, c.if-not-right.false, ← c.word.ensures, le-ltb _ _ c.if-bytes-word.false, c.if-not-fine.false)
+pub returns-in-None-2 : goal.returns-in-None-2
+returns-in-None-2 c = let a = c.args in sym (ap (λ b. cond b 0 a.number) c.if-fine.false) ∙ none-before a.bytes.now a.due a.right a.fine a.number c.in-None.ensures

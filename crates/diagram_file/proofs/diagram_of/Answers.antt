@@ -1,6 +1,6 @@
 use Rattle.std.proofs.lemmas.Result.{err_from_is_err_and}
 use Rattle.diagram_file.proofs.Promises.{parsed-refused, parsed-is}
-use Rattle.diagram_file.proofs.parse.Goals as goal
+use Rattle.diagram_file.proofs.diagram_of.Goals as goal
 
 pub returns-in_err-fill : goal.returns-in_err-fill
 returns-in_err-fill c =
