@@ -2,7 +2,7 @@
 #![tactic(auto)]
 
 ghost use Rattle.std.specs.Prelude.{◌≡◌};
-ghost use Rattle.effbd.specs.Answers.{refused, said, packed};
+ghost use Rattle.effbd.specs.Answers.{refused, said, told, packed};
 ghost use Rattle.effbd.specs.Nesting.{packed_part};
 
 use effbd::Answer;
@@ -15,12 +15,22 @@ pub fn pack_refusal(number: u16, value: u32) -> u64
 }
 
 // An answer: number * 2^32 + value, number 0 where accepted.
-pub fn pack(answer: Answer) -> u64
+pub fn pack_answer(answer: Answer) -> u64
     ensures { result ≡ packed (said answer) }
 {
     match answer {
         Ok(value) => value as u64,
         Err(refusal) => pack_refusal(refusal.reason.number(), refusal.value),
+    }
+}
+
+// The same of an answer that has its refusal's number, any number, and value.
+pub fn pack(answer: Result<u32, (u16, u32)>) -> u64
+    ensures { result ≡ packed (told answer) }
+{
+    match answer {
+        Ok(value) => pack_answer(Ok(value)),
+        Err((number, value)) => pack_refusal(number, value),
     }
 }
 

@@ -47,7 +47,7 @@ fn play_call(text: &mut Text, line: &Line, ends: &mut Ends, call: &mut [u8]) -> 
     lines::put_call(text, call);
     let fires = fired::by_call(line, ends, call);
     let answer = calls::make_call(line, ends, call);
-    call_lines::put_answer_column(text, answer, fires);
+    call_lines::put_call_answer(text, answer, fires);
     put_ends(text, ends);
     answer
 }

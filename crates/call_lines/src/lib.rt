@@ -2,7 +2,7 @@
 #![tactic(auto)]
 
 ghost use Rattle.std.specs.Prelude.{[], ◌∷◌, ◌++◌};
-ghost use Rattle.effbd.specs.Answers.{number, said};
+ghost use Rattle.effbd.specs.Answers.{number, said, told};
 ghost use Rattle.text.specs.Laid.{Laid};
 ghost use Rattle.call_lines.specs.Lines.{move_text, reason as reason_text, refused_text, answer_text, transition_text, fired_text, words_text, ends_text, spaces, gap, head_text, closing_text};
 
@@ -73,6 +73,29 @@ fn put_reason(text: &mut Text, reason: Reason)
     }
 }
 
+// The same by a refusal's number, any number.
+#[tactic(auto, unfolding(crate::specs::Lines::reason))]
+fn put_reason_of(text: &mut Text, number: u16)
+    ensures { Laid text.old text.new (reason_text number) }
+{
+    match number {
+        10 => put_reason(text, Reason::AreaShort),
+        20 => put_reason(text, Reason::StateOff),
+        21 => put_reason(text, Reason::CodeOff),
+        22 => put_reason(text, Reason::NotStanding),
+        23 => put_reason(text, Reason::ItemShort),
+        24 => put_reason(text, Reason::TicksLacking),
+        25 => put_reason(text, Reason::SumTooLarge),
+        26 => put_reason(text, Reason::WaitHeld),
+        27 => put_reason(text, Reason::CountFull),
+        30 => put_reason(text, Reason::NoTelegram),
+        31 => put_reason(text, Reason::OtherStation),
+        32 => put_reason(text, Reason::NumberPast),
+        33 => put_reason(text, Reason::NumberAhead),
+        _ => {}
+    }
+}
+
 // Number and value of a refusal, whatever they are.
 pub fn put_refused(text: &mut Text, number: u16, value: u32)
     ensures { Laid text.old text.new (refused_text number value) }
@@ -113,13 +136,36 @@ fn put_transition(text: &mut Text, fired: Answer)
 }
 
 // The answer in its column, and what the call fires; a refused one fires nothing.
-pub fn put_answer_column(text: &mut Text, answer: Answer, fired: Answer)
+pub fn put_call_answer(text: &mut Text, answer: Answer, fired: Answer)
     ensures { Laid text.old text.new (spaces (gap text.old.at 34) ++ (answer_text (said answer) ++ fired_text (said answer) (said fired))) }
 {
     put_gap(text, ANSWER_COLUMN);
     put_answer(text, answer);
     if answer.is_ok() {
         put_transition(text, fired);
+    }
+}
+
+// The same of answers that have their refusals' numbers, any numbers, and values.
+pub fn put_answer_column(
+    text: &mut Text,
+    answer: Result<u32, (u16, u32)>,
+    fired: Result<u32, (u16, u32)>,
+)
+    ensures { Laid text.old text.new (spaces (gap text.old.at 34) ++ (answer_text (told answer) ++ fired_text (told answer) (told fired))) }
+{
+    put_gap(text, ANSWER_COLUMN);
+    match answer {
+        Ok(count) => {
+            text.put_named(b"accepted: count", count);
+            if let Ok(number) = fired {
+                text.put_named(b", fires t", number);
+            }
+        }
+        Err((number, value)) => {
+            put_refused(text, number, value);
+            put_reason_of(text, number);
+        }
     }
 }
 

@@ -26,7 +26,7 @@ use Rattle.diagram_structure.specs.Structure.{structure_filled}
 use Rattle.outlets.specs.Outlets.{has_box}
 use Rattle.diagram_rules.specs.Rules.{Ready, Structured, RulesRead}
 use Rattle.diagram_rules.proofs.Behind.{plain-structured}
-use Rattle.diagram_file.specs.Tables.{Judged, Filled, Filed, PartIs}
+use Rattle.diagram_file.specs.Tables.{Judged, Filled, DiagramOf, PartIs}
 use Rattle.diagram_table.specs.declared.Part.{Part as Lies}
 use Rattle.diagram_table.specs.Cells.{cell_of, item_cell, some_trigger_cell, cell_total, some_trigger_in, uses_start_in, uses_number_in, uses_part_in, uses_bytes, uses_of, uses_in}
 use Rattle.diagram_table.specs.Held.{Tabulated, Holds, HoldsUses, HoldsFile}
@@ -288,10 +288,10 @@ module _ {file t : List ℕ} {refusal value : ℕ} (w : Judged file t refusal va
         ap accepted sum ∙ length-is (omega (arith, em, b.items_are, many, counts-are d))
 
 -- ---- what is read
-pub parsed-refused : (file t : List ℕ) (e : Refusal) → Filled file t (number e.reason) e.value → Filed file (Err e)
+pub parsed-refused : (file t : List ℕ) (e : Refusal) → Filled file t (number e.reason) e.value → DiagramOf file (Err e)
 parsed-refused file t e f = record { number-is = f.number-is; value-is = f.value-is; rows = tt; items = tt; holds = tt }
 
-pub parsed-is : (file t : List ℕ) (n m : ℕ) → Filled file t 0 0 → n ≡ word file 6 → m ≡ word file 8 → Filed file (Ok (record { rows = n; items = m; table = t }))
+pub parsed-is : (file t : List ℕ) (n m : ℕ) → Filled file t 0 0 → n ≡ word file 6 → m ≡ word file 8 → DiagramOf file (Ok (record { rows = n; items = m; table = t }))
 parsed-is file t n m f en em = record {
   number-is = f.number-is;
   value-is = f.value-is;
@@ -301,18 +301,18 @@ parsed-is file t n m f en em = record {
 }
 
 -- ---- what later code takes from the promise
-pub turned-away : (file : List ℕ) (e : Refusal) → Filed file (Err e) → read_diagram file ≡ refused (number e.reason) e.value
+pub turned-away : (file : List ℕ) (e : Refusal) → DiagramOf file (Err e) → read_diagram file ≡ refused (number e.reason) e.value
 turned-away file e w = refused-back (read_diagram file) (number e.reason) e.value w.number-is w.value-is (number-some e.reason)
 
 -- the parts of the file
 no-part : (file : List ℕ) (r : ℕ) → uses_part file r ≡ record { start = 0; size = 0 } → PartIs file (uses_part file r) (record { start = 0; size = 0 })
 no-part file r e = rw e (record { start = refl; size = refl; inside = zero-le; near = (omega arith, omega arith) })
 
-pub part-refused : (file : List ℕ) (e : Refusal) → Filed file (Err e) → (r : ℕ) → PartIs file (uses_part file r) (record { start = 0; size = 0 })
+pub part-refused : (file : List ℕ) (e : Refusal) → DiagramOf file (Err e) → (r : ℕ) → PartIs file (uses_part file r) (record { start = 0; size = 0 })
 unfolding uses_part
 part-refused file e w r = no-part file r (ap (uses_part_of file r) (turned-away file e w))
 
-module _ (file : List ℕ) (p : Parse) (w : Filed file (Ok p)) where
+module _ (file : List ℕ) (p : Parse) (w : DiagramOf file (Ok p)) where
   pub part_none : (r : ℕ) → p.rows ≤ r → PartIs file (uses_part file r) (record { start = 0; size = 0 })
   unfolding uses_part
   part_none r l =

@@ -28,7 +28,7 @@ pub record Filled (file table : List ℕ) (refusal value : ℕ) : Type 0 where
   pub holds : refusal ≡ 0 → HoldsFile file (word file 6) (word file 8) table
 
 -- a file was read: it is refused, or its diagram's rows and items are the head's words, and its table holds them
-pub record Filed (file : List ℕ) (p : Result Parse Refusal) : Type 0 where
+pub record DiagramOf (file : List ℕ) (p : Result Parse Refusal) : Type 0 where
   pub number-is : refusal_number (said p) ≡ refusal_number (read_diagram file)
   pub value-is : refusal_value (said p) ≡ refusal_value (read_diagram file)
   pub rows : IfOk p (λ d. d.rows ≡ word file 6)
@@ -49,7 +49,7 @@ items_told (Ok d) = d.items
 items_told (Err u) = u.items
 
 pub record Parsed (file : List ℕ) (p : Result Parse Unread) : Type 0 where
-  pub filed : Filed file (parsed p)
+  pub diagram : DiagramOf file (parsed p)
   pub rows : rows_told p ≡ word file 6
   pub items : items_told p ≡ word file 8
 

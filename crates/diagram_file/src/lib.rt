@@ -5,7 +5,7 @@ ghost use Rattle.std.specs.Prelude.{◌≡◌, length};
 ghost use Rattle.effbd.specs.Answers.{said, refusal_number, refusal_value};
 ghost use Rattle.effbd.specs.Nesting.{uses_part, part_in};
 ghost use Rattle.effbd.specs.States.{state_length};
-ghost use Rattle.diagram_file.specs.Tables.{Judged, Filled, Filed, Parsed, PartIs};
+ghost use Rattle.diagram_file.specs.Tables.{Judged, Filled, DiagramOf, Parsed, PartIs};
 ghost use Rattle.diagram_table.specs.Cells.{cell_total};
 
 use diagram::Diagram;
@@ -67,7 +67,7 @@ pub fn parse(file: &[u8]) -> Result<Diagram, Unread>
 
 // The same for a call that, of a refused file, asks for the refusal alone.
 pub fn diagram_of(file: &[u8]) -> Result<Diagram, Refusal>
-    ensures { Filed file.now result }
+    ensures { DiagramOf file.now result }
 {
     let mut table = [0u16; CELLS];
     fill(file, &mut table)?;

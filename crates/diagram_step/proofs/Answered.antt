@@ -12,7 +12,7 @@ use Rattle.effbd.specs.Records.{are_bytes}
 use Rattle.diagram_table.specs.Cells.{some_trigger_in, counts_in}
 use Rattle.diagram_table.specs.Held.{HoldsPlant}
 use Rattle.diagram_moves.proofs.FunctionMoves.{Small}
-use Rattle.diagram_file.specs.Tables.{Filed}
+use Rattle.diagram_file.specs.Tables.{DiagramOf}
 use Rattle.diagram_moves.specs.Decisions.{row_allowed, shared_allowed, state_allowed}
 use Rattle.diagram_moves.specs.Changes.{table_move, checked_table_move}
 use Rattle.diagram_moves.proofs.FileMoves.{step_is, step-refused, fresh-refused, transition-refused}
@@ -46,7 +46,7 @@ plain-check table rows items l none told = rw none (told ∙ ap (λ (x : Bool). 
     and-true false = refl
 
 -- a file that was refused
-module _ (file l : List ℕ) (e : Refusal) (parsed : Filed file (Err e)) where
+module _ (file l : List ℕ) (e : Refusal) (parsed : DiagramOf file (Err e)) where
   file-number : refusal_number (read_diagram file) ≢ 0
   file-number z = number-some e.reason (parsed.number-is ∙ z)
 

@@ -95,6 +95,11 @@ abbrev pub said : {A : Type 0} → Result A Refusal → Outcome A
 said (Ok value) = accepted value
 said (Err refusal) = refused (number refusal.reason) refusal.value
 
+-- the same of an answer that has its refusal's number, any number, and value
+abbrev pub told : Result ℕ (ℕ × ℕ) → Outcome ℕ
+told (Ok value) = accepted value
+told (Err refusal) = refused refusal.0 refusal.1
+
 -- an answer in one number of 64 bits, as C and Rust get it: number * 2^32 + value, number 0 where accepted
 abbrev pub packed : Outcome ℕ → ℕ
 packed (accepted value) = value

@@ -21,7 +21,7 @@ ghost use Rattle.effbd.specs.Editions.{telegrams_up, telegrams_down};
 pub extern "C" fn effbd_read(file: &[u8]) -> u64
     ensures { result ≡ packed (state_length file.now) }
 {
-    answers::pack(diagram_file::read(file))
+    answers::pack_answer(diagram_file::read(file))
 }
 
 // Where the uses of a FUNCTION row lie in a diagram file: start * 2^32 + size; for a refused file or another row 0.
@@ -39,7 +39,7 @@ pub extern "C" fn effbd_fresh(file: &[u8], state: &mut [u16]) -> u64
     ensures value { result ≡ packed (returning_zero (fresh_diagram file.now state.old)) }
     ensures state_after { state.new ≡ afterwards state.old (fresh_diagram file.now state.old) }
 {
-    answers::pack(diagram_step::fresh(file, state))
+    answers::pack_answer(diagram_step::fresh(file, state))
 }
 
 // A step or wait of a diagram.
@@ -48,7 +48,7 @@ pub extern "C" fn effbd_step(file: &[u8], state: &mut [u16], code: u16, argument
     ensures value { result ≡ packed (returning_zero (step_diagram file.now code argument state.old)) }
     ensures state_after { state.new ≡ afterwards state.old (step_diagram file.now code argument state.old) }
 {
-    answers::pack(diagram_step::step(file, state, code, argument))
+    answers::pack_answer(diagram_step::step(file, state, code, argument))
 }
 
 // The transition of the net that a ready or running FUNCTION's step fires.
@@ -56,7 +56,7 @@ pub extern "C" fn effbd_step(file: &[u8], state: &mut [u16], code: u16, argument
 pub extern "C" fn effbd_transition(file: &[u8], state: &[u16], row: u16) -> u64
     ensures { result ≡ packed (transition_diagram file.now row state.now) }
 {
-    answers::pack(diagram_step::transition(file, state, row))
+    answers::pack_answer(diagram_step::transition(file, state, row))
 }
 
 // The net of a diagram.
@@ -65,7 +65,7 @@ pub extern "C" fn effbd_translate(file: &[u8], area: &mut [u8]) -> u64
     ensures value { result ≡ packed (translated file.now area.old).answer }
     ensures area_after { area.new ≡ (translated file.now area.old).area }
 {
-    answers::pack(translate::translate(file, area))
+    answers::pack_answer(translate::translate(file, area))
 }
 
 // The annex text of a diagram, whose net is written into `net`: the text's length, also where `text` ends before it does.
@@ -83,7 +83,7 @@ pub extern "C" fn effbd_annex(file: &[u8], net: &mut [u8], text: &mut [u8]) -> u
 pub extern "C" fn tpn_read(net: &[u8]) -> u64
     ensures { result ≡ packed (words_of (read_net net.now)) }
 {
-    answers::pack(net_file::read(net))
+    answers::pack_answer(net_file::read(net))
 }
 
 // The fresh state of a net.
@@ -92,7 +92,7 @@ pub extern "C" fn tpn_fresh(net: &[u8], state: &mut [u16]) -> u64
     ensures value { result ≡ packed (returning_zero (fresh_net net.now state.old)) }
     ensures state_after { state.new ≡ afterwards state.old (fresh_net net.now state.old) }
 {
-    answers::pack(net_fresh::fresh(net, state))
+    answers::pack_answer(net_fresh::fresh(net, state))
 }
 
 // A step or wait of a net.
@@ -101,7 +101,7 @@ pub extern "C" fn tpn_step(net: &[u8], state: &mut [u16], code: u16, argument: u
     ensures value { result ≡ packed (returning_zero (step_net net.now code argument state.old)) }
     ensures state_after { state.new ≡ afterwards state.old (step_net net.now code argument state.old) }
 {
-    answers::pack(net_step::step(net, state, code, argument))
+    answers::pack_answer(net_step::step(net, state, code, argument))
 }
 
 // The leader's call.
@@ -119,7 +119,7 @@ pub extern "C" fn leader_offer(
     ensures state_after { state.new ≡ (offered file.now state.old count station code argument area.old).state }
     ensures area_after { area.new ≡ (offered file.now state.old count station code argument area.old).area }
 {
-    answers::pack(bus_leader::offer(file, state, count, station, code, argument, area))
+    answers::pack_answer(bus_leader::offer(file, state, count, station, code, argument, area))
 }
 
 // The follower's call.
@@ -134,7 +134,7 @@ pub extern "C" fn follower_take(
     ensures value { result ≡ packed (taken net.now state.old count station telegram.now).answer }
     ensures state_after { state.new ≡ (taken net.now state.old count station telegram.now).state }
 {
-    answers::pack(bus_follower::take(net, state, count, station, telegram))
+    answers::pack_answer(bus_follower::take(net, state, count, station, telegram))
 }
 
 // The most starts of a FUNCTION row in any hour of a log.
@@ -143,7 +143,7 @@ pub extern "C" fn log_starts(file: &[u8], log: &[u8], row: u16, at: &mut u32) ->
     ensures value { result ≡ packed (log_starts file.now log.now row at.old).answer }
     ensures at_after { at.new ≡ (log_starts file.now log.now row at.old).at }
 {
-    answers::pack(starts::log_starts(file, log, row, at))
+    answers::pack_answer(starts::log_starts(file, log, row, at))
 }
 
 // A run of old telegrams as telegrams of this edition.
@@ -152,7 +152,7 @@ pub extern "C" fn telegrams_up(old: &[u8], station: u16, first: u32, area: &mut 
     ensures value { result ≡ packed (telegrams_up old.now station first area.old).answer }
     ensures area_after { area.new ≡ (telegrams_up old.now station first area.old).area }
 {
-    answers::pack(editions::telegrams_up(old, station, first, area))
+    answers::pack_answer(editions::telegrams_up(old, station, first, area))
 }
 
 // A run of telegrams as old ones, with the station and the first number that give it back.
@@ -168,5 +168,5 @@ pub extern "C" fn telegrams_down(
     ensures station_after { station.new ≡ (telegrams_down run.now area.old station.old first.old).station }
     ensures first_after { first.new ≡ (telegrams_down run.now area.old station.old first.old).first }
 {
-    answers::pack(editions::telegrams_down(run, area, station, first))
+    answers::pack_answer(editions::telegrams_down(run, area, station, first))
 }

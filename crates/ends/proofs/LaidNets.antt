@@ -22,7 +22,7 @@ use Rattle.effbd.specs.History.{net_file_of}
 use Rattle.translate.specs.NetRecords.{net_room}
 use Rattle.agreement.specs.AcceptedFiles.{held}
 use Rattle.agreement.proofs.Theorems.{net-well-formed, net-read-back}
-use Rattle.diagram_file.specs.Tables.{Filed}
+use Rattle.diagram_file.specs.Tables.{DiagramOf}
 use Rattle.diagram_table.specs.Held.{HoldsFile}
 use Rattle.diagram_file.proofs.Promises.{turned-away}
 use Rattle.std.specs.Prelude.{Err}
@@ -35,7 +35,7 @@ use Rattle.diagram_table.specs.Cells.{wide_total}
 use Rattle.ends.specs.ReadyEnds.{net_length, NetLaidAs, NetOf}
 
 -- a refused file has no net
-pub no-net : (file area : List ℕ) (e : Refusal) → Filed file (Err e) → (refused (number e.reason) e.value ≡ net_length (read_diagram file)) × NetLaidAs (read_diagram file) area area
+pub no-net : (file area : List ℕ) (e : Refusal) → DiagramOf file (Err e) → (refused (number e.reason) e.value ≡ net_length (read_diagram file)) × NetLaidAs (read_diagram file) area area
 unfolding net_length
 no-net file area e p = rw (turned-away file e p) (refl, refl)
 

@@ -17,7 +17,7 @@ use Rattle.ranges.specs.Tests.{decide, and_right, clash}
 use Rattle.agreement.specs.Basics.{kind-past}
 use Rattle.diagram_table.specs.Cells.{kind_in}
 use Rattle.diagram_table.specs.Held.{HoldsPlant}
-use Rattle.diagram_file.specs.Tables.{Filed}
+use Rattle.diagram_file.specs.Tables.{DiagramOf}
 use Rattle.diagram_file.proofs.Promises.{turned-away}
 use Rattle.log_laws.specs.LogMoves.{setpoints-many}
 use Rattle.log_laws.specs.Spans.{Most, most-one, log-busiest}
@@ -51,7 +51,7 @@ module _ (file log : List ℕ) (r before : ℕ) where
   tells-refused n v e = tells (refused n v) e
 
   -- THEOREM: a file's own refusal
-  pub file-off : (e : Refusal) → Filed file (Err e) → Tells file log r before (refused (number e.reason) e.value) before
+  pub file-off : (e : Refusal) → DiagramOf file (Err e) → Tells file log r before (refused (number e.reason) e.value) before
   file-off e w = tells-refused (number e.reason) e.value (unfold starts_of in rw (turned-away file e w))
 
   module _ (rows items : ℕ) (table : List ℕ) (h : HoldsPlant file rows items table) where

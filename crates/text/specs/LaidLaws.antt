@@ -6,12 +6,12 @@ use Rattle.effbd.specs.Annex.{over}
 use Rattle.text.specs.declared.Text.{Text}
 use Rattle.text.specs.Laid.{behind, lay, reach, Laid}
 
-pub lay-append : (xs ys area : List ℕ) (at : ℕ) → lay area at (xs ++ ys) ≡ lay (lay area at xs) (reach at xs) ys
+lay-append : (xs ys area : List ℕ) (at : ℕ) → lay area at (xs ++ ys) ≡ lay (lay area at xs) (reach at xs) ys
 unfolding lay reach
 lay-append [] ys area at = refl
 lay-append (x ∷ xs) ys area at = lay-append xs ys (set area at x) (behind at)
 
-pub reach-append : (xs ys : List ℕ) (at : ℕ) → reach at (xs ++ ys) ≡ reach (reach at xs) ys
+reach-append : (xs ys : List ℕ) (at : ℕ) → reach at (xs ++ ys) ≡ reach (reach at xs) ys
 unfolding reach
 reach-append [] ys at = refl
 reach-append (x ∷ xs) ys at = reach-append xs ys (behind at)

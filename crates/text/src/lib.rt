@@ -4,7 +4,7 @@
 
 ghost use Rattle.std.specs.Prelude.{◌≡◌, [], ◌∷◌, ◌++◌};
 ghost use Rattle.effbd.specs.Annex.{digits, number as number_text, line};
-ghost use Rattle.text.specs.Laid.{behind as behind_of, lay, reach, Laid};
+ghost use Rattle.text.specs.Laid.{behind as behind_of, Laid};
 
 // The position behind `at`. It stops far above any text, so that no sum wraps.
 #[tactic(auto, unfolding(crate::specs::Laid::behind))]
@@ -15,24 +15,6 @@ fn behind(at: usize) -> usize
         return at + 1;
     }
     at
-}
-
-// A number's digits, at most `most` of them, laid from `at` on; the position behind them. Bytes and position, no `Text`: called over again, it
-// would fetch its place and put it back for each digit.
-fn put_digits(bytes: &mut [u8], at: usize, most: u16, number: u32) -> usize
-    ensures area { bytes.new ≡ lay bytes.old at (digits most number) }
-    ensures reached { result ≡ reach at (digits most number) }
-{
-    if most == 0 {
-        return at;
-    }
-    if number < 10 {
-        words::put_byte(bytes, at, b'0' + number as u8);
-        return behind(at);
-    }
-    let last = put_digits(bytes, at, most - 1, number / 10);
-    words::put_byte(bytes, last, b'0' + (number % 10) as u8);
-    behind(last)
 }
 
 // Lent bytes, and the position in them where the next byte is due. Each writer lays its bytes from there on.
@@ -47,21 +29,39 @@ impl<'a> Text<'a> {
     pub fn put(&mut self, byte: u8)
         ensures { Laid self.old self.new (byte ∷ []) }
     {
-        words::put_byte(self.bytes, self.at, byte);
-        self.at = behind(self.at);
+        // Read once: for all the compiler knows, the byte that is stored is part of the position.
+        let at = self.at;
+        words::put_byte(self.bytes, at, byte);
+        self.at = behind(at);
     }
 
     // The letters of a word.
     pub fn put_letters(&mut self, letters: &[u8])
         ensures { Laid self.old self.new letters.now }
     {
-        // A position of its own, so that it needs no place in memory.
+        // Bytes and position of its own: behind `self` each letter would fetch them anew.
+        let bytes = &mut *self.bytes;
         let mut at = self.at;
         for letter in letters {
-            words::put_byte(self.bytes, at, *letter);
+            words::put_byte(bytes, at, *letter);
             at = behind(at);
         }
         self.at = at;
+    }
+
+    // A number's digits, at most `most` of them.
+    fn put_digits(&mut self, most: u16, number: u32)
+        ensures { Laid self.old self.new (digits most number) }
+    {
+        if most == 0 {
+            return;
+        }
+        if number < 10 {
+            self.put(b'0' + number as u8);
+            return;
+        }
+        self.put_digits(most - 1, number / 10);
+        self.put(b'0' + (number % 10) as u8);
     }
 
     // A space and a number: ten digits hold every number of 32 bits.
@@ -69,7 +69,7 @@ impl<'a> Text<'a> {
         ensures { Laid self.old self.new (number_text number) }
     {
         self.put(b' ');
-        self.at = put_digits(self.bytes, self.at, 10, number);
+        self.put_digits(10, number);
     }
 
     // A word, a space and a number.

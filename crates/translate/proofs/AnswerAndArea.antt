@@ -12,7 +12,7 @@ use Rattle.effbd.specs.declared.refusals.Refusal.{Refusal}
 use Rattle.agreement.specs.AcceptedFiles.{Held, held}
 use Rattle.diagram_table.specs.Cells.{some_trigger_in, counts_in}
 use Rattle.diagram_table.specs.Held.{HoldsFile, HoldsPlant}
-use Rattle.diagram_file.specs.Tables.{Filed}
+use Rattle.diagram_file.specs.Tables.{DiagramOf}
 use Rattle.diagram_file.proofs.Promises.{turned-away as refused-is}
 use Rattle.net_records.specs.declared.Writer.{Writer}
 use Rattle.net_records.specs.Writing.{flat, offset_limit, Wrote}
@@ -96,7 +96,7 @@ module _ (file : List ℕ) (rows items : ℕ) (table : List ℕ) (plant : HoldsP
           ∙ (sets-eq net a.area.now 0 (omega (arith, room)) ∙ ap (λ (k : ℕ). net ++ drop k a.area.now) (zero-add (length net)))))
 
 -- a refused file
-pub turned-away : (file area : List ℕ) (e : Refusal) → Filed file (Err e)
+pub turned-away : (file area : List ℕ) (e : Refusal) → DiagramOf file (Err e)
     → (refused (number e.reason) e.value ≡ (translated file area).answer) × (area ≡ (translated file area).area)
 unfolding translated
 turned-away file area e h = rw (refused-is file e h) (refl, refl)

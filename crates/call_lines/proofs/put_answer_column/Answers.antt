@@ -1,14 +1,11 @@
-use Rattle.std.proofs.Common.{sym, ◌∙◌}
-use Rattle.text.specs.LaidLaws.{still, same, and_then}
-use Rattle.call_lines.proofs.WrittenTexts.{fires, fires_none}
+use Rattle.text.specs.LaidLaws.{still, and_then}
 use Rattle.call_lines.proofs.put_answer_column.Goals as goal
 
-pub returns-then-is_ok : goal.returns-then-is_ok
-returns-then-is_ok c =
-    let f = same (fires c.args.answer _ (sym c.is_ok.ensures.value ∙ c.if-is_ok.true)) c.put_transition.ensures in
-    and_then c.put_gap.ensures (and_then c.put_answer.ensures f)
+pub returns-in-Ok-fired : goal.returns-in-Ok-fired
+returns-in-Ok-fired c = rw (c.in-Ok.is, c.in-Ok-fired.is) (and_then c.put_gap.ensures (and_then c.put_named.ensures c.put_named-in-Ok-fired.ensures))
 
-pub returns-else-is_ok : goal.returns-else-is_ok
-returns-else-is_ok c =
-    let f = same (fires_none c.args.answer _ (sym c.is_ok.ensures.value ∙ c.if-is_ok.false)) (still c.put_answer.new.text) in
-    and_then c.put_gap.ensures (and_then c.put_answer.ensures f)
+pub returns-in_default : goal.returns-in_default
+returns-in_default c = rw (c.in-Ok.is, c.in_default.is) (and_then c.put_gap.ensures (and_then c.put_named.ensures (still _)))
+
+pub returns-in-Err : goal.returns-in-Err
+returns-in-Err c = rw (c.in-Err.is) (and_then c.put_gap.ensures (and_then (and_then c.put_refused.ensures c.put_reason_of.ensures) (still _)))

@@ -3,4 +3,4 @@ use Rattle.effbd.specs.Answers.{packed}
 use Rattle.effbd_c.proofs.effbd_transition.Goals as goal
 
 pub returns : goal.returns
-returns c = c.pack.ensures ∙ ap packed c.transition.ensures
+returns c = c.pack_answer.ensures ∙ ap packed c.transition.ensures

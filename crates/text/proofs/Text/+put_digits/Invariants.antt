@@ -1,4 +1,4 @@
-use Rattle.text.proofs.+put_digits.Given as goal
+use Rattle.text.proofs.Text.+put_digits.Given as goal
 
 abbrev pub decreases-put_digits : goal.decreases-put_digits
 decreases-put_digits l = l.most
