@@ -157,9 +157,9 @@ pub fn put_answer_column(
     put_gap(text, ANSWER_COLUMN);
     match answer {
         Ok(count) => {
-            text.put_named(b"accepted: count", count);
+            put_answer(text, Ok(count));
             if let Ok(number) = fired {
-                text.put_named(b", fires t", number);
+                put_transition(text, Ok(number));
             }
         }
         Err((number, value)) => {
